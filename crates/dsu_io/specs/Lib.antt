@@ -1,0 +1,5 @@
+pub mod Causes
+pub mod Sinks
+pub mod Files
+pub mod MemorySink
+pub mod MemoryFiles
