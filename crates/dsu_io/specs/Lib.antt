@@ -3,3 +3,4 @@ pub mod Sinks
 pub mod Files
 pub mod MemorySink
 pub mod MemoryFiles
+pub mod formers

@@ -26,7 +26,10 @@ pub use list::List;
 pub use memory_files::MemoryFiles;
 pub use memory_sink::MemorySink;
 pub use null_sink::NullSink;
-pub use sink::{Failed, Sink, put};
+pub use sink::{Failed, Sink, put, put_all};
 pub use std_files::StdFiles;
 pub use std_sink::StdSink;
 pub use text::Text;
+
+#[cfg(test)]
+mod tests;

@@ -2,7 +2,7 @@ ghost use Rattle.std.specs.Prelude.{◌≡◌, ◌<◌, ◌≤◌, List, ℕ, le
 ghost use Rattle.std.specs.Io.{WritesAtMost};
 ghost use Rattle.std.specs.Io.KnownBytes.{WriteAppends};
 ghost use Rattle.dsu_io.specs.Causes.{HasCause};
-ghost use Rattle.dsu_io.specs.Sinks.{PutAppends};
+ghost use Rattle.dsu_io.specs.Sinks.{PutAppends, joined};
 
 /// A sink or a file didn't do what was asked of it. Its count of faults has risen.
 #[derive(Clone, Copy, Debug, PartialEq, Eq)]
@@ -33,6 +33,20 @@ pub fn put<S: Sink>(sink: &mut S, bytes: &[u8]) -> Result<(), Failed>
     let mut done = 0;
     while done < bytes.len() {
         done += sink.write(&bytes[done..])?;
+    }
+    Ok(())
+}
+
+/// Appends the pieces one after the other. `Failed`: a front of them all was appended.
+pub fn put_all<S: Sink>(sink: &mut S, pieces: &[&[u8]]) -> Result<(), Failed>
+    ensures bytes { PutAppends (S.told sink.old) (S.told sink.new) result (joined pieces.now) }
+    ensures cause { HasCause (S.faults sink.old) (S.faults sink.new) result }
+{
+    for piece in pieces {
+        match put(sink, piece) {
+            Ok(()) => {}
+            Err(failed) => return Err(failed),
+        }
     }
     Ok(())
 }

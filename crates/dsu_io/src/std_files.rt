@@ -10,6 +10,7 @@ const PIECE: usize = 16_384;
 
 /// The files of the file system. Each failure to open or to read counts as a fault. What a file holds
 /// is not known here, so contents aren't told.
+#[derive(Drop)]
 pub struct StdFiles<'a, R: FileSystem> {
     rt: &'a R,
     faults: u64,

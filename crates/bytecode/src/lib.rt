@@ -1,0 +1,30 @@
+//! The instructions that texts are compiled to, and the plain types in which a run is told.
+//!
+//! What an instruction does is a definition, `specs/Meaning.antt`, which every machine that runs code
+//! meets. The types carry no behaviour of their own but the trap that an operator's trap becomes.
+//!
+//! Read in this order: `instr` (instructions), `trap` (the traps), `run` (the events and endings of a run).
+#![tactic(auto)]
+
+mod instr;
+mod run;
+mod trap;
+
+pub use instr::Instr;
+pub use run::{Ending, Event};
+pub use trap::TrapKind;
+
+#[cfg(test)]
+mod tests {
+    use super::*;
+    use c_ints::ArithTrap;
+    use std::test::Fail;
+
+    #[test]
+    fn traps_of_operators(rt: HostRuntime) -> Result<(), Fail> {
+        assert_eq!(rt; TrapKind::from(ArithTrap::Overflow), TrapKind::Overflow);
+        assert_eq!(rt; TrapKind::from(ArithTrap::Divide), TrapKind::Divide);
+        assert_eq!(rt; TrapKind::from(ArithTrap::Shift), TrapKind::Shift);
+        Ok(())
+    }
+}

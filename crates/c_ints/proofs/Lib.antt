@@ -1,0 +1,9 @@
+pub mod Agreement
+pub mod Bits
+pub mod Digits
+pub mod Division
+pub mod Examples
+pub mod KindOf
+pub mod Ranges
+pub mod Reading
+pub mod Reduction

@@ -1,0 +1,4 @@
+pub mod Kind
+pub mod Number
+pub mod Arithmetic
+pub mod Literal

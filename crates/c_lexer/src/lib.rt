@@ -1,0 +1,18 @@
+//! Cuts a C text into its tokens, by the rule of the longest match, or says where the first fault stands.
+//!
+//! The contract of `lex` is exact: its answer is the one that `specs/Cut.antt` gives the text, and no
+//! other is. Only want of memory is left open.
+//!
+//! Read in this order: `token` (what a text is cut into), `unit` (what may stand at a place, and how it
+//! is read), `words` (the words that can't be declared), `scan` (the unit at a place), `lexer` (the loop
+//! over the text).
+#![tactic(auto)]
+
+mod lexer;
+mod scan;
+mod token;
+mod unit;
+mod words;
+
+pub use lexer::lex;
+pub use token::{LexFault, Token, TokenKind};

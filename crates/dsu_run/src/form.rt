@@ -1,0 +1,113 @@
+ghost use Rattle.std.specs.Prelude.{◌≡◌, ◌≢◌, ◌↔◌, ◌++◌, IsTrue, IfOk, IsErrOf, MatchOption, List, map};
+ghost use Rattle.dsu_run.specs.Form.{Word, word, Formula, IsForm, before, behind};
+ghost use Rattle.dsu_run.specs.Reader.{postfix, given};
+
+use crate::constant::is_word;
+use crate::reader::read_sum;
+use bytecode::Instr;
+use c_lexer::{LexFault, Token, TokenKind, lex};
+use std::alloc::{AllocError, Global};
+
+/// What stands in front of the expression: `int main(void) { printf("%d\n",`
+const BEFORE: [(TokenKind, &str); 10] = [
+    (TokenKind::Keyword, "int"),
+    (TokenKind::Identifier, "main"),
+    (TokenKind::Mark, "("),
+    (TokenKind::Keyword, "void"),
+    (TokenKind::Mark, ")"),
+    (TokenKind::Mark, "{"),
+    (TokenKind::Profile, "printf"),
+    (TokenKind::Mark, "("),
+    (TokenKind::Str, "\"%d\\n\""),
+    (TokenKind::Mark, ","),
+];
+
+/// What stands behind it: `); return 0; }`
+const BEHIND: [(TokenKind, &str); 6] = [
+    (TokenKind::Mark, ")"),
+    (TokenKind::Mark, ";"),
+    (TokenKind::Keyword, "return"),
+    (TokenKind::Number, "0"),
+    (TokenKind::Mark, ";"),
+    (TokenKind::Mark, "}"),
+];
+
+/// Why a text has no code.
+#[derive(Clone, Copy, Debug, PartialEq, Eq)]
+pub enum CompileFault {
+    /// It isn't of the form.
+    Refused,
+    /// Want of memory.
+    Memory,
+}
+
+impl From<AllocError> for CompileFault {
+    ghost use Rattle.dsu_run.specs.declared.form.CompileFault.TheVariants.{Memory};
+
+    ghost from_gives = { λ _ fault. fault ≡ Memory };
+
+    fn from(_: AllocError) -> CompileFault {
+        CompileFault::Memory
+    }
+}
+
+// Whether the tokens are these words.
+fn are_words(tokens: &[Token], words: &[(TokenKind, &str)]) -> bool
+    ensures { IsTrue result ↔ (map word tokens.now ≡ map given words.now) }
+{
+    if tokens.len() != words.len() {
+        return false;
+    }
+    for i in 0..tokens.len() {
+        let (kind, text) = words[i];
+        if !is_word(&tokens[i], kind, text) {
+            return false;
+        }
+    }
+    true
+}
+
+// The tokens of the expression, where those round it are those of the form.
+fn middle(tokens: &[Token]) -> Option<&[Token]>
+    ensures { MatchOption result ((ws : List Word) → map word tokens.now ≡ before ++ ws ++ behind → ⊥)
+        (λ found. map word tokens.now ≡ before ++ map word found.now ++ behind) }
+{
+    if tokens.len() < BEFORE.len() + BEHIND.len() {
+        return None;
+    }
+    let (front, rest) = tokens.split_at(BEFORE.len());
+    let (found, back) = rest.split_at(rest.len() - BEHIND.len());
+    if are_words(front, &BEFORE) && are_words(back, &BEHIND) {
+        Some(found)
+    } else {
+        None
+    }
+}
+
+// What a fault of the lexer comes to.
+fn refusal(fault: LexFault) -> CompileFault
+    ensures { result ≡ CompileFault.Refused → fault ≢ LexFault.Memory }
+{
+    match fault {
+        LexFault::Memory => CompileFault::Memory,
+        _ => CompileFault::Refused,
+    }
+}
+
+/// The code of a text of the form.
+pub fn compile(alloc: Global, text: &[u8]) -> Result<Vec<Instr>, CompileFault>
+    ensures code { IfOk result (λ code. (e : Formula) × IsForm text.now e × (code.items ≡ postfix e)) }
+    ensures refused { IsErrOf result CompileFault.Refused → (e : Formula) → IsForm text.now e → ⊥ }
+{
+    let tokens = match lex(alloc, text) {
+        Ok(tokens) => tokens,
+        Err(fault) => return Err(refusal(fault)),
+    };
+    let Some(found) = middle(&tokens) else {
+        return Err(CompileFault::Refused);
+    };
+    match read_sum(alloc, found)? {
+        Some(code) => Ok(code),
+        None => Err(CompileFault::Refused),
+    }
+}

@@ -1,0 +1,76 @@
+//! Ginseng: runs C programs of a small form, and tells how their runs end.
+//!
+//! `dsu_main` does all that the program does, over files and outputs that are handed in; its contract is
+//! what the program promises. `main` makes the words, the files of the file system and the standard
+//! streams, calls it on a thread with a large stack, and ends with its status.
+//!
+//! Read in this order: `top` (the top call), `words`, `form` with `constant` and `reader` (from tokens to
+//! code), `machine` (from code to a value), `fault` and `report` (what is told).
+#![tactic(auto)]
+
+mod constant;
+mod fault;
+mod form;
+mod machine;
+mod reader;
+mod report;
+mod top;
+mod words;
+
+use crate::fault::Fault;
+use crate::report::write_fault;
+use crate::top::dsu_main;
+use dsu_io::{Sink, StdFiles, StdSink, Text};
+use std::alloc::AllocError;
+use std::process::ExitCode;
+use std::thread::{Builder, Promise};
+use std::{env, io};
+
+/// The stack of the thread that does the work. It is address space until it is used.
+const STACK_BYTES: usize = 1 << 30;
+
+/// Of the status that a thread gives nothing more is to be known than that it is one.
+#[derive(Drop)]
+struct AnyStatus;
+
+impl Promise<u8> for AnyStatus {
+    ghost kept_by = { λ _ _. Unit {0} };
+}
+
+// The words behind the program's name.
+fn words_of(rt: &HostRuntime) -> Result<Vec<Text>, Fault> {
+    let Ok(given) = env::args(rt) else {
+        return Err(Fault::Usage);
+    };
+    let mut words = Vec::new(rt.alloc());
+    for word in given.skip(1) {
+        if words.push(Text::from(word)).is_err() {
+            return Err(Fault::Memory);
+        }
+    }
+    Ok(words)
+}
+
+// Runs the top call over the real files and streams.
+fn run(rt: &HostRuntime) -> u8 {
+    let mut err = StdSink::new(rt.stderr());
+    let words = match words_of(rt) {
+        Ok(words) => words,
+        Err(fault) => {
+            let _ = write_fault(fault, "", &mut err);
+            return fault.status();
+        }
+    };
+    let mut files = StdFiles::new(rt);
+    let out = StdSink::new(rt.stdout());
+    dsu_main(rt.alloc(), &words, &mut files, out, &mut err).status
+}
+
+fn main(rt: HostRuntime) -> ExitCode {
+    let builder = Builder::new().stack_size(STACK_BYTES);
+    let status = match builder.spawn_with(&rt, AnyStatus, move || run(&rt)) {
+        Ok(thread) => thread.join(&rt),
+        Err(refused) => (refused.value)(),
+    };
+    ExitCode::from(status)
+}

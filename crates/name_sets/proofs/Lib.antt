@@ -1,0 +1,7 @@
+mod Examples
+pub mod TextLemmas
+pub mod SetLemmas
+mod LeastLemmas
+mod RowLemmas
+mod RowSetLemmas
+mod UniteLemmas

@@ -1,0 +1,5 @@
+use Rattle.name_sets.proofs.RowSetLemmas.{answer-common}
+use Rattle.name_sets.proofs.set.NameSet.meets.Goals as goal
+
+pub returns : goal.returns
+returns c = rw (← c.self.view_is, ← c.other.view_is) (answer-common c.self.invariant c.other.invariant c.meet.result c.meet.ensures)

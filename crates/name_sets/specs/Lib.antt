@@ -1,0 +1,6 @@
+pub mod IdSet
+pub mod Least
+pub mod Row
+pub mod RowBack
+pub mod Search
+pub mod Texts
