@@ -10,20 +10,27 @@ ghost use Rattle.c_ints.specs.declared.constant.Suffix.{Suffix};
 use crate::int::Int;
 use crate::kind::Kind;
 
-/// How the digits of a constant are read.
+/// How the digits of a constant are read (C11 6.4.4.1 paragraph 3).
 #[derive(Clone, Copy, Debug, PartialEq, Eq)]
-enum Radix {
+pub enum Radix {
+    /// To the base 10; the first digit isn't 0.
     Decimal,
+    /// To the base 8; the first digit is 0.
     Octal,
+    /// To the base 16, behind `0x` or `0X`.
     Hexadecimal,
 }
 
-/// What a constant says of its type.
+/// What a constant says of its type (C11 6.4.4.1 paragraph 5).
 #[derive(Clone, Copy, Debug, PartialEq, Eq)]
-enum Suffix {
+pub enum Suffix {
+    /// No suffix.
     Plain,
+    /// `u`
     Unsigned,
+    /// `l`
     Long,
+    /// Both, in either order.
     UnsignedLong,
 }
 

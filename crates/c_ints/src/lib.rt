@@ -19,7 +19,7 @@ mod operator;
 mod wrapping;
 
 pub use arithmetic::{binary, unary};
-pub use constant::{LiteralFault, literal};
+pub use constant::{LiteralFault, Radix, Suffix, literal};
 pub use conversion::{common, convert, promote};
 pub use int::Int;
 pub use kind::Kind;

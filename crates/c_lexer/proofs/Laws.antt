@@ -1,32 +1,31 @@
 -- One text has one cut, and the function of specs/Compute.antt finds it.
-use Rattle.std.proofs.Common.{◌≡◌, ℕ, zero, suc, ◌+◌, ◌-◌, ◌<◌, ◌≤◌, List, [], ◌∷◌, length, take, drop, Option, Some, None, Result, sym, refl, ap, ◌∙◌, subst, ⊎_elim, arith, length-drop, inl, inr}
+use Rattle.std.proofs.Common.{◌≡◌, ℕ, zero, suc, ◌+◌, ◌<◌, Bool, List, [], ◌∷◌, length, take, drop, Option, Some, None, Result, sym, refl, ap, ◌∙◌, subst, ⊎_elim, arith, length-drop}
 use Rattle.std.proofs.str.Laws.{order}
-use Rattle.c_lexer.specs.declared.token.TokenKind.{TokenKind}
 use Rattle.c_lexer.specs.declared.token.Token.{Token}
 use Rattle.c_lexer.specs.declared.token.LexFault.{LexFault}
 use Rattle.c_lexer.specs.declared.unit.Reading.{Reading}
 use Rattle.c_lexer.specs.declared.unit.Reading.TheVariants.{Space, Lexeme, Bad}
-use Rattle.c_lexer.specs.declared.unit.Fault.{Fault}
+use Rattle.c_lexer.specs.Bytes.{starts_line}
 use Rattle.c_lexer.specs.Units.{reading}
-use Rattle.c_lexer.specs.Cut.{IsUnit, Cut, finish, space, lexeme, bad, token, fault_at, answer, Lexes}
-use Rattle.c_lexer.specs.Compute.{longest_unit, tokens_from, lexed}
+use Rattle.c_lexer.specs.Cut.{IsUnit, UnitAt, Cut, finish, space, lexeme, bad, token, fault_at, answer, Lexes}
 
 -- a unit has a byte at least
-pub unit_not_empty : {rest : List ℕ} {n : ℕ} {r : Reading} → IsUnit rest n r → 0 < n
-unit_not_empty {n = zero} u = let h : None ≡ Some _ = u.read in cc
-unit_not_empty {n = suc n} u = omega arith
+pub unit_not_empty : (starts : Bool) {rest : List ℕ} {n : ℕ} {r : Reading} → IsUnit (reading starts) rest n r → 0 < n
+unfolding reading
+unit_not_empty starts {n = zero} u = let h : None ≡ Some _ = u.is in cc
+unit_not_empty starts {n = suc n} u = omega arith
 
 -- a longer front is no unit
-not_longer : {rest : List ℕ} {n m : ℕ} {r s : Reading} → IsUnit rest n r → IsUnit rest m s → n < m → ⊥
-not_longer u v less = let h = sym (u.longest _ less v.within) ∙ v.read in cc
+not_longer : {read : List ℕ → Option Reading} {rest : List ℕ} {n m : ℕ} {r s : Reading} → IsUnit read rest n r → IsUnit read rest m s → n < m → ⊥
+not_longer u v less = let h = sym (u.longest _ less v.within) ∙ v.is in cc
 
 -- one unit stands at a place
-pub unit_length : {rest : List ℕ} {n m : ℕ} {r s : Reading} → IsUnit rest n r → IsUnit rest m s → n ≡ m
+pub unit_length : {read : List ℕ → Option Reading} {rest : List ℕ} {n m : ℕ} {r s : Reading} → IsUnit read rest n r → IsUnit read rest m s → n ≡ m
 unit_length {n = n} {m = m} u v =
     ⊎_elim (λ below. absurd (not_longer u v below)) (λ other. ⊎_elim (λ above. absurd (not_longer v u above)) (λ upto. omega arith) (order m n)) (order n m)
 
-pub unit_reading : {rest : List ℕ} {n : ℕ} {r s : Reading} → IsUnit rest n r → IsUnit rest n s → r ≡ s
-unit_reading u v = let h = sym u.read ∙ v.read in cc
+pub unit_reading : {read : List ℕ → Option Reading} {rest : List ℕ} {n : ℕ} {r s : Reading} → IsUnit read rest n r → IsUnit read rest n s → r ≡ s
+unit_reading u v = let h = sym u.is ∙ v.is in cc
 
 -- what a unit at a place leaves of a cut from there
 Past : List ℕ → ℕ → ℕ → List Token → Option LexFault → Reading → Type 0
@@ -35,18 +34,18 @@ Past text at n tokens fault (Lexeme kind) = (rest : List Token) × Cut text (at 
 Past text at n tokens fault (Bad why) = (tokens ≡ []) × (fault ≡ Some (fault_at at why))
 
 -- no unit stands at the end
-nothing_at_end : (text : List ℕ) (at : ℕ) {n : ℕ} {r : Reading} → IsUnit (drop at text) n r → at ≡ length text → ⊥
-nothing_at_end text at u e = let some = unit_not_empty u in omega (arith, u.within, length-drop at text)
+nothing_at_end : (text : List ℕ) (at : ℕ) {n : ℕ} {r : Reading} → UnitAt text at n r → at ≡ length text → ⊥
+nothing_at_end text at u e = let some = unit_not_empty (starts_line text at) u in omega (arith, u.within, length-drop at text)
 
 past_same : (text : List ℕ) (at : ℕ) (tokens : List Token) (fault : Option LexFault) {n m : ℕ} {r s : Reading}
-    → IsUnit (drop at text) n r → IsUnit (drop at text) m s → Past text at m tokens fault s → Past text at n tokens fault r
+    → UnitAt text at n r → UnitAt text at m s → Past text at m tokens fault s → Past text at n tokens fault r
 past_same text at tokens fault {n = n} {m = m} {r = r} {s = s} u v past =
     let same : m ≡ n = unit_length v u in
-    let w : IsUnit (drop at text) n s = subst (λ k. IsUnit (drop at text) k s) same v in
+    let w : UnitAt text at n s = subst (λ k. UnitAt text at k s) same v in
     let kind : s ≡ r = unit_reading w u in
     subst (λ q. Past text at n tokens fault q) kind (subst (λ k. Past text at k tokens fault s) same past)
 
-past : (text : List ℕ) {at : ℕ} {n : ℕ} {r : Reading} {tokens : List Token} {fault : Option LexFault} → IsUnit (drop at text) n r → Cut text at tokens fault → Past text at n tokens fault r
+past : (text : List ℕ) {at : ℕ} {n : ℕ} {r : Reading} {tokens : List Token} {fault : Option LexFault} → UnitAt text at n r → Cut text at tokens fault → Past text at n tokens fault r
 unfolding Past
 past text u (finish e) = absurd (nothing_at_end text _ u e)
 past text u (space n v rest) = past_same text _ _ _ u v rest

@@ -1,10 +1,11 @@
-mod Examples
-pub mod Progress
-pub mod Ascii
-pub mod Marks
-pub mod UnitLemmas
-pub mod Numbers
-pub mod Strings
-pub mod Fronts
-pub mod Computed
 pub mod Laws
+pub mod Computed
+pub mod Fronts
+pub mod Short
+pub mod Constants
+pub mod Strings
+pub mod Progress
+pub mod Spelling
+pub mod Forms
+pub mod Utf8
+mod Examples

@@ -1,20 +1,25 @@
 -- The cut of a text into units, each the longest at its place (6.4p4), and what it says of the text's tokens.
-use Rattle.std.specs.Prelude.{◌≡◌, ℕ, zero, suc, ◌+◌, ◌-◌, ◌<◌, ◌≤◌, nat_lt, List, [], ◌∷◌, length, take, drop, map, slice_index, Option, Some, None, Result, Ok, Err, if◌then◌else◌}
+use Rattle.std.specs.Prelude.{◌≡◌, ℕ, ◌+◌, ◌<◌, ◌≤◌, nat_lt, List, [], ◌∷◌, length, take, drop, map, slice_index, Option, Some, None, Result, Ok, Err, if◌then◌else◌}
 use Rattle.c_lexer.specs.declared.token.TokenKind.{TokenKind}
 use Rattle.c_lexer.specs.declared.token.Token.{Token}
 use Rattle.c_lexer.specs.declared.token.LexFault.{LexFault}
-use Rattle.c_lexer.specs.declared.token.LexFault.TheVariants.{BadByte, BadLiteral, TooMany}
+use Rattle.c_lexer.specs.declared.token.LexFault.TheVariants.{BadByte, BadLiteral, Directive as BadDirective, TooMany}
 use Rattle.c_lexer.specs.declared.unit.Reading.{Reading}
 use Rattle.c_lexer.specs.declared.unit.Reading.TheVariants.{Space, Lexeme, Bad}
 use Rattle.c_lexer.specs.declared.unit.Fault.{Fault}
-use Rattle.c_lexer.specs.declared.unit.Fault.TheVariants.{Byte, Literal}
+use Rattle.c_lexer.specs.declared.unit.Fault.TheVariants.{Byte, Literal, Directive}
+use Rattle.c_lexer.specs.Bytes.{starts_line}
 use Rattle.c_lexer.specs.Units.{reading}
 
 -- the first n bytes of the rest of a text are the longest that are a unit, and this is their reading
-pub record IsUnit (rest : List ℕ) (n : ℕ) (r : Reading) : Type 0 where
+pub record IsUnit (read : List ℕ → Option Reading) (rest : List ℕ) (n : ℕ) (r : Reading) : Type 0 where
   pub within : n ≤ length rest
-  pub read : reading (take n rest) ≡ Some r
-  pub longest : (m : ℕ) → n < m → m ≤ length rest → reading (take m rest) ≡ None
+  pub is : read (take n rest) ≡ Some r
+  pub longest : (m : ℕ) → n < m → m ≤ length rest → read (take m rest) ≡ None
+
+-- the unit at a place of the text
+abbrev pub UnitAt : List ℕ → ℕ → ℕ → Reading → Type 0
+UnitAt text at n r = IsUnit (reading (starts_line text at)) (drop at text) n r
 
 -- the token of a spelling at a place
 abbrev pub token : TokenKind → ℕ → List ℕ → Token
@@ -24,16 +29,17 @@ token kind at spelling = record { kind = kind; at = at; len = length spelling; t
 abbrev pub fault_at : ℕ → Fault → LexFault
 fault_at at Byte = BadByte at
 fault_at at Literal = BadLiteral at
+fault_at at Directive = BadDirective at
 
 -- from the place on, the text is cut into units up to its end or to the first that is a fault: the tokens among
 -- them, and the fault
 pub data Cut (text : List ℕ) : ℕ → List Token → Option LexFault → Type 0 where
   finish : {at : ℕ} → at ≡ length text → Cut text at [] None
-  space : {at : ℕ} {tokens : List Token} {fault : Option LexFault} (n : ℕ) → IsUnit (drop at text) n Space
-    → Cut text (at + n) tokens fault → Cut text at tokens fault
-  lexeme : {at : ℕ} {tokens : List Token} {fault : Option LexFault} (n : ℕ) (kind : TokenKind) → IsUnit (drop at text) n (Lexeme kind)
-    → Cut text (at + n) tokens fault → Cut text at (token kind at (take n (drop at text)) ∷ tokens) fault
-  bad : {at : ℕ} (n : ℕ) (fault : Fault) → IsUnit (drop at text) n (Bad fault) → Cut text at [] (Some (fault_at at fault))
+  space : {at : ℕ} {tokens : List Token} {fault : Option LexFault} (n : ℕ) → UnitAt text at n Space
+      → Cut text (at + n) tokens fault → Cut text at tokens fault
+  lexeme : {at : ℕ} {tokens : List Token} {fault : Option LexFault} (n : ℕ) (kind : TokenKind) → UnitAt text at n (Lexeme kind)
+      → Cut text (at + n) tokens fault → Cut text at (token kind at (take n (drop at text)) ∷ tokens) fault
+  bad : {at : ℕ} (n : ℕ) (fault : Fault) → UnitAt text at n (Bad fault) → Cut text at [] (Some (fault_at at fault))
 
 -- a text has at most 65,536 tokens
 abbrev pub most_tokens : ℕ

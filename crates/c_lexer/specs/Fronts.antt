@@ -1,5 +1,5 @@
--- The fronts of a list of bytes that pass a test.
-use Rattle.std.specs.Prelude.{◌≡◌, ℕ, ◌+◌, ◌<◌, ◌≤◌, Bool, true, false, List, length, take, drop}
+-- The words in which the scanners' contracts speak of the fronts of some bytes. The tokens' definition doesn't use them.
+use Rattle.std.specs.Prelude.{◌≡◌, ◌≢◌, ℕ, ◌+◌, ◌<◌, ◌≤◌, Bool, true, false, List, length, take, drop}
 
 -- the first n bytes are the longest front that passes
 pub record IsLongest (test : List ℕ → Bool) (bytes : List ℕ) (n : ℕ) : Type 0 where
@@ -7,12 +7,26 @@ pub record IsLongest (test : List ℕ → Bool) (bytes : List ℕ) (n : ℕ) : T
   pub passes : test (take n bytes) ≡ true
   pub longest : (m : ℕ) → n < m → m ≤ length bytes → test (take m bytes) ≡ false
 
+-- the first n bytes are the only front that passes
+pub record IsOnly (test : List ℕ → Bool) (bytes : List ℕ) (n : ℕ) : Type 0 where
+  pub within : n ≤ length bytes
+  pub passes : test (take n bytes) ≡ true
+  pub others : (m : ℕ) → m ≢ n → m ≤ length bytes → test (take m bytes) ≡ false
+
 -- no front passes
 abbrev pub NonePasses : (List ℕ → Bool) → List ℕ → Type 0
 NonePasses test bytes = (m : ℕ) → m ≤ length bytes → test (take m bytes) ≡ false
 
--- no front of less than n bytes passes, and a longer one does where what it has behind them does
-pub record Skips (test : List ℕ → Bool) (bytes : List ℕ) (n : ℕ) : Type 0 where
+-- no front but the empty one passes
+abbrev pub NoMorePasses : (List ℕ → Bool) → List ℕ → Type 0
+NoMorePasses test bytes = (m : ℕ) → 0 < m → m ≤ length bytes → test (take m bytes) ≡ false
+
+-- of a front of n bytes and more, f says what it says of the part behind the first n
+pub record Passes {X : Type 0} (f : List ℕ → X) (bytes : List ℕ) (n : ℕ) : Type 0 where
   pub within : n ≤ length bytes
+  pub beyond : (m : ℕ) → f (take (n + m) bytes) ≡ f (take m (drop n bytes))
+
+-- the same, and no shorter front passes
+pub record Skips (test : List ℕ → Bool) (bytes : List ℕ) (n : ℕ) : Type 0 where
+  pub passed : Passes test bytes n
   pub below : (m : ℕ) → m < n → test (take m bytes) ≡ false
-  pub beyond : (m : ℕ) → test (take (n + m) bytes) ≡ test (take m (drop n bytes))

@@ -1,5 +1,5 @@
 -- The words that a text can't declare.
-use Rattle.std.specs.Prelude.{ℕ, Bool, List, [], ◌∷◌, if◌then◌else◌, codes}
+use Rattle.std.specs.Prelude.{ℕ, Bool, List, [], ◌∷◌, length, take, if◌then◌else◌, codes}
 use Rattle.std.specs.List.{list_any}
 use Rattle.std.specs.Str.{bytes_eq}
 use Rattle.c_lexer.specs.declared.token.TokenKind.{TokenKind}
@@ -30,6 +30,9 @@ profile_words =
 -- the text is one of the list
 abbrev pub is_one_of : List (List ℕ) → List ℕ → Bool
 is_one_of texts text = list_any (bytes_eq text) texts
+
+abbrev pub starts_with : List ℕ → List ℕ → Bool
+starts_with front text = bytes_eq front (take (length front) text)
 
 -- what a word is
 abbrev pub word_kind : List ℕ → TokenKind

@@ -5,7 +5,7 @@ ghost use Rattle.c_lexer.specs.declared.token.Token.{Token};
 ghost use Rattle.c_lexer.specs.Cut.{Lexes, token, most_tokens};
 ghost use Rattle.c_lexer.specs.Compute.{lexed};
 
-use crate::scan::unit_of;
+use crate::scan::unit_at;
 use crate::token::{LexFault, Token, TokenKind};
 use crate::unit::Reading;
 use dsu_io::Text;
@@ -32,11 +32,13 @@ pub fn lex(alloc: Global, text: &[u8]) -> Result<Vec<Token>, LexFault>
     let mut tokens = Vec::new(alloc);
     let mut at = 0;
     while at < text.len() {
-        let (_, rest) = text.split_at(at);
-        let unit = unit_of(rest);
+        let unit = unit_at(text, at);
         match unit.reading {
             Reading::Space => {}
-            Reading::Lexeme(kind) => push_token(alloc, &mut tokens, kind, at, &rest[..unit.len])?,
+            Reading::Lexeme(kind) => {
+                let (_, rest) = text.split_at(at);
+                push_token(alloc, &mut tokens, kind, at, &rest[..unit.len])?;
+            }
             Reading::Bad(fault) => return Err(fault.at(at)),
         }
         at += unit.len;

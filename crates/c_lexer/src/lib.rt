@@ -4,15 +4,21 @@
 //! other is. Only want of memory is left open.
 //!
 //! Read in this order: `token` (what a text is cut into), `unit` (what may stand at a place, and how it
-//! is read), `words` (the words that can't be declared), `scan` (the unit at a place), `lexer` (the loop
-//! over the text).
+//! is read), `tables` (the words and marks), `characters`, `quotes`, `comments` and `directives` (the
+//! forms of units), `scan` (the unit at a place), `lexer` (the loop over the text).
 #![tactic(auto)]
 
+mod characters;
+mod comments;
+mod directives;
 mod lexer;
+mod quotes;
 mod scan;
+mod tables;
+#[cfg(test)]
+mod tests;
 mod token;
 mod unit;
-mod words;
 
 pub use lexer::lex;
 pub use token::{LexFault, Token, TokenKind};

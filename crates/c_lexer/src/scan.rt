@@ -1,47 +1,81 @@
-ghost use Rattle.std.specs.Prelude.{◌≡◌, ◌&&◌, nat_le, IsFalse, ◌≢◌, ◌≤◌, ◌<◌, ◌+◌, ◌-◌, ◌*◌, ◌==◌, ◌||◌, length, min, take, slice_index, true, false, IsTrue, MatchOption, IfSome};
-ghost use Rattle.std.specs.List.{list_all};
+ghost use Rattle.std.specs.Prelude.{◌≡◌, ◌≢◌, ◌≤◌, ◌<◌, ◌+◌, ◌-◌, ◌*◌, ◌==◌, ◌&&◌, ◌||◌, nat_le, Bool, length, min, take, drop, slice_index, true, false, IsTrue, IsFalse, MatchOption};
 ghost use Rattle.std.specs.Char.{is_ascii_digit};
-ghost use Rattle.c_lexer.specs.Bytes.{is_blank, starts_word, continues_word, is_plain, is_escape};
-ghost use Rattle.c_lexer.specs.Fronts.{IsLongest, NonePasses, Skips};
-ghost use Rattle.c_lexer.specs.Units.{is_number, decimal_from, closes_string, marks};
+ghost use Rattle.std.specs.Str.{IsUtf8};
+ghost use Rattle.c_lexer.specs.Bytes.{is_blank, may_start_word};
+ghost use Rattle.c_lexer.specs.Fronts.{IsLongest, NonePasses};
+ghost use Rattle.c_lexer.specs.Units.{begins_with, marks, reading, read_line};
+ghost use Rattle.c_lexer.specs.Numbers.{is_number};
 ghost use Rattle.c_lexer.specs.Words.{is_one_of};
-ghost use Rattle.c_lexer.specs.Cut.{IsUnit};
+ghost use Rattle.c_lexer.specs.Cut.{IsUnit, UnitAt};
 
+use crate::characters::{continue_len, is_blank, may_start_word, name_len};
+use crate::comments::{comment_unit, line_len};
+use crate::directives::{is_include, starts_line};
+use crate::quotes::{character_len, string_len};
+use crate::tables::{is_mark, kind_of_word};
 use crate::token::TokenKind;
 use crate::unit::{Fault, Reading, Unit};
-use crate::words::{is_mark, kind_of_word};
+use c_ints::literal;
+use std::str;
 
-/// The unit at the front of the rest of a text.
-pub fn unit_of(rest: &[u8]) -> Unit
-    requires { 0 < length rest.now }
-    ensures { IsUnit rest.now result.len result.reading }
+/// The unit at a place of the text.
+pub fn unit_at(text: &[u8], at: usize) -> Unit
+    requires { at < length text.now }
+    ensures { UnitAt text.now at result.len result.reading }
+{
+    let (_, rest) = text.split_at(at);
+    if rest[0] == b'#' {
+        line_unit(rest, starts_line(text, at))
+    } else {
+        plain_unit(rest)
+    }
+}
+
+/// A unit that begins with `#`: the rest of its line.
+fn line_unit(rest: &[u8], starts: bool) -> Unit
+    requires hash { slice_index rest.now 0 ≡ 35 }
+    requires some { 0 < length rest.now }
+    ensures { IsUnit (reading starts) rest.now result.len result.reading }
+{
+    let (_, tail) = rest.split_at(1);
+    let len = line_len(tail) + 1;
+    let reading = line_reading(starts, &rest[..len]);
+    Unit { len, reading }
+}
+
+fn line_reading(starts: bool, line: &[u8]) -> Reading
+    ensures { result ≡ read_line starts line.now }
+{
+    if !starts {
+        Reading::Bad(Fault::Byte)
+    } else if is_include(line) {
+        Reading::Space
+    } else {
+        Reading::Bad(Fault::Directive)
+    }
+}
+
+/// A unit that doesn't begin with `#`. It is the same wherever it stands on its line.
+fn plain_unit(rest: &[u8]) -> Unit
+    requires hash { slice_index rest.now 0 ≢ 35 }
+    requires some { 0 < length rest.now }
+    ensures { (starts : Bool) → IsUnit (reading starts) rest.now result.len result.reading }
 {
     let first = rest[0];
     if is_blank(first) {
         single(Reading::Space)
-    } else if starts_word(first) {
-        word_unit(rest)
+    } else if first == b'/' {
+        slash_unit(rest)
     } else if first.is_ascii_digit() {
         digits_unit(rest)
+    } else if first == b'\'' {
+        character_unit(rest)
     } else if first == b'"' {
         string_unit(rest)
+    } else if may_start_word(first) {
+        name_unit(rest)
     } else {
         mark_unit(rest)
-    }
-}
-
-/// A unit that begins with a letter.
-fn word_unit(rest: &[u8]) -> Unit
-    requires blank { IsFalse (is_blank (slice_index rest.now 0)) }
-    requires letter { IsTrue (starts_word (slice_index rest.now 0)) }
-    requires some { 0 < length rest.now }
-    ensures { IsUnit rest.now result.len result.reading }
-{
-    let len = word_len(rest);
-    let kind = kind_of_word(&rest[..len]);
-    Unit {
-        len,
-        reading: Reading::Lexeme(kind),
     }
 }
 
@@ -52,47 +86,63 @@ fn single(reading: Reading) -> Unit
     Unit { len: 1, reading }
 }
 
-fn is_blank(byte: u8) -> bool
-    ensures { result ≡ is_blank byte }
+/// A unit that begins with a slash: a comment or a mark.
+fn slash_unit(rest: &[u8]) -> Unit
+    requires slash { slice_index rest.now 0 ≡ 47 }
+    requires some { 0 < length rest.now }
+    ensures { (starts : Bool) → IsUnit (reading starts) rest.now result.len result.reading }
 {
-    matches!(byte, b' ' | 9..=13)
-}
-
-fn starts_word(byte: u8) -> bool
-    ensures { result ≡ starts_word byte }
-{
-    byte.is_ascii_alphabetic() || byte == b'_'
-}
-
-fn continues_word(byte: u8) -> bool
-    ensures { result ≡ continues_word byte }
-{
-    byte.is_ascii_alphanumeric() || byte == b'_'
-}
-
-/// How many bytes at the front may stand in a word.
-fn word_len(rest: &[u8]) -> usize
-    ensures within { result ≤ length rest.now }
-    ensures word { list_all continues_word (take result rest.now) ≡ true }
-    ensures stops { result < length rest.now → continues_word (slice_index rest.now result) ≡ false }
-{
-    for (len, byte) in rest.iter().enumerate() {
-        if !continues_word(*byte) {
-            return len;
-        }
+    if follows(rest, b'/') {
+        line_comment_unit(rest)
+    } else if follows(rest, b'*') {
+        block_comment_unit(rest)
+    } else {
+        mark_unit(rest)
     }
-    rest.len()
 }
 
-/// A unit that begins with a digit: a number where it is a literal with a value.
+/// Whether the byte stands second.
+fn follows(rest: &[u8], byte: u8) -> bool
+    ensures { result ≡ begins_with byte (drop 1 rest.now) }
+{
+    1 < rest.len() && rest[1] == byte
+}
+
+fn line_comment_unit(rest: &[u8]) -> Unit
+    requires slash { slice_index rest.now 0 ≡ 47 }
+    requires second { IsTrue (begins_with 47 (drop 1 rest.now)) }
+    requires some { 1 < length rest.now }
+    ensures { (starts : Bool) → IsUnit (reading starts) rest.now result.len result.reading }
+{
+    let (_, tail) = rest.split_at(2);
+    Unit {
+        len: line_len(tail) + 2,
+        reading: Reading::Space,
+    }
+}
+
+fn block_comment_unit(rest: &[u8]) -> Unit
+    requires slash { slice_index rest.now 0 ≡ 47 }
+    requires second { IsTrue (begins_with 42 (drop 1 rest.now)) }
+    requires some { 1 < length rest.now }
+    ensures { (starts : Bool) → IsUnit (reading starts) rest.now result.len result.reading }
+{
+    let (_, tail) = rest.split_at(2);
+    let comment = comment_unit(tail);
+    Unit {
+        len: comment.len + 2,
+        reading: comment.reading,
+    }
+}
+
+/// A unit that begins with a digit: a number where it is a constant with a value.
 fn digits_unit(rest: &[u8]) -> Unit
-    requires blank { IsFalse (is_blank (slice_index rest.now 0)) }
-    requires letter { IsFalse (starts_word (slice_index rest.now 0)) }
     requires digit { IsTrue (is_ascii_digit (slice_index rest.now 0)) }
     requires some { 0 < length rest.now }
-    ensures { IsUnit rest.now result.len result.reading }
+    ensures { (starts : Bool) → IsUnit (reading starts) rest.now result.len result.reading }
 {
-    let len = word_len(rest);
+    let (_, tail) = rest.split_at(1);
+    let len = continue_len(tail) + 1;
     let reading = if is_number(&rest[..len]) {
         Reading::Lexeme(TokenKind::Number)
     } else {
@@ -101,39 +151,47 @@ fn digits_unit(rest: &[u8]) -> Unit
     Unit { len, reading }
 }
 
-/// Whether the word is zero, or a decimal constant that an `int` holds.
+/// Whether the word is an integer constant that some type holds.
 fn is_number(word: &[u8]) -> bool
+    requires { IsUtf8 word.now }
     ensures { result ≡ is_number word.now }
 {
-    let mut value = 0;
-    for byte in word {
-        if !byte.is_ascii_digit() {
-            return false;
-        }
-        value = one_digit_more(value, *byte);
+    match str::from_utf8(word) {
+        Ok(text) => has_value(text),
+        Err(_) => unreachable!(),
     }
-    value <= INT_MAX && (word.len() == 1 || (word.len() > 1 && word[0] != b'0'))
 }
 
-const INT_MAX: u64 = 2147483647;
-
-/// The value with one digit more, or one past `INT_MAX` where it is larger.
-fn one_digit_more(value: u64, digit: u8) -> u64
-    requires small { value ≤ INT_MAX + 1 }
-    requires digit { (48 ≤ digit) × (digit ≤ 57) }
-    ensures { result ≡ min (value * 10 + (digit - 48)) (INT_MAX + 1) }
+fn has_value(text: &str) -> bool
+    ensures { result ≡ is_number text.now }
 {
-    (value * 10 + u64::from(digit - b'0')).min(INT_MAX + 1)
+    literal(text).is_ok()
+}
+
+/// A unit that begins with a quote.
+fn character_unit(rest: &[u8]) -> Unit
+    requires quote { slice_index rest.now 0 ≡ 39 }
+    requires some { 0 < length rest.now }
+    ensures { (starts : Bool) → IsUnit (reading starts) rest.now result.len result.reading }
+{
+    let (_, tail) = rest.split_at(1);
+    match character_len(tail) {
+        Some(len) => Unit {
+            len: len + 1,
+            reading: Reading::Lexeme(TokenKind::Character),
+        },
+        None => single(Reading::Bad(Fault::Literal)),
+    }
 }
 
 /// A unit that begins with a double quote.
 fn string_unit(rest: &[u8]) -> Unit
     requires quote { slice_index rest.now 0 ≡ 34 }
     requires some { 0 < length rest.now }
-    ensures { IsUnit rest.now result.len result.reading }
+    ensures { (starts : Bool) → IsUnit (reading starts) rest.now result.len result.reading }
 {
     let (_, tail) = rest.split_at(1);
-    match closing_len(tail) {
+    match string_len(tail) {
         Some(len) => Unit {
             len: len + 1,
             reading: Reading::Lexeme(TokenKind::Str),
@@ -142,62 +200,33 @@ fn string_unit(rest: &[u8]) -> Unit
     }
 }
 
-/// How long the rest of a string is, with its closing quote, or none where it isn't closed.
-fn closing_len(tail: &[u8]) -> Option<usize>
-    ensures { MatchOption result (NonePasses closes_string tail.now) (IsLongest closes_string tail.now) }
-{
-    let mut at = 0;
-    while at < tail.len() {
-        let (_, rest) = tail.split_at(at);
-        if rest[0] == b'"' {
-            return Some(at + 1);
-        }
-        match item_len(rest) {
-            Some(len) => at += len,
-            None => return None,
-        }
-    }
-    None
-}
-
-/// The length of the escape or byte that stands in a string, or none where it can't stand there.
-fn item_len(rest: &[u8]) -> Option<usize>
+/// A unit that begins with a letter, `_`, or a byte past ASCII.
+fn name_unit(rest: &[u8]) -> Unit
+    requires letter { IsTrue (may_start_word (slice_index rest.now 0)) }
     requires some { 0 < length rest.now }
-    requires inside { slice_index rest.now 0 ≢ 34 }
-    ensures item { MatchOption result (NonePasses closes_string rest.now) (Skips closes_string rest.now) }
-    ensures some { IfSome result (λ n. 0 < n) }
+    ensures { (starts : Bool) → IsUnit (reading starts) rest.now result.len result.reading }
 {
-    if rest[0] != b'\\' {
-        return if is_plain(rest[0]) { Some(1) } else { None };
+    match name_len(rest) {
+        Some(len) => Unit {
+            len,
+            reading: Reading::Lexeme(kind_of_word(&rest[..len])),
+        },
+        None => single(Reading::Bad(Fault::Byte)),
     }
-    if 1 < rest.len() && is_escape(rest[1]) {
-        Some(2)
-    } else {
-        None
-    }
-}
-
-/// Whether the byte stands in a string as itself.
-fn is_plain(byte: u8) -> bool
-    ensures { result ≡ (is_plain 34 byte || (byte == 9)) }
-{
-    matches!(byte, b'\t' | b' '..=b'~') && byte != b'"' && byte != b'\\'
-}
-
-fn is_escape(byte: u8) -> bool
-    ensures { result ≡ is_escape byte }
-{
-    matches!(byte, b'n' | b't' | b'r' | b'\\' | b'\'' | b'"')
 }
 
 /// A unit that begins with none of the other forms' first bytes: a mark, or a byte that begins nothing.
 fn mark_unit(rest: &[u8]) -> Unit
     requires blank { IsFalse (is_blank (slice_index rest.now 0)) }
-    requires letter { IsFalse (starts_word (slice_index rest.now 0)) }
+    requires line { IsFalse ((slice_index rest.now 0 == 47) && begins_with 47 (drop 1 rest.now)) }
+    requires block { IsFalse ((slice_index rest.now 0 == 47) && begins_with 42 (drop 1 rest.now)) }
+    requires hash { slice_index rest.now 0 ≢ 35 }
     requires digit { IsFalse (is_ascii_digit (slice_index rest.now 0)) }
-    requires quote { slice_index rest.now 0 ≢ 34 }
+    requires quote { slice_index rest.now 0 ≢ 39 }
+    requires double { slice_index rest.now 0 ≢ 34 }
+    requires letter { IsFalse (may_start_word (slice_index rest.now 0)) }
     requires some { 0 < length rest.now }
-    ensures { IsUnit rest.now result.len result.reading }
+    ensures { (starts : Bool) → IsUnit (reading starts) rest.now result.len result.reading }
 {
     match mark_len(rest) {
         Some(len) => Unit {

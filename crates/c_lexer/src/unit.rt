@@ -24,6 +24,7 @@ pub enum Reading {
 pub enum Fault {
     Byte,
     Literal,
+    Directive,
 }
 
 impl Fault {
@@ -34,6 +35,7 @@ impl Fault {
         match self {
             Fault::Byte => LexFault::BadByte(place),
             Fault::Literal => LexFault::BadLiteral(place),
+            Fault::Directive => LexFault::Directive(place),
         }
     }
 }

@@ -1,13 +1,38 @@
-use Rattle.c_lexer.proofs.UnitLemmas.{mark_is, no_mark}
+use Rattle.std.proofs.lemmas.Bool.{ne_eqb}
+use Rattle.c_lexer.proofs.Forms.{mark_is, no_mark}
 use Rattle.c_lexer.proofs.scan.mark_unit.Goals as goal
 
 pub returns-in-Some : goal.returns-in-Some
-returns-in-Some c =
-    mark_is c.args.rest.now c.in-Some.len c.requires.some
-      (record { blank = c.requires.blank; letter = c.requires.letter; digit = c.requires.digit; quote = c.requires.quote }) c.in-Some.ensures
+returns-in-Some c = λ starts.
+    mark_is starts c.args.rest.now c.in-Some.len c.requires.some
+    (record {
+      past = record {
+        blank = c.requires.blank;
+        hash = ne_eqb _ 35 c.requires.hash;
+        digit = c.requires.digit;
+        quote = ne_eqb _ 39 c.requires.quote;
+        double = ne_eqb _ 34 c.requires.double;
+      };
+      line = c.requires.line;
+      block = c.requires.block;
+      letter = c.requires.letter;
+    })
+    c.in-Some.ensures
 
 pub returns-in-None : goal.returns-in-None
-returns-in-None c =
+returns-in-None c = λ starts.
     rw (c.single.ensures.len, c.single.ensures.reading)
-      (no_mark c.args.rest.now c.requires.some
-        (record { blank = c.requires.blank; letter = c.requires.letter; digit = c.requires.digit; quote = c.requires.quote }) c.in-None.ensures)
+    (no_mark starts c.args.rest.now c.requires.some
+    (record {
+      past = record {
+        blank = c.requires.blank;
+        hash = ne_eqb _ 35 c.requires.hash;
+        digit = c.requires.digit;
+        quote = ne_eqb _ 39 c.requires.quote;
+        double = ne_eqb _ 34 c.requires.double;
+      };
+      line = c.requires.line;
+      block = c.requires.block;
+      letter = c.requires.letter;
+    })
+    c.in-None.ensures)

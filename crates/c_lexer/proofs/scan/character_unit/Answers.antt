@@ -1,0 +1,15 @@
+use Rattle.std.proofs.Common.{subst}
+use Rattle.c_lexer.specs.Fronts.{IsLongest, NonePasses}
+use Rattle.c_lexer.specs.Units.{closes_character}
+use Rattle.c_lexer.proofs.Forms.{character_is, no_character}
+use Rattle.c_lexer.proofs.scan.character_unit.Goals as goal
+
+pub returns-in-Some : goal.returns-in-Some
+returns-in-Some c = λ starts.
+    character_is starts c.args.rest.now c.in-Some.len c.requires.some c.requires.quote
+    (subst (λ l. IsLongest closes_character l c.in-Some.len) c.split_at.ensures.back c.in-Some.ensures)
+
+pub returns-in-None : goal.returns-in-None
+returns-in-None c = λ starts.
+    rw (c.single.ensures.len, c.single.ensures.reading)
+    (no_character starts c.args.rest.now c.requires.some c.requires.quote (subst (λ l. NonePasses closes_character l) c.split_at.ensures.back c.in-None.ensures))
