@@ -1,8 +1,7 @@
 -- Reads of files in memory.
-use Rattle.std.proofs.Common.{◌≡◌, ℕ, List, Some, IsTrue, false, Bool, ◌||◌, is_none, arith}
+use Rattle.std.proofs.Common.{◌≡◌, ℕ, List, Some, IsTrue, false}
 use Rattle.dsu_io.specs.MemoryFiles.{Folder, content_of, read_fails}
 use Rattle.dsu_io.specs.MemorySink.{is_listed}
-use Rattle.std.specs.declared.option.Option.{Option}
 
 -- a read that isn't listed, of a file that is there, doesn't fail
 pub no_failure : (folder : Folder) (name content : List ℕ) → is_listed folder.failing folder.calls ≡ false

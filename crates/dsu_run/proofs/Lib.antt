@@ -1,3 +1,4 @@
+pub mod Completeness
 pub mod FormLemmas
 pub mod MachineLemmas
 pub mod ReadSum

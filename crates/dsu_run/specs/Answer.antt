@@ -115,6 +115,10 @@ IsRun status = (status ≡ 0) ⊎ (status ≡ 1)
 abbrev pub IsStatus : ℕ → Type 0
 IsStatus status = IsRun status ⊎ ((fault : Fault) × (status ≡ status_of fault))
 
+-- a file, an output or memory failed
+abbrev pub IsExcused : ℕ → Type 0
+IsExcused status = (status ≡ status_of Unread) ⊎ ((status ≡ status_of Write) ⊎ (status ≡ status_of Memory))
+
 -- the file that a fault's line names, if the words name one
 abbrev pub file_at_fault : List (List ℕ) → List ℕ
 file_at_fault words = unwrap_or (named_file words) []

@@ -1,10 +1,10 @@
-ghost use Rattle.std.specs.Prelude.{◌≡◌, ◌≢◌, ◌⊎◌, ◌≤◌, length, IfOk, IfErr, IfSome, IsErrOf, MatchOption, None, Some, []};
+ghost use Rattle.std.specs.Prelude.{◌≡◌, ◌≢◌, ◌⊎◌, ◌≤◌, List, ℕ, length, IfOk, IfErr, IfSome, IsErrOf, MatchOption, None, Some, []};
 ghost use Rattle.dsu_io.specs.Causes.{Rose};
 ghost use Rattle.dsu_run.specs.Form.{Formula, value, IsForm};
 ghost use Rattle.dsu_io.specs.Files.{IsContent};
 ghost use Rattle.dsu_run.specs.Texts.{fault_text};
 ghost use Rattle.dsu_run.specs.Words.{named_file};
-ghost use Rattle.dsu_run.specs.Answer.{Holds, IsOther, Exceeds, status_of, status_of_run, status_of_ending, whole_history, Writes, Ran, PrintFailed, ReportFailed, IsRun, IsStatus, file_at_fault, Faulted};
+ghost use Rattle.dsu_run.specs.Answer.{Holds, IsOther, Exceeds, status_of, status_of_run, status_of_ending, whole_history, Writes, Ran, PrintFailed, ReportFailed, IsRun, IsStatus, IsExcused, file_at_fault, Faulted};
 
 use crate::fault::Fault;
 use crate::form::{CompileFault, compile};
@@ -193,6 +193,12 @@ pub fn dsu_main<F: Files, O: Sink, E: Sink>(
     // A run that went to its end, and whose outputs didn't fail.
     ensures ran { IsRun result.status → IfSome (named_file words.now) (λ file. (e : Formula) × Holds (F.content files.old file) e
         × Ran (value e) result.status result.ending result.history.items
+        (O.told out) (O.told result.out) (E.told err.old) (E.told err.new)) }
+
+    // A told text of the form runs to its end, unless a file, an output or memory fails.
+    ensures complete { (text : List ℕ) (e : Formula) → IfSome (named_file words.now) (λ file.
+        F.content files.old file ≡ Some text → length text ≤ TEXT_LIMIT → IsForm text e
+        → IsExcused result.status ⊎ Ran (value e) result.status result.ending result.history.items
         (O.told out) (O.told result.out) (E.told err.old) (E.told err.new)) }
 
     // Each fault, where it comes and what it leaves.
