@@ -1,5 +1,6 @@
 pub mod Completeness
 pub mod FormLemmas
+pub mod LexPlaces
 pub mod MachineLemmas
 pub mod ReadSum
 pub mod ReaderSteps

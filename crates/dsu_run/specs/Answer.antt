@@ -12,8 +12,15 @@ use Rattle.bytecode.specs.declared.run.Event.TheVariants.{Move, CheckIn}
 use Rattle.bytecode.specs.declared.run.Ending.{Ending}
 use Rattle.bytecode.specs.declared.run.Ending.TheVariants.{Finished, Trap}
 use Rattle.bytecode.specs.Trap.{trap_of}
+use Rattle.c_lexer.specs.declared.token.Token.{Token}
+use Rattle.c_lexer.specs.declared.token.LexFault.{LexFault}
+use Rattle.c_lexer.specs.Cut.{Lexes}
+use Rattle.dsu_run.specs.declared.place.Place.{Place}
+use Rattle.dsu_run.specs.declared.fault.Wrong.{Wrong}
+use Rattle.dsu_run.specs.Places.{line_at, column_at}
+use Rattle.dsu_run.specs.Refusals.{IsWrong}
 use Rattle.dsu_run.specs.declared.fault.Fault.{Fault}
-use Rattle.dsu_run.specs.declared.fault.Fault.TheVariants.{Usage, Refused, Unread, TooLong, Write, Memory}
+use Rattle.dsu_run.specs.declared.fault.Fault.TheVariants.{Usage, Refused, At, Unread, TooLong, Write, Memory}
 use Rattle.dsu_run.specs.Words.{named_file}
 use Rattle.dsu_run.specs.Form.{Formula, IsForm, value}
 use Rattle.dsu_run.specs.Texts.{number_line, report_text, fault_text}
@@ -29,12 +36,27 @@ pub record Holds (content : Option (List ℕ)) (e : Formula) : Type 0 where
   pub fits : length text ≤ text_limit
   pub form : IsForm text e
 
--- the file is no longer than a text may be and isn't of the form
-pub record IsOther (content : Option (List ℕ)) : Type 0 where
+-- the fault at the byte at which the text's cut into tokens ends
+pub record EndsAt (text : List ℕ) (wrong : Wrong) (place : Place) : Type 0 where
+  pub fault : LexFault
+  pub at : ℕ
+  pub lexes : Lexes text (Err fault)
+  pub is : IsWrong fault wrong at
+  pub line : place.line ≡ line_at text at
+  pub column : place.column ≡ column_at text at
+
+-- the fault for which a text is refused: that of its tokens, or that they aren't those of the form
+abbrev pub IsFaultOf : List ℕ → Fault → Type 0
+IsFaultOf text Refused = (tokens : List Token) × Lexes text (Ok tokens) × ((e : Formula) → IsForm text e → ⊥)
+IsFaultOf text (At wrong place) = EndsAt text wrong place
+IsFaultOf text _ = ⊥
+
+-- the file is no longer than a text may be, and is refused for this fault
+pub record IsRefused (content : Option (List ℕ)) (fault : Fault) : Type 0 where
   pub text : List ℕ
   pub read : IsContent content text
   pub fits : length text ≤ text_limit
-  pub other : (e : Formula) → IsForm text e → ⊥
+  pub first : IsFaultOf text fault
 
 -- the file is longer than a text may be, as far as its content is told
 abbrev pub Exceeds : Option (List ℕ) → Type 0
@@ -45,6 +67,7 @@ Exceeds (Some content) = text_limit < length content
 abbrev pub status_of : Fault → ℕ
 status_of Usage = 10
 status_of Refused = 11
+status_of (At wrong place) = 11
 status_of Unread = 12
 status_of Write = 13
 status_of TooLong = 15

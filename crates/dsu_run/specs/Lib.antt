@@ -1,5 +1,7 @@
 pub mod Words
 pub mod Form
+pub mod Places
+pub mod Refusals
 pub mod Reader
 pub mod Machine
 pub mod Texts

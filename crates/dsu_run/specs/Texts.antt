@@ -5,8 +5,10 @@ use Rattle.bytecode.specs.declared.trap.TrapKind.{TrapKind}
 use Rattle.bytecode.specs.declared.trap.TrapKind.TheVariants.{Overflow, Divide, Shift, Null, Stale, Index, Depth, Relock, Unlock, MutexHeld, Join}
 use Rattle.bytecode.specs.declared.run.Ending.{Ending}
 use Rattle.bytecode.specs.declared.run.Ending.TheVariants.{Finished, Trap}
+use Rattle.dsu_run.specs.declared.fault.Wrong.{Wrong}
+use Rattle.dsu_run.specs.declared.fault.Wrong.TheVariants.{BadByte, BadLiteral, Directive, TooManyTokens}
 use Rattle.dsu_run.specs.declared.fault.Fault.{Fault}
-use Rattle.dsu_run.specs.declared.fault.Fault.TheVariants.{Usage, Refused, Unread, TooLong, Write, Memory}
+use Rattle.dsu_run.specs.declared.fault.Fault.TheVariants.{Usage, Refused, At, Unread, TooLong, Write, Memory}
 
 -- the line of a number, as `printf("%d\n", ..)` writes it
 abbrev pub number_line : ℤ → List ℕ
@@ -22,10 +24,19 @@ usage_text =
     ++ codes "       ginseng changes OLD NEW\n"
     ++ codes "       ginseng gen SEED SIZE\n"
 
+-- the words for what is wrong at a place
+abbrev pub wrong_word : Wrong → List ℕ
+wrong_word BadByte = codes "bad byte"
+wrong_word BadLiteral = codes "bad literal"
+wrong_word Directive = codes "directive"
+wrong_word TooManyTokens = codes "too many tokens"
+
 -- the line of a fault, with the file where one is at fault
 abbrev pub fault_text : Fault → List ℕ → List ℕ
 fault_text Usage file = usage_text
 fault_text Refused file = file ++ codes ": refused\n"
+fault_text (At wrong place) file =
+    file ++ codes ":" ++ decimal place.line ++ codes ":" ++ decimal place.column ++ codes ": " ++ wrong_word wrong ++ codes "\n"
 fault_text Unread file = file ++ codes ": read fault\n"
 fault_text TooLong file = file ++ codes ": too long\n"
 fault_text Write file = codes "write fault\n"

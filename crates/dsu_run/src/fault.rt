@@ -1,3 +1,14 @@
+use crate::place::Place;
+
+/// What is wrong at a place of a text.
+#[derive(Clone, Copy, Debug, PartialEq, Eq)]
+pub enum Wrong {
+    BadByte,
+    BadLiteral,
+    Directive,
+    TooManyTokens,
+}
+
 /// Why a command came to nothing. Each has a status of its own and a line on standard error.
 #[derive(Clone, Copy, Debug, PartialEq, Eq)]
 pub enum Fault {
@@ -5,6 +16,8 @@ pub enum Fault {
     Usage,
     /// The text isn't of a form that can be run.
     Refused,
+    /// The text has a fault at a place.
+    At(Wrong, Place),
     /// The file couldn't be read.
     Unread,
     /// The file is longer than a text may be.
@@ -25,7 +38,7 @@ impl Fault {
     {
         match self {
             Fault::Usage => 10,
-            Fault::Refused => 11,
+            Fault::Refused | Fault::At(_, _) => 11,
             Fault::Unread => 12,
             Fault::Write => 13,
             Fault::TooLong => 15,

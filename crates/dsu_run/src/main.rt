@@ -5,13 +5,14 @@
 //! streams, calls it on a thread with a large stack, and ends with its status.
 //!
 //! Read in this order: `top` (the top call), `words`, `form` with `constant` and `reader` (from tokens to
-//! code), `machine` (from code to a value), `fault` and `report` (what is told).
+//! code), `machine` (from code to a value), `place`, `fault` and `report` (what is told).
 #![tactic(auto)]
 
 mod constant;
 mod fault;
 mod form;
 mod machine;
+mod place;
 mod reader;
 mod report;
 mod top;

@@ -28,7 +28,49 @@ usage: ginseng run FILE [--offer FILE@LINES]... [--workers W] [--moves N] [--obj
        ginseng gen SEED SIZE
 ";
 
-const CASES: [Case; 17] = [
+const CASES: [Case; 23] = [
+    Case {
+        words: &["run", "x.c"],
+        file: "int x = 08;",
+        status: 11,
+        out: "",
+        err: "x.c:1:9: bad literal\n",
+    },
+    Case {
+        words: &["run", "x.c"],
+        file: "/* open",
+        status: 11,
+        out: "",
+        err: "x.c:1:1: bad byte\n",
+    },
+    Case {
+        words: &["run", "x.c"],
+        file: "#define A",
+        status: 11,
+        out: "",
+        err: "x.c:1:1: directive\n",
+    },
+    Case {
+        words: &["run", "x.c"],
+        file: "int a;\n\n  @",
+        status: 11,
+        out: "",
+        err: "x.c:3:3: bad byte\n",
+    },
+    Case {
+        words: &["run", "x.c"],
+        file: "// h\u{e9}\n/* \u{e9} */ \"open",
+        status: 11,
+        out: "",
+        err: "x.c:2:10: bad literal\n",
+    },
+    Case {
+        words: &["run", "x.c"],
+        file: "#include <stdio.h>\nint main(void) { /* six */ printf(\"%d\\n\", 2 * 3); return 0; } // end",
+        status: 0,
+        out: "6\n",
+        err: "# finished 0\n",
+    },
     Case {
         words: &["run", "x.c"],
         file: P1,
@@ -348,5 +390,20 @@ fn a_text_has_at_most_its_limit_of_bytes(rt: HostRuntime) -> Result<(), Fail> {
     assert_eq!(rt; longer.outcome.status, 15);
     assert_eq!(rt; longer.err.bytes(), b"x.c: too long\n".as_slice());
     assert_eq!(rt; longer.outcome.out.bytes(), b"".as_slice());
+    Ok(())
+}
+
+#[test]
+fn a_text_has_at_most_its_limit_of_tokens(rt: HostRuntime) -> Result<(), Fail> {
+    let alloc = rt.alloc();
+    let mut text = Vec::new(alloc);
+    text.resize(65_536, b';')?;
+    let most = call(alloc, &["run", "x.c"], &text, NOTHING)?;
+    assert_eq!(rt; most.err.bytes(), b"x.c: refused\n".as_slice());
+    text.push(b'\n')?;
+    text.push(b';')?;
+    let more = call(alloc, &["run", "x.c"], &text, NOTHING)?;
+    assert_eq!(rt; more.outcome.status, 11);
+    assert_eq!(rt; more.err.bytes(), b"x.c:2:1: too many tokens\n".as_slice());
     Ok(())
 }

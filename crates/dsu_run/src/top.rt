@@ -4,11 +4,12 @@ ghost use Rattle.dsu_run.specs.Form.{Formula, value, IsForm};
 ghost use Rattle.dsu_io.specs.Files.{IsContent};
 ghost use Rattle.dsu_run.specs.Texts.{fault_text};
 ghost use Rattle.dsu_run.specs.Words.{named_file};
-ghost use Rattle.dsu_run.specs.Answer.{Holds, IsOther, Exceeds, status_of, status_of_run, status_of_ending, whole_history, Writes, Ran, PrintFailed, ReportFailed, IsRun, IsStatus, IsExcused, file_at_fault, Faulted};
+ghost use Rattle.dsu_run.specs.Answer.{Holds, IsRefused, IsFaultOf, Exceeds, status_of, status_of_run, status_of_ending, whole_history, Writes, Ran, PrintFailed, ReportFailed, IsRun, IsStatus, IsExcused, file_at_fault, Faulted};
 
 use crate::fault::Fault;
 use crate::form::{CompileFault, compile};
 use crate::machine::evaluate;
+use crate::place::place_of;
 use crate::report::{write_ending, write_fault, write_number};
 use crate::words::file_of;
 use bytecode::{Ending, Event, TrapKind};
@@ -66,7 +67,7 @@ fn read_text<F: Files>(alloc: Global, files: &mut F, file: &str) -> Result<Vec<u
     ensures read { IfOk result (λ text. IsContent (F.content files.old file.now) text.items × (length text.items ≤ TEXT_LIMIT)) }
     ensures unread { IsErrOf result Fault.Unread → Rose (F.faults files.old) (F.faults files.new) }
     ensures too_long { IsErrOf result Fault.TooLong → Exceeds (F.content files.old file.now) }
-    ensures others { IfErr result (λ fault. (fault ≢ Fault.Usage) × (fault ≢ Fault.Refused) × (fault ≢ Fault.Write)) }
+    ensures others { IfErr result (λ fault. (fault ≡ Fault.Unread) ⊎ ((fault ≡ Fault.TooLong) ⊎ (fault ≡ Fault.Memory))) }
 {
     let mut text = Vec::new(alloc);
     match files.read(file, &mut text, TEXT_LIMIT) {
@@ -81,12 +82,15 @@ fn read_text<F: Files>(alloc: Global, files: &mut F, file: &str) -> Result<Vec<u
 fn plan_of(alloc: Global, text: &[u8]) -> Result<Plan, Fault>
     ensures plan { IfOk result (λ plan. (e : Formula) × IsForm text.now e × (plan.left ≡ value e)
         × (plan.history.items ≡ whole_history plan.left)) }
-    ensures refused { IsErrOf result Fault.Refused → (e : Formula) → IsForm text.now e → ⊥ }
-    ensures others { IfErr result (λ fault. (fault ≡ Fault.Refused) ⊎ (fault ≡ Fault.Memory)) }
+    ensures refused { (fault : Fault) → IsErrOf result fault → status_of fault ≡ 11 → IsFaultOf text.now fault }
+    ensures others { IfErr result (λ fault. (status_of fault ≡ 11) ⊎ (fault ≡ Fault.Memory)) }
 {
     let code = match compile(alloc, text) {
         Ok(code) => code,
         Err(CompileFault::Refused) => return Err(Fault::Refused),
+        Err(CompileFault::Lexical(wrong, at)) => {
+            return Err(Fault::At(wrong, place_of(text, at)));
+        }
         Err(CompileFault::Memory) => return Err(Fault::Memory),
     };
     let Ok(left) = evaluate(alloc, &code) else {
@@ -104,7 +108,7 @@ fn prepare<F: Files>(alloc: Global, files: &mut F, file: &str) -> Result<Plan, F
         × (plan.history.items ≡ whole_history plan.left)) }
     ensures unread { IsErrOf result Fault.Unread → Rose (F.faults files.old) (F.faults files.new) }
     ensures too_long { IsErrOf result Fault.TooLong → Exceeds (F.content files.old file.now) }
-    ensures refused { IsErrOf result Fault.Refused → IsOther (F.content files.old file.now) }
+    ensures refused { (fault : Fault) → IsErrOf result fault → status_of fault ≡ 11 → IsRefused (F.content files.old file.now) fault }
     ensures others { IfErr result (λ fault. (fault ≢ Fault.Usage) × (fault ≢ Fault.Write)) }
 {
     let text = match read_text(alloc, files, file) {
@@ -203,7 +207,9 @@ pub fn dsu_main<F: Files, O: Sink, E: Sink>(
 
     // Each fault, where it comes and what it leaves.
     ensures usage { MatchOption (named_file words.now) (result.status ≡ 10) (λ _. result.status ≢ 10) }
-    ensures refused { result.status ≡ 11 → IfSome (named_file words.now) (λ file. IsOther (F.content files.old file)) }
+    ensures refused { result.status ≡ 11 → IfSome (named_file words.now) (λ file. (fault : Fault) × IsRefused (F.content files.old file) fault
+        × Faulted fault file result.ending result.history.items
+        (E.told err.old) (E.told err.new) (E.faults err.old) (E.faults err.new)) }
     ensures read_fault { result.status ≡ 12 → Rose (F.faults files.old) (F.faults files.new) }
     ensures write_fault { result.status ≡ 13 → IfSome (named_file words.now) (λ file. (e : Formula) × Holds (F.content files.old file) e
         × (PrintFailed (value e) result.ending result.history.items (O.told out) (O.told result.out)
@@ -211,7 +217,7 @@ pub fn dsu_main<F: Files, O: Sink, E: Sink>(
         ⊎ ReportFailed (value e) result.ending result.history.items (O.told out) (O.told result.out)
         (E.told err.old) (E.told err.new) (E.faults err.old) (E.faults err.new))) }
     ensures too_long { result.status ≡ 15 → IfSome (named_file words.now) (λ file. Exceeds (F.content files.old file)) }
-    ensures faults { (fault : Fault) → fault ≢ Fault.Write → result.status ≡ status_of fault
+    ensures faults { (fault : Fault) → fault ≢ Fault.Write → status_of fault ≢ 11 → result.status ≡ status_of fault
         → Faulted fault (file_at_fault words.now) result.ending result.history.items
         (E.told err.old) (E.told err.new) (E.faults err.old) (E.faults err.new) }
     ensures quiet { (fault : Fault) → fault ≢ Fault.Write → result.status ≡ status_of fault → result.out ≡ out }

@@ -1,8 +1,12 @@
-use Rattle.std.proofs.Common.{Err, ap, sym, subst, inl, ℕ}
+use Rattle.std.proofs.Common.{Err, refl, ap, sym, subst, inl, inr, ℕ}
+use Rattle.dsu_run.specs.declared.fault.Fault.TheVariants.{Usage}
 use Rattle.dsu_run.specs.Answer.{Ran, IsExcused}
 use Rattle.dsu_run.proofs.Statuses.{run_status}
 use Rattle.dsu_run.proofs.Completeness.{told_run, excused, if_some_at}
 use Rattle.dsu_run.proofs.top.dsu_main.Goals as goal
+
+pub returns-in_default-clause-statuses : goal.returns-in_default-clause-statuses
+returns-in_default-clause-statuses g c = inr (Usage, c.fail.ensures.status)
 
 pub returns-in-Ok-clause-statuses : goal.returns-in-Ok-clause-statuses
 returns-in-Ok-clause-statuses g c = run_status _ c.tell.result.status c.tell.ensures.statuses
@@ -22,4 +26,4 @@ returns-in-Err-clause-complete g c text e =
     (λ told fits form.
     inl (subst {A = ℕ} IsExcused (sym c.fail-in-Err.ensures.status)
     (excused _ text e c.in-Err.fault told fits form c.in-Err.ensures.others.0 c.in-Err.ensures.others.1
-    (λ is. c.in-Err.ensures.too_long (ap (λ f. Err f) is)) (λ is. c.in-Err.ensures.refused (ap (λ f. Err f) is)))))
+    (λ is. c.in-Err.ensures.too_long (ap (λ f. Err f) is)) (λ is. c.in-Err.ensures.refused c.in-Err.fault refl is))))
