@@ -1,0 +1,14 @@
+use Rattle.std.proofs.Common.{rules, ◌<◌, length, arith}
+use Rattle.c_tree.specs.Bare.{bare_binding}
+use Rattle.c_tree.proofs.Lists.{equal_at}
+use Rattle.c_tree.proofs.same.def.same_bindings.Goals as goal
+
+pub returns-then-not-same_binding : goal.returns-then-not-same_binding
+returns-then-not-same_binding c = (
+  λ h. cc,
+  λ e.
+      let below : c.loop-i.i < length c.args.b.now = omega (arith, c.loop-i-test.true, c.if-a-b.false) in
+      let k = equal_at bare_binding c.args.a.now c.args.b.now c.loop-i.i _ _ c.loop-i-test.true below c.index-a-i.is c.index-b-i.is e in
+      let r = c.same_binding.ensures.1 k in
+      search (rules, r),
+)

@@ -1,0 +1,4 @@
+pub mod BareExpr
+pub mod BareStmt
+pub mod BareDef
+pub mod Bare
