@@ -1,0 +1,5 @@
+mod Samples
+mod Examples
+mod Beginnings
+mod OneKind
+mod Tables

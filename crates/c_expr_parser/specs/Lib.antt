@@ -1,0 +1,11 @@
+pub mod Placed
+pub mod Quoted
+pub mod Terminals
+pub mod TypeNames
+pub mod Operators
+pub mod Expressions
+pub mod Declarations
+pub mod Statements
+pub mod Definitions
+pub mod Readings
+pub mod Laws
