@@ -1,0 +1,5 @@
+mod Examples
+pub mod NameLemmas
+pub mod TableLemmas
+pub mod HistoryLemmas
+pub mod KeptLemmas
