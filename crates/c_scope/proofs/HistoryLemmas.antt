@@ -1,6 +1,6 @@
 -- What the steps tell of the tables. The steps are listed from the last to the first.
-use Rattle.std.proofs.Common.{◌≡◌, ℕ, zero, suc, ◌+◌, ◌<◌, ◌≤◌, Bool, true, false, true≢false, List, [], ◌∷◌, ◌++◌, length, reverse, get_or, slice_get, Option, None, Some, IsSome, if◌then◌else◌, nat_eq, refl, sym, ap, subst, ◌∙◌, arith, eq-eqb, bytes_eq, drop}
-use Rattle.std.specs.Option.{MatchOption, option_or}
+use Rattle.std.proofs.Common.{◌≡◌, ℕ, zero, suc, ◌<◌, ◌≤◌, Bool, true, false, true≢false, List, [], ◌∷◌, ◌++◌, length, reverse, get_or, slice_get, Option, None, Some, IsSome, if◌then◌else◌, nat_eq, refl, sym, ap, subst, ◌∙◌, arith, eq-eqb, bytes_eq}
+use Rattle.std.specs.Option.{MatchOption}
 use borrow.Author.Tests.{eqb-true}
 use Rattle.std.proofs.lemmas.Bool.{false_from_ne_true}
 use Rattle.std.proofs.lemmas.Option.{none-some}
@@ -8,11 +8,11 @@ use Rattle.std.proofs.lemmas.List.{length-reverse, reverse-append, get_or_append
 use Rattle.c_scope.specs.declared.step.Declaration.{Declaration}
 use Rattle.c_scope.specs.declared.step.Step.{Step}
 use Rattle.c_scope.specs.declared.step.Step.TheVariants.{Enter, Declare}
-use Rattle.c_scope.specs.Names.{IsNumber, Lacks, AreDistinct}
+use Rattle.c_scope.specs.Names.{Lacks, AreDistinct}
 use Rattle.c_scope.specs.Tables.{look_up_first, innermost, declared}
 use Rattle.c_scope.specs.History.{IsBefore, start_of, last_place, tables_of, IsHistory}
 use Rattle.c_scope.proofs.NameLemmas.{bytes_same}
-use Rattle.c_scope.proofs.TableLemmas.{length-declared, first-same, first-other, first-some, innermost-same, innermost-other}
+use Rattle.c_scope.proofs.TableLemmas.{length-declared, first-other, first-some, innermost-same, innermost-other}
 
 module _ {X : Type 0} where
   pub reverse-push : (xs : List X) (x : X) → reverse (xs ++ x ∷ []) ≡ x ∷ reverse xs

@@ -1,5 +1,5 @@
 -- How each call keeps the map of names and the steps in accord.
-use Rattle.std.proofs.Common.{◌≡◌, ◌≢◌, ℕ, zero, suc, ◌+◌, ◌<◌, ◌≤◌, ◌⊎◌, inl, inr, Bool, true, false, true≢false, List, [], ◌∷◌, ◌++◌, set, length, get_or, slice_get, reverse, IsSome, is_some, is_none, not, Result, Ok, Err, OnErr, Option, None, Some, String, if◌then◌else◌, nat_eq, refl, sym, ap, subst, ◌∙◌, arith, eq-eqb, length-append}
+use Rattle.std.proofs.Common.{◌≡◌, ◌≢◌, ℕ, ◌<◌, ◌≤◌, ◌⊎◌, inl, inr, true, false, true≢false, List, [], ◌∷◌, ◌++◌, set, length, get_or, slice_get, reverse, IsSome, is_some, is_none, not, Result, Ok, Err, OnErr, Option, None, Some, String, if◌then◌else◌, nat_eq, refl, sym, ap, subst, ◌∙◌, arith, eq-eqb, length-append}
 use Rattle.std.proofs.lemmas.List.{get_or_append_left, get_or-set_same, get_or-set_other, length-set, length-reverse, reverse-reverse}
 use Rattle.std.proofs.lemmas.Option.{slice_get_within, get_or_from_slice_get}
 use borrow.Author.Tests.{eqb-true}
@@ -8,7 +8,7 @@ use Rattle.c_scope.specs.declared.step.Declaration.{Declaration}
 use Rattle.c_scope.specs.declared.step.Step.{Step}
 use Rattle.c_scope.specs.declared.step.Step.TheVariants.{Enter, Declare}
 use Rattle.c_scope.specs.Names.{texts_of, places_of, IsNumber, Lacks, AreDistinct, HasName}
-use Rattle.c_scope.specs.History.{IsBefore, start_of, last_place, tables_of, IsHistory, AreKept}
+use Rattle.c_scope.specs.History.{IsBefore, start_of, last_place, tables_of, AreKept}
 use Rattle.std.specs.Option.{MatchOption}
 use Rattle.c_scope.specs.Tables.{look_up_first, innermost}
 use Rattle.c_scope.proofs.HistoryLemmas.{last_none, history_more, tables_more, first_absent, first_present, found, Finds, start_within, reverse-push}
@@ -122,11 +122,11 @@ module _ {T : Type 0} {texts : List (List ℕ)} {places : List (Option ℕ)} {st
       by (Some p) some = (some.declaration, some.at, subst (λ t. innermost (tables_of texts steps) t ≡ Some some.declaration.value) number.is some.value)
 
 -- where the innermost table has no declaration, the last step is none
-pub no_declaration : {T : Type 0} (old new : List (Step T)) (d : Declaration T) → old ≡ new ++ Declare d ∷ [] → length old ≤ start_of (reverse old) → ⊥
-no_declaration old new d is all =
-    let steps : reverse old ≡ Declare d ∷ reverse new = ap reverse is ∙ reverse-push new (Declare d) in
+pub no_declaration : {T : Type 0} (old new : List (Step T)) (step : Step T) (d : Declaration T) → old ≡ new ++ step ∷ [] → step ≡ Declare d → length old ≤ start_of (reverse old) → ⊥
+no_declaration old new step d is last all =
+    let steps : reverse old ≡ Declare d ∷ reverse new = ap reverse is ∙ reverse-push new step ∙ ap (λ s. s ∷ reverse new) last in
     let start : start_of (reverse old) ≡ start_of (reverse new) = ap start_of steps in
-    absurd (omega (arith, start, start_within (reverse new), length-reverse new, ap length is, length-append new (Declare d ∷ [])))
+    absurd (omega (arith, start, start_within (reverse new), length-reverse new, ap length is, length-append new (step ∷ [])))
 
 -- the value of a declaration
 abbrev pub declared_value : {T : Type 0} → Step T → Option T

@@ -1,5 +1,5 @@
 -- How the steps stand for tables. Here the steps are listed from the last to the first.
-use Rattle.std.specs.Prelude.{◌≡◌, ℕ, zero, suc, ◌<◌, List, [], ◌∷◌, length, Option, None, Some, ⊤, if◌then◌else◌, nat_eq, slice_index_or}
+use Rattle.std.specs.Prelude.{◌≡◌, ℕ, suc, ◌<◌, List, [], ◌∷◌, length, Option, None, Some, ⊤, if◌then◌else◌, nat_eq, slice_index_or}
 use Rattle.c_scope.specs.declared.step.Step.{Step}
 use Rattle.c_scope.specs.declared.step.Step.TheVariants.{Enter, Declare}
 use Rattle.c_scope.specs.Names.{AreDistinct}

@@ -115,6 +115,10 @@ fn a_text_may_be_deep_and_long(rt: HostRuntime) -> Result<(), Fail> {
     Ok(())
 }
 
+fn text_of<'a>(scopes: &'a Scopes<String>, name: &str) -> Option<&'a str> {
+    Some(scopes.find(name)?.as_str())
+}
+
 /// Values that own memory go with their tables.
 #[test]
 fn values_may_own_memory(rt: HostRuntime) -> Result<(), Fail> {
@@ -123,8 +127,8 @@ fn values_may_own_memory(rt: HostRuntime) -> Result<(), Fail> {
     assert!(rt; !scopes.declare("a", String::from_str(rt.alloc(), "again")?)?);
     scopes.enter()?;
     assert!(rt; scopes.declare("a", String::from_str(rt.alloc(), "inner")?)?);
-    assert_eq!(rt; scopes.find("a").map(|value| value.as_str()), Some("inner"));
+    assert_eq!(rt; text_of(&scopes, "a"), Some("inner"));
     scopes.leave();
-    assert_eq!(rt; scopes.find("a").map(|value| value.as_str()), Some("outer"));
+    assert_eq!(rt; text_of(&scopes, "a"), Some("outer"));
     Ok(())
 }

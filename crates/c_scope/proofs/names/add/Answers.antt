@@ -1,6 +1,6 @@
-use Rattle.std.proofs.Common.{◌≡◌, ◌∙◌, ◌++◌, ◌∷◌, [], ap, sym, subst, inr, map, None, Option, ℕ, string_bytes, length, Global, String, List}
+use Rattle.std.proofs.Common.{◌≡◌, ◌∙◌, ◌++◌, ◌∷◌, [], ap, inr, None, Option, ℕ, string_bytes, Global, String}
 use Rattle.std.proofs.lemmas.List.{map-append}
-use Rattle.c_scope.specs.Names.{texts_of, places_of, IsNumber, Lacks}
+use Rattle.c_scope.specs.Names.{texts_of, places_of, Lacks}
 use Rattle.c_scope.proofs.NameLemmas.{insert-lacking, number-last}
 use Rattle.c_scope.proofs.names.add.Goals as goal
 

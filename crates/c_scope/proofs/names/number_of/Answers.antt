@@ -1,4 +1,4 @@
-use Rattle.std.proofs.Common.{sym, ap, ◌∙◌, is_some}
+use Rattle.std.proofs.Common.{sym}
 use Rattle.c_scope.proofs.NameLemmas.{number-lookup, lacks-lookup}
 use Rattle.c_scope.proofs.names.number_of.Goals as goal
 

@@ -1,10 +1,10 @@
-use Rattle.std.proofs.Common.{◌≡◌, ◌∙◌, ◌++◌, ◌∷◌, [], reverse, sym, ap, subst, Some, None, is_some, length, get_or, List, ℕ}
+use Rattle.std.proofs.Common.{◌≡◌, ◌∙◌, ◌∷◌, [], reverse, sym, ap, length, get_or}
 use Rattle.std.proofs.lemmas.List.{length-reverse}
 use Rattle.c_scope.specs.declared.step.Declaration.{Declaration}
 use Rattle.c_scope.specs.declared.step.Step.TheVariants.{Declare}
-use Rattle.c_scope.specs.Names.{texts_of, places_of}
+use Rattle.c_scope.specs.Names.{texts_of}
 use Rattle.c_scope.specs.Tables.{look_up_first, declared}
-use Rattle.c_scope.specs.History.{AreKept, tables_of, IsBefore, start_of}
+use Rattle.c_scope.specs.History.{tables_of}
 use Rattle.c_scope.proofs.HistoryLemmas.{nowhere, reverse-push}
 use Rattle.c_scope.proofs.KeptLemmas.{kept-add, kept-declare, first-has, first-lacks, after_fault, none_some, told_some, told_none}
 use Rattle.c_scope.proofs.scopes.Scopes.declare.Goals as goal

@@ -1,4 +1,4 @@
-use Rattle.std.proofs.Common.{arith, ◌≡◌, ◌∙◌, reverse, sym, ap, Some, None}
+use Rattle.std.proofs.Common.{arith, ◌∙◌, reverse, sym, ap, Some, None}
 use Rattle.c_scope.specs.Names.{texts_of}
 use Rattle.c_scope.proofs.HistoryLemmas.{nowhere}
 use Rattle.c_scope.proofs.KeptLemmas.{finds, stands_within, stands_value, declared_value}

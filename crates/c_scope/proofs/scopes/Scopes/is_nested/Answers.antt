@@ -1,4 +1,4 @@
-use Rattle.std.proofs.Common.{reverse, sym}
+use Rattle.std.proofs.Common.{reverse}
 use Rattle.std.proofs.lemmas.Bool.{ltb-true, lt-ltb}
 use Rattle.c_scope.specs.Names.{texts_of}
 use Rattle.c_scope.proofs.HistoryLemmas.{nested}

@@ -1,5 +1,4 @@
-use Rattle.std.proofs.Common.{◌≡◌, ◌≤◌, ◌∙◌, ◌++◌, ◌∷◌, [], arith, reverse, sym, ap, drop, length}
-use Rattle.c_scope.specs.declared.step.Step.TheVariants.{Declare}
+use Rattle.std.proofs.Common.{◌≤◌, arith, reverse, ap, drop, length}
 use Rattle.c_scope.specs.Names.{texts_of}
 use Rattle.c_scope.specs.History.{start_of}
 use Rattle.c_scope.proofs.HistoryLemmas.{nested}
@@ -18,10 +17,10 @@ pub invariant_of-self-in-Some-Declare : goal.invariant_of-self-in-Some-Declare
 invariant_of-self-in-Some-Declare g c =
     let steps = c.loop-self.self-inside.steps in
     let all : length steps.items ≤ start_of (reverse steps.items) = omega (arith, steps.ok.0, c.len.ensures, c.loop-self-test.false, c.loop-self.invariant.start) in
-    absurd (no_declaration steps.items c.pop.new.self.items c.in-Some-Declare.field-0-0 (c.in-Some-Declare.ensures.items ∙ ap (λ s. c.pop.new.self.items ++ s ∷ []) c.in-Some-Declare.field-0-is) all)
+    absurd (no_declaration steps.items c.pop.new.self.items c.in-Some-Declare.field-0 c.in-Some-Declare.field-0-0 c.in-Some-Declare.ensures.items c.in-Some-Declare.field-0-is all)
 
 pub returns-in-Some-Declare : goal.returns-in-Some-Declare
 returns-in-Some-Declare g c =
     let steps = c.loop-self.self-inside.steps in
     let all : length steps.items ≤ start_of (reverse steps.items) = omega (arith, steps.ok.0, c.len.ensures, c.loop-self-test.false, c.loop-self.invariant.start) in
-    absurd (no_declaration steps.items c.pop.new.self.items c.in-Some-Declare.field-0-0 (c.in-Some-Declare.ensures.items ∙ ap (λ s. c.pop.new.self.items ++ s ∷ []) c.in-Some-Declare.field-0-is) all)
+    absurd (no_declaration steps.items c.pop.new.self.items c.in-Some-Declare.field-0 c.in-Some-Declare.field-0-0 c.in-Some-Declare.ensures.items c.in-Some-Declare.field-0-is all)

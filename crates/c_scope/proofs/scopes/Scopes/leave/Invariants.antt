@@ -1,4 +1,4 @@
-use Rattle.std.proofs.Common.{◌≡◌, ◌+◌, ◌<◌, drop, length, reverse}
+use Rattle.std.proofs.Common.{◌≡◌, ◌<◌, drop, length, reverse}
 use Rattle.c_scope.specs.Names.{texts_of, places_of}
 use Rattle.c_scope.specs.History.{start_of, tables_of, AreKept}
 use Rattle.c_scope.proofs.scopes.Scopes.leave.Given as goal
