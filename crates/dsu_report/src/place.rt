@@ -1,0 +1,31 @@
+//! A byte's place, by line and column.
+ghost use Rattle.std.specs.Prelude.{◌≡◌, ◌<◌, ◌≤◌, ◌-◌, ◌^◌, length};
+ghost use Rattle.dsu_report.specs.Places.{line_at, column_at};
+
+/// A place in a text as a reader counts it, from 1. A line ends behind its newline, and a column counts
+/// bytes.
+#[derive(Clone, Copy, Debug, PartialEq, Eq)]
+pub struct Place {
+    pub line: u32,
+    pub column: u32,
+}
+
+/// The line and the column of a byte, or of the end of the text. Both fit, as the place does.
+pub fn place_of(text: &[u8], at: usize) -> Place
+    requires within { at ≤ length text.now }
+    requires fits { at < 2 ^ 32 - 1 }
+    ensures line { result.line ≡ line_at text.now at }
+    ensures column { result.column ≡ column_at text.now at }
+{
+    let mut line = 1;
+    let mut column = 1;
+    for byte in &text[..at] {
+        if *byte == b'\n' {
+            line += 1;
+            column = 1;
+        } else {
+            column += 1;
+        }
+    }
+    Place { line, column }
+}
