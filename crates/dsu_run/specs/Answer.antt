@@ -10,7 +10,7 @@ use Rattle.c_ints.specs.Number.{value_of}
 use Rattle.bytecode.specs.declared.run.Event.{Event}
 use Rattle.bytecode.specs.declared.run.Event.TheVariants.{Move, CheckIn}
 use Rattle.bytecode.specs.declared.run.Ending.{Ending}
-use Rattle.bytecode.specs.declared.run.Ending.TheVariants.{Finished, Trap}
+use Rattle.bytecode.specs.declared.run.Ending.TheVariants.{Finished, Trap, Deadlock, Cut}
 use Rattle.bytecode.specs.Trap.{trap_of}
 use Rattle.c_lexer.specs.declared.token.Token.{Token}
 use Rattle.c_lexer.specs.declared.token.LexFault.{LexFault}
@@ -90,6 +90,8 @@ ending_of (Err trap) = Trap (trap_of trap) 0
 abbrev pub status_of_ending : Ending → ℕ
 status_of_ending (Finished value) = 0
 status_of_ending (Trap kind thread) = 1
+status_of_ending Deadlock = 2
+status_of_ending Cut = 3
 
 abbrev pub status_of_run : Result Int ArithTrap → ℕ
 status_of_run left = status_of_ending (ending_of left)

@@ -4,7 +4,7 @@ use Rattle.std.specs.Fmt.{decimal, signed_decimal}
 use Rattle.bytecode.specs.declared.trap.TrapKind.{TrapKind}
 use Rattle.bytecode.specs.declared.trap.TrapKind.TheVariants.{Overflow, Divide, Shift, Null, Stale, Index, Depth, Relock, Unlock, MutexHeld, Join}
 use Rattle.bytecode.specs.declared.run.Ending.{Ending}
-use Rattle.bytecode.specs.declared.run.Ending.TheVariants.{Finished, Trap}
+use Rattle.bytecode.specs.declared.run.Ending.TheVariants.{Finished, Trap, Deadlock, Cut}
 use Rattle.dsu_run.specs.declared.fault.Wrong.{Wrong}
 use Rattle.dsu_run.specs.declared.fault.Wrong.TheVariants.{BadByte, BadLiteral, Directive, TooManyTokens}
 use Rattle.dsu_run.specs.declared.fault.Fault.{Fault}
@@ -60,3 +60,5 @@ trap_word Join = codes "join"
 abbrev pub report_text : Ending → List ℕ
 report_text (Finished value) = codes "# finished " ++ signed_decimal value ++ codes "\n"
 report_text (Trap kind thread) = codes "# trap " ++ trap_word kind ++ codes " thread " ++ decimal thread ++ codes "\n"
+report_text Deadlock = codes "# deadlock\n"
+report_text Cut = codes "# cut\n"

@@ -117,5 +117,7 @@ pub fn write_ending<S: Sink>(ending: Ending, sink: &mut S) -> Result<(), Failed>
             let thread = digits.format(thread).as_bytes();
             put_all(sink, &[b"# trap ", word, b" thread ", thread, b"\n"])
         }
+        Ending::Deadlock => put(sink, b"# deadlock\n"),
+        Ending::Cut => put(sink, b"# cut\n"),
     }
 }

@@ -59,6 +59,8 @@ fn status_of_end(ending: &Ending) -> u8
     match ending {
         Ending::Finished(_) => 0,
         Ending::Trap(_, _) => 1,
+        Ending::Deadlock => 2,
+        Ending::Cut => 3,
     }
 }
 

@@ -1,0 +1,89 @@
+-- Uses, changes, transformers and skeletons of small texts.
+use Rattle.std.proofs.Common.{◌≡◌, ℕ, List, [], ◌∷◌, refl}
+use Rattle.std.specs.Prelude.{codes, map}
+use Rattle.bytecode.specs.Skeleton.{Skeleton, CheckIn, Print, Back, Return}
+use Rattle.c_tree.specs.BareDef.{BareDef}
+use Rattle.c_types.specs.Texts.{definition}
+use Rattle.c_types.specs.Values.{int_of}
+use Rattle.c_types.specs.Changes.{changed, interface, added}
+use Rattle.c_types.specs.Transformers.{transformed}
+use Rattle.c_types.specs.Skeletons.{skeleton_of, direct_uses, check_ins}
+use Rattle.source_model.specs.Texts.{Text}
+use Rattle.source_model.specs.Store.{Body, store}
+use Rattle.source_model.proofs.Texts.{counting, calling, calling_2, connection, connection_2, connection_3, other_kind_of}
+
+-- the skeleton of a function of a text
+abbrev skeleton_in : List BareDef → List ℕ → Skeleton
+skeleton_in text name = skeleton_of (definition text) (definition text name)
+
+-- an endless `for`: nothing leads to the closing return
+endless : skeleton_in counting (codes "main") ≡ record {
+  points =
+      record { kind = CheckIn; depth = 0 } ∷ record { kind = Print; depth = 0 } ∷ record { kind = Back; depth = 0 }
+      ∷ record { kind = Return; depth = 0 } ∷ [];
+  next = (0, 1) ∷ (1, 2) ∷ (2, 1) ∷ [];
+}
+endless = refl
+
+-- the check-ins of main: its entry, behind the begin, behind three calls, behind the end
+six : check_ins (skeleton_in calling (codes "main")) ≡ 6
+six = refl
+
+uses_of_main : direct_uses (skeleton_in calling (codes "main")) ≡ codes "f" ∷ codes "g" ∷ codes "h" ∷ []
+uses_of_main = refl
+
+uses_of_show : direct_uses (skeleton_in connection (codes "show")) ≡ codes "c" ∷ codes "struct conn" ∷ []
+uses_of_show = refl
+
+-- what changes where a field is added
+changes : changed connection connection_2 ≡ codes "show" ∷ codes "struct conn" ∷ []
+changes = refl
+
+interfaces : interface connection connection_2 ≡ codes "struct conn" ∷ []
+interfaces = refl
+
+nothing_changes : changed calling calling ≡ []
+nothing_changes = refl
+
+body_changes : changed calling calling_2 ≡ codes "g" ∷ []
+body_changes = refl
+
+no_interface_changes : interface calling calling_2 ≡ []
+no_interface_changes = refl
+
+-- names that are gone are in both sets, those that are added in neither
+gone : interface calling other_kind_of ≡ codes "f" ∷ codes "g" ∷ codes "h" ∷ []
+gone = refl
+
+none_added : added connection connection_2 ≡ []
+none_added = refl
+
+-- an object brought from (3, 4) over (3, 4, 7) to (3, 4, 7, 14)
+brought : map (λ v. v.value)
+    (transformed connection_2 connection_3 (codes "conn")
+    (transformed connection connection_2 (codes "conn")
+    (record { name = codes "in"; value = int_of 3 } ∷ record { name = codes "out"; value = int_of 4 } ∷ [])))
+    ≡ int_of 3 ∷ int_of 4 ∷ int_of 7 ∷ int_of 14 ∷ []
+brought = refl
+
+-- the bodies of two versions: main has a direct use of the struct whose layout changed, so it has a new body too
+abbrev plain : List BareDef → Text
+plain definitions = record { definitions = definitions; tokens = [] }
+
+pub record Brought : Type 0 where
+  pub function : List ℕ
+  pub generation : ℕ
+
+abbrev brought_by : Body → Brought
+brought_by b = record { function = b.function; generation = b.generation }
+
+abbrev by : List ℕ → ℕ → Brought
+by function generation = record { function = function; generation = generation }
+
+bodies : map brought_by (store (plain connection ∷ plain connection_2 ∷ []))
+    ≡ by (codes "show") 1 ∷ by (codes "main") 1 ∷ by (codes "show") 2 ∷ by (codes "main") 2 ∷ []
+bodies = refl
+
+bodies_of_calls : map brought_by (store (plain calling ∷ plain calling_2 ∷ []))
+    ≡ by (codes "h") 1 ∷ by (codes "g") 1 ∷ by (codes "f") 1 ∷ by (codes "main") 1 ∷ by (codes "g") 2 ∷ []
+bodies_of_calls = refl

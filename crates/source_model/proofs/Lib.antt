@@ -1,0 +1,12 @@
+mod Texts
+mod Runs
+mod Changes
+mod Moved
+mod Greatest
+mod Apart
+mod Sets
+mod Same
+mod Lawful
+mod Journaled
+mod Pieces
+mod Journals

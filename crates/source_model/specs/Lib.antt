@@ -1,0 +1,17 @@
+pub mod Versions
+pub mod Worlds
+pub mod Printing
+pub mod Uses
+pub mod Moves
+pub mod Installs
+pub mod Runs
+pub mod Texts
+pub mod Store
+pub mod Answers
+pub mod Patches
+pub mod Guards
+pub mod Journals
+pub mod Laws
+pub mod EvaluationLaws
+pub mod JournalLaws
+pub mod ChangeLaws
