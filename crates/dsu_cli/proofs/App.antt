@@ -1,0 +1,49 @@
+-- The command that reads the words, as `clap` builds it.
+use Rattle.std.proofs.Common.{◌≡◌, true, refl, List, Some, codes}
+use Rattle.clap.specs.Words.{Rule, is_simple}
+use Rattle.clap.specs.Walk.{arg_by_id, arg_by_index, arg_by_long}
+use Rattle.clap.specs.Simple.{Shape, built, filled, with_index}
+use Rattle.dsu_cli.specs.declared.setting.Setting.{Setting}
+use Rattle.dsu_cli.specs.declared.setting.Setting.TheVariants.{Offer, Workers, Moves, Objects}
+use Rattle.dsu_cli.specs.Words.{Text}
+use Rattle.dsu_cli.specs.Fit.{name_of}
+use Rattle.dsu_cli.specs.Sorted.{app, files_rule, option_rule, switch_rule}
+
+pub app_simple : is_simple app ≡ true
+app_simple = refl
+
+abbrev pub shape : Shape
+shape = (built app).top
+
+abbrev pub rules : List Rule
+rules = shape.rules
+
+abbrev pub files_built : Rule
+files_built = with_index 1 (filled files_rule)
+
+abbrev pub option_built : Text → Rule
+option_built name = filled (option_rule name)
+
+abbrev pub journal_built : Rule
+journal_built = filled (switch_rule (codes "journal"))
+
+pub by_long : (s : Setting) → arg_by_long rules (name_of s) ≡ Some (option_built (name_of s))
+by_long Offer = refl
+by_long Workers = refl
+by_long Moves = refl
+by_long Objects = refl
+
+pub by_id : (s : Setting) → arg_by_id rules (name_of s) ≡ Some (option_built (name_of s))
+by_id Offer = refl
+by_id Workers = refl
+by_id Moves = refl
+by_id Objects = refl
+
+pub files_by_id : arg_by_id rules (codes "files") ≡ Some files_built
+files_by_id = refl
+
+pub files_by_index : arg_by_index rules 1 ≡ Some files_built
+files_by_index = refl
+
+pub journal_by_long : arg_by_long rules (codes "journal") ≡ Some journal_built
+journal_by_long = refl

@@ -1,0 +1,13 @@
+mod Names
+mod Numbers
+mod Cuts
+mod Steps
+mod App
+mod Walk
+mod Words
+mod WalkAll
+mod Rows
+mod Fits
+mod Matches
+mod Given
+mod Jobs

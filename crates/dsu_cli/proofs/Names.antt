@@ -1,0 +1,70 @@
+-- The names of options.
+use Rattle.std.proofs.Common.{◌≡◌, ◌∙◌, true, false, true≢false, Option, Some, None, refl, sym, ap, codes, inl, inr}
+use Rattle.std.specs.Prelude.{is_some}
+use Rattle.std.specs.Str.{bytes_eq}
+use Rattle.std.proofs.lemmas.Bool.{cases_Bool}
+use Rattle.std.proofs.lemmas.Option.{none-some, same_Some}
+use Rattle.std.proofs.lemmas.Slice.Eq.{bytes_eq-Decides}
+use Rattle.dsu_cli.specs.declared.setting.Setting.{Setting}
+use Rattle.dsu_cli.specs.declared.setting.Setting.TheVariants.{Offer, Workers, Moves, Objects}
+use Rattle.dsu_cli.specs.Words.{Text}
+use Rattle.dsu_cli.specs.Fit.{name_of, setting_of}
+
+-- the text is no option's name
+pub record IsOther (name : Text) : Type 0 where
+  pub offer : bytes_eq name (codes "offer") ≡ false
+  pub workers : bytes_eq name (codes "workers") ≡ false
+  pub moves : bytes_eq name (codes "moves") ≡ false
+  pub objects : bytes_eq name (codes "objects") ≡ false
+
+pub data NameView (name : Text) : Type 0 where
+  known : (setting : Setting) → name ≡ name_of setting → NameView name
+  other : IsOther name → NameView name
+
+pub name_view : (name : Text) → NameView name
+name_view name = elim (cases_Bool (bytes_eq name (codes "offer"))) [
+  | inl is ↦ known Offer ((bytes_eq-Decides name _).0 is)
+  | inr a ↦ elim (cases_Bool (bytes_eq name (codes "workers"))) [
+    | inl is ↦ known Workers ((bytes_eq-Decides name _).0 is)
+    | inr b ↦ elim (cases_Bool (bytes_eq name (codes "moves"))) [
+      | inl is ↦ known Moves ((bytes_eq-Decides name _).0 is)
+      | inr d ↦ elim (cases_Bool (bytes_eq name (codes "objects"))) [
+        | inl is ↦ known Objects ((bytes_eq-Decides name _).0 is)
+        | inr e ↦ other (record { offer = a; workers = b; moves = d; objects = e })
+      ]
+    ]
+  ]
+]
+
+pub setting_named : (setting : Setting) → setting_of (name_of setting) ≡ Some setting
+setting_named Offer = refl
+setting_named Workers = refl
+setting_named Moves = refl
+setting_named Objects = refl
+
+pub setting_other : (name : Text) → IsOther name → setting_of name ≡ None
+setting_other name h = rw (h.offer, h.workers, h.moves, h.objects) refl
+
+-- the name of an option that is known
+pub name_known : (name : Text) (setting : Setting) → setting_of name ≡ Some setting → name ≡ name_of setting
+name_known name setting is = elim (name_view name) [
+  | known s e ↦ e ∙ ap name_of (same_Some s setting (sym (setting_named s) ∙ ap setting_of (sym e) ∙ is))
+  | other h ↦ absurd (none-some setting (sym (setting_other name h) ∙ is))
+]
+
+pub name_other : (name : Text) → setting_of name ≡ None → IsOther name
+name_other name none = elim (name_view name) [
+  | known s e ↦ absurd (none-some s (sym none ∙ ap setting_of e ∙ setting_named s))
+  | other h ↦ h
+]
+
+pub none_if_not_some : {T : Type 0} (o : Option T) → is_some o ≡ false → o ≡ None
+none_if_not_some None e = refl
+none_if_not_some (Some x) e = absurd (true≢false e)
+
+-- the setting of a name that is known
+pub setting_is : (name : Text) → is_some (setting_of name) ≡ true → (s : Setting) × (name ≡ name_of s)
+setting_is name is = elim (name_view name) [
+  | known s e ↦ (s, e)
+  | other h ↦ absurd (true≢false (sym is ∙ ap is_some (setting_other name h)))
+]

@@ -1,0 +1,84 @@
+ghost use Rattle.std.specs.Prelude.{◌≡◌, codes, drop, length};
+ghost use Rattle.dsu_cli.specs.Words.{command_of, item_fits, line, switch};
+ghost use Rattle.dsu_cli.specs.Fit.{has, next_fits};
+
+use crate::number::{DIGITS, is_number};
+use crate::setting::{Setting, is_value};
+
+/// The most digits of a seed.
+pub const SEED_DIGITS: usize = 19;
+
+/// The greatest seed.
+pub const MOST_SEED: u64 = i64::MAX as u64;
+
+/// The greatest size of a made-up program.
+pub const MOST_SIZE: u64 = 200;
+
+/// The commands, by their first word.
+#[derive(Debug, Clone, Copy)]
+pub enum Command {
+    Run,
+    Replay,
+    Check,
+    Effects,
+    Changes,
+    Gen,
+}
+
+impl Command {
+    /// The command of this name.
+    pub fn of(name: &str) -> Option<Command>
+        ensures { result ≡ command_of name.now }
+    {
+        match name {
+            "run" => Some(Command::Run),
+            "replay" => Some(Command::Replay),
+            "check" => Some(Command::Check),
+            "effects" => Some(Command::Effects),
+            "changes" => Some(Command::Changes),
+            "gen" => Some(Command::Gen),
+            _ => None,
+        }
+    }
+
+    /// Whether it has the option.
+    pub fn has(self, setting: Setting) -> bool
+        ensures { result ≡ has self setting }
+    {
+        match (self, setting) {
+            (Command::Run, _) => true,
+            (Command::Replay, Setting::Offer | Setting::Objects) => true,
+            _ => false,
+        }
+    }
+
+    /// Whether it has `--journal`.
+    pub fn has_journal(self) -> bool
+        ensures { result ≡ item_fits (line self) (switch (codes "journal")) }
+    {
+        matches!(self, Command::Run)
+    }
+
+    /// Whether the word can be the positional at this place, counted from 0.
+    pub fn takes_positional(self, at: usize, word: &str) -> bool
+        ensures { result ≡ next_fits (drop at (line self).positionals) word.now }
+    {
+        match (self, at) {
+            (Command::Run | Command::Check | Command::Effects, 0) => is_value(word),
+            (Command::Replay | Command::Changes, 0 | 1) => is_value(word),
+            (Command::Gen, 0) => is_number(word, SEED_DIGITS, 0, MOST_SEED),
+            (Command::Gen, 1) => is_number(word, DIGITS, 1, MOST_SIZE),
+            _ => false,
+        }
+    }
+
+    /// How many positionals it names.
+    pub fn positionals(self) -> usize
+        ensures { result ≡ length (line self).positionals }
+    {
+        match self {
+            Command::Run | Command::Check | Command::Effects => 1,
+            Command::Replay | Command::Changes | Command::Gen => 2,
+        }
+    }
+}

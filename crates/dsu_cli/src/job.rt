@@ -1,0 +1,61 @@
+use dsu_io::{List, Text};
+use thiserror::Error;
+
+/// A newer text, and the number of printed lines behind which it is offered.
+#[derive(Debug, Drop)]
+pub struct Offer {
+    pub file: Text,
+    pub lines: u32,
+}
+
+/// `run`: a program's text and how it is run.
+#[derive(Debug, Drop)]
+pub struct RunJob {
+    pub file: Text,
+    /// In the order of the words.
+    pub offers: List<Offer>,
+    /// The number of workers; without one, the threads act by the solo schedule.
+    pub workers: Option<u32>,
+    /// The most moves.
+    pub moves: u32,
+    /// The most objects that live at once.
+    pub objects: u32,
+    /// Whether the journal is written.
+    pub journal: bool,
+}
+
+/// `replay`: a program's text and the journal of its run.
+#[derive(Debug, Drop)]
+pub struct ReplayJob {
+    pub file: Text,
+    pub journal: Text,
+    /// In the order of the words.
+    pub offers: List<Offer>,
+    /// The most objects that live at once.
+    pub objects: u32,
+}
+
+/// What the words ask for.
+#[derive(Debug, Drop)]
+pub enum Job {
+    Run(RunJob),
+    Replay(ReplayJob),
+    /// The file to check.
+    Check(Text),
+    /// The file whose effects are told.
+    Effects(Text),
+    /// The old file and the new one.
+    Changes(Text, Text),
+    /// The seed and the size of a made-up program.
+    Gen(u64, u32),
+}
+
+/// Why there is no job.
+#[derive(Debug, Clone, Copy, PartialEq, Eq, Error)]
+pub enum CliFault {
+    /// The words fit no line of the definition.
+    #[error("the words fit no command")]
+    Usage,
+    #[error("want of memory")]
+    Memory,
+}

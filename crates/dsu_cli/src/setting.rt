@@ -1,0 +1,76 @@
+ghost use Rattle.std.specs.Prelude.{◌≡◌, option_map};
+ghost use Rattle.dsu_cli.specs.Words.{file_and_lines, is_offer, is_value};
+ghost use Rattle.dsu_cli.specs.Fit.{setting_of, value_test};
+
+use crate::number::{DIGITS, is_number};
+
+pub const MOST_WORKERS: u64 = 8;
+
+pub const MOST_MOVES: u64 = 1_600_000;
+
+pub const MOST_OBJECTS: u64 = 65_536;
+/// The most printed lines behind which an offer is made.
+pub const MOST_LINES: u64 = 1_000_000;
+
+/// The options that have a value.
+#[derive(Debug, Clone, Copy)]
+pub enum Setting {
+    Offer,
+    Workers,
+    Moves,
+    Objects,
+}
+
+impl Setting {
+    /// The option of this name.
+    pub fn of(name: &str) -> Option<Setting>
+        ensures { result ≡ setting_of name.now }
+    {
+        match name {
+            "offer" => Some(Setting::Offer),
+            "workers" => Some(Setting::Workers),
+            "moves" => Some(Setting::Moves),
+            "objects" => Some(Setting::Objects),
+            _ => None,
+        }
+    }
+
+    /// Whether the word can be its value.
+    pub fn takes(self, word: &str) -> bool
+        ensures { result ≡ value_test self word.now }
+    {
+        match self {
+            Setting::Offer => is_offer(word),
+            Setting::Workers => is_number(word, DIGITS, 1, MOST_WORKERS),
+            Setting::Moves => is_number(word, DIGITS, 1, MOST_MOVES),
+            Setting::Objects => is_number(word, DIGITS, 1, MOST_OBJECTS),
+        }
+    }
+}
+
+/// Whether the word can be a positional that names a file.
+pub fn is_value(word: &str) -> bool
+    ensures { result ≡ is_value word.now }
+{
+    !word.is_empty() && !word.starts_with('-')
+}
+
+/// The two parts of `FILE@LINES`, cut at its last `@`.
+pub fn file_and_lines(word: &str) -> Option<(&str, &str)>
+    ensures { option_map (λ parts. (parts.0.now, parts.1.now)) result ≡ file_and_lines word.now }
+{
+    word.rsplit_once('@')
+}
+
+/// Whether the word is `FILE@LINES`.
+pub fn is_offer(word: &str) -> bool
+    ensures { result ≡ is_offer word.now }
+{
+    if !is_value(word) {
+        return false;
+    }
+    let Some((file, lines)) = file_and_lines(word) else {
+        return false;
+    };
+    !file.is_empty() && is_number(lines, DIGITS, 0, MOST_LINES)
+}
