@@ -80,7 +80,7 @@ primary_opens (Primary.init_mutex s _ _ _ _ _ _) = spelled s refl _
 primary_opens (Primary.lock s _ _ _ _) = spelled s refl _
 primary_opens (Primary.unlock s _ _ _ _) = spelled s refl _
 
-postfix_opens : {d : ℕ} {ts : List Placed} {e : Expr} → Postfix d ts e → Opens begins_expression d ts
+pub postfix_opens : {d : ℕ} {ts : List Placed} {e : Expr} → Postfix d ts e → Opens begins_expression d ts
 postfix_opens (Postfix.primary p) = primary_opens p
 postfix_opens (Postfix.call s _ _ _) = named s _
 postfix_opens (Postfix.element s _ _ _) = named s _
@@ -89,7 +89,7 @@ postfix_opens (Postfix.dot p _ _) = before (postfix_opens p) _
 postfix_opens (Postfix.post_increment p _) = before (postfix_opens p) _
 postfix_opens (Postfix.post_decrement p _) = before (postfix_opens p) _
 
-unary_opens : {d : ℕ} {ts : List Placed} {e : Expr} → Unary d ts e → Opens begins_expression d ts
+pub unary_opens : {d : ℕ} {ts : List Placed} {e : Expr} → Unary d ts e → Opens begins_expression d ts
 unary_opens (Unary.postfix p) = postfix_opens p
 unary_opens (Unary.operator op s _) = spelled s (signed op) _
 unary_opens (Unary.pre_increment s _) = spelled s refl _
@@ -99,7 +99,7 @@ cast_opens : {d : ℕ} {ts : List Placed} {e : Expr} → Cast d ts e → Opens b
 cast_opens (Cast.unary u) = unary_opens u
 cast_opens (Cast.cast s _ _ _) = spelled s refl _
 
-binary_opens : {level d : ℕ} {ts : List Placed} {e : Expr} → Binary level d ts e → Opens begins_expression d ts
+pub binary_opens : {level d : ℕ} {ts : List Placed} {e : Expr} → Binary level d ts e → Opens begins_expression d ts
 binary_opens (Binary.operand c) = cast_opens c
 binary_opens (Binary.tighter b) = binary_opens b
 binary_opens (Binary.chain a _ _ _) = before (binary_opens a) _
@@ -145,7 +145,7 @@ word_opens {t} w rest = record {
   begins = subst (λ kind. IsTrue (begins_type kind (text t))) (sym w.keyword.sort) (or_right _ _ w.known);
 }
 
-none_means : (kind : Kind) → ¬ IsTrue (is_spelling kind [])
+pub none_means : (kind : Kind) → ¬ IsTrue (is_spelling kind [])
 none_means I8 h = false≢true h
 none_means U8 h = false≢true h
 none_means I16 h = false≢true h

@@ -147,7 +147,7 @@ nothing : TranslationUnit [] (record { definitions = []; end = 0 })
 nothing = TranslationUnit.program ItemList.none
 
 -- a number: 1
-one : IsConstant (codes "1") (int32 (pos 1))
+pub one : IsConstant (codes "1") (int32 (pos 1))
 one = record {
   radix = Decimal;
   digits = codes "1";

@@ -15,12 +15,12 @@ Each P [] = Unit {0}
 Each P (words ∷ others) = P (counts words) × Each P others
 
 -- the first kind that words of these counts mean
-abbrev first_kind : List ℕ → Option Kind
+abbrev pub first_kind : List ℕ → Option Kind
 first_kind c =
     find (λ kind. list_any (λ spelling. bytes_eq c (counts spelling)) (spellings kind))
     (I8 ∷ U8 ∷ I16 ∷ U16 ∷ I32 ∷ U32 ∷ I64 ∷ U64 ∷ [])
 
-abbrev Means : Kind → List ℕ → Type 0
+abbrev pub Means : Kind → List ℕ → Type 0
 Means kind c = first_kind c ≡ Some kind
 
 each_means : (kind : Kind) → Each (Means kind) (spellings kind)
@@ -48,7 +48,7 @@ abbrev kind_or : Kind → Option Kind → Kind
 kind_or other None = other
 kind_or other (Some kind) = kind
 
-means : (kind : Kind) (words : List (List ℕ)) → IsTrue (is_spelling kind words) → Means kind (counts words)
+pub means : (kind : Kind) (words : List (List ℕ)) → IsTrue (is_spelling kind words) → Means kind (counts words)
 means kind words h = in_each (Means kind) (counts words) (spellings kind) (each_means kind) h
 
 -- the kind is the first, so there is one

@@ -1,19 +1,13 @@
 -- The tables of operators as look-ups by spelling: each spelling has at most one meaning in each table.
-use Rattle.std.specs.Prelude.{unwrap_or, ◌≡◌, ℕ, Bool, true, false, if◌then◌else◌, List, [], ◌∷◌, Option, Some, None, codes}
+use Rattle.std.specs.Prelude.{unwrap_or, ◌≡◌, ℕ, Bool, true, false, if◌then◌else◌, List, [], ◌∷◌, Option, Some}
 use Rattle.std.specs.Str.{bytes_eq}
 use Rattle.std.proofs.Common.{refl, ap, sym, subst, arith}
 use Rattle.std.proofs.lemmas.Slice.Eq.{bytes_eq-Decides}
 use Rattle.c_ints.specs.declared.operator.BinOp.{BinOp}
-use Rattle.c_ints.specs.declared.operator.BinOp.TheVariants.{Add, Sub, Mul, Div, Rem, And, Or, Xor, Shl, Shr, Lt, Gt, Le, Ge, Eq, Ne}
 use Rattle.c_ints.specs.declared.operator.UnOp.{UnOp}
-use Rattle.c_ints.specs.declared.operator.UnOp.TheVariants.{Plus, Negate, Complement, Not}
-use Rattle.c_expr_parser.specs.Operators.{Joint, BinaryOperator, UnaryOperator, CompoundOperator}
-use Rattle.c_expr_parser.specs.Operators.Joint.{operation, both, either}
-
--- what a table has for a spelling
-abbrev pub look : {A : Type 0} → List ℕ → List (List ℕ × A) → Option A
-look spelling [] = None
-look spelling (row ∷ rows) = if bytes_eq spelling row.0 then Some row.1 else look spelling rows
+use Rattle.c_expr_parser.specs.declared.operators.Joint.{Joint}
+use Rattle.c_expr_parser.specs.Operators.{BinaryOperator, UnaryOperator, CompoundOperator}
+use Rattle.c_expr_parser.specs.Tables.{look, binary_operators, unary_operators, compound_operators}
 
 -- P holds of each row
 abbrev pub Rows : {A : Type 0} → (List ℕ → A → Type 0) → List (List ℕ × A) → Type 0
@@ -34,17 +28,6 @@ pub found : {A : Type 0} (P : List ℕ → A → Type 0) (spelling : List ℕ) (
 found P spelling a [] e h = grind (arith, h)
 found P spelling a (row ∷ rows) e h =
     pick P spelling a row (look spelling rows) (bytes_eq spelling row.0) refl e.0 (found P spelling a rows e.1) h
-
--- a level, and what joins the operands there
-abbrev pub binary_operators : List (List ℕ × (ℕ × Joint))
-binary_operators =
-    (codes "*", (1, operation Mul)) ∷ (codes "/", (1, operation Div)) ∷ (codes "%", (1, operation Rem))
-    ∷ (codes "+", (2, operation Add)) ∷ (codes "-", (2, operation Sub))
-    ∷ (codes "<<", (3, operation Shl)) ∷ (codes ">>", (3, operation Shr))
-    ∷ (codes "<", (4, operation Lt)) ∷ (codes ">", (4, operation Gt)) ∷ (codes "<=", (4, operation Le)) ∷ (codes ">=", (4, operation Ge))
-    ∷ (codes "==", (5, operation Eq)) ∷ (codes "!=", (5, operation Ne))
-    ∷ (codes "&", (6, operation And)) ∷ (codes "^", (7, operation Xor)) ∷ (codes "|", (8, operation Or))
-    ∷ (codes "&&", (9, both)) ∷ (codes "||", (10, either)) ∷ []
 
 pub binary_look : {level : ℕ} {spelling : List ℕ} {joint : Joint} → BinaryOperator level spelling joint
     → look spelling binary_operators ≡ Some (level, joint)
@@ -117,9 +100,6 @@ binary_found level spelling joint =
       ),
     )
 
-abbrev pub unary_operators : List (List ℕ × UnOp)
-unary_operators = (codes "+", Plus) ∷ (codes "-", Negate) ∷ (codes "~", Complement) ∷ (codes "!", Not) ∷ []
-
 pub unary_look : {spelling : List ℕ} {op : UnOp} → UnaryOperator spelling op → look spelling unary_operators ≡ Some op
 unary_look UnaryOperator.plus = refl
 unary_look UnaryOperator.negate = refl
@@ -130,11 +110,6 @@ pub unary_found : (spelling : List ℕ) (op : UnOp) → look spelling unary_oper
 unary_found spelling op =
     found UnaryOperator spelling op unary_operators
     (UnaryOperator.plus, (UnaryOperator.negate, (UnaryOperator.complement, (UnaryOperator.not, tt))))
-
-abbrev pub compound_operators : List (List ℕ × BinOp)
-compound_operators =
-    (codes "+=", Add) ∷ (codes "-=", Sub) ∷ (codes "*=", Mul) ∷ (codes "/=", Div) ∷ (codes "%=", Rem)
-    ∷ (codes "&=", And) ∷ (codes "|=", Or) ∷ (codes "^=", Xor) ∷ (codes "<<=", Shl) ∷ (codes ">>=", Shr) ∷ []
 
 pub compound_look : {spelling : List ℕ} {op : BinOp} → CompoundOperator spelling op → look spelling compound_operators ≡ Some op
 compound_look CompoundOperator.add = refl

@@ -14,7 +14,8 @@ use Rattle.c_tree.specs.declared.expr.StepOp.TheVariants.{PreIncrement, PreDecre
 use Rattle.c_expr_parser.specs.Placed.{Placed, at, text, start}
 use Rattle.c_expr_parser.specs.Terminals.{Spells, IsMark, IsKeyword, IsProfile, IsIdentifier, IsNumber, IsCharacter, Strings, name}
 use Rattle.c_expr_parser.specs.TypeNames.{TypeName}
-use Rattle.c_expr_parser.specs.Operators.{Joint, joined, BinaryOperator, loosest, UnaryOperator, CompoundOperator}
+use Rattle.c_expr_parser.specs.declared.operators.Joint.{Joint}
+use Rattle.c_expr_parser.specs.Operators.{joined, BinaryOperator, loosest, UnaryOperator, CompoundOperator}
 
 -- the expression of a node that begins at a place
 abbrev pub expr : ℕ → ExprNode Expr → Expr

@@ -1,4 +1,5 @@
--- The laws of the grammar. They are stated, and not proved yet.
+-- The laws of the grammar. The calls `one_expression` and `expression_depth` promise those of expressions, `one_program`
+-- and `program_depth` of `c_parser` those of whole texts.
 use Rattle.std.specs.Prelude.{ℕ}
 use Rattle.c_expr_parser.specs.Expressions.{Assignment}
 use Rattle.c_expr_parser.specs.Definitions.{TranslationUnit}

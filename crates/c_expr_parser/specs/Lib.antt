@@ -8,4 +8,8 @@ pub mod Declarations
 pub mod Statements
 pub mod Definitions
 pub mod Readings
+pub mod Reading
 pub mod Laws
+pub mod Tables
+pub mod Walk
+pub mod Seen

@@ -7,39 +7,35 @@ use Rattle.c_ints.specs.declared.operator.UnOp.TheVariants.{Plus, Negate, Comple
 use Rattle.c_tree.specs.declared.expr.Expr.{Expr}
 use Rattle.c_tree.specs.declared.expr.ExprNode.{ExprNode}
 use Rattle.c_tree.specs.declared.expr.ExprNode.TheVariants as node
-
--- what joins two operands: an operator on two values, `&&` or `||`
-pub data Joint : Type 0 where
-  operation : BinOp → Joint
-  both : Joint
-  either : Joint
+use Rattle.c_expr_parser.specs.declared.operators.Joint.{Joint}
+use Rattle.c_expr_parser.specs.declared.operators.Joint.TheVariants.{Operation, Both, Either}
 
 -- the node of two operands
 abbrev pub joined : Joint → Expr → Expr → ExprNode Expr
-joined (operation op) a b = node.Binary op a b
-joined both a b = node.And a b
-joined either a b = node.Or a b
+joined (Operation op) a b = node.Binary op a b
+joined Both a b = node.And a b
+joined Either a b = node.Or a b
 
 -- the binary operators by level, the tightest first (6.5.5 to 6.5.14)
 pub data BinaryOperator : ℕ → List ℕ → Joint → Type 0 where
-  times : BinaryOperator 1 (codes "*") (operation Mul)
-  divide : BinaryOperator 1 (codes "/") (operation Div)
-  remainder : BinaryOperator 1 (codes "%") (operation Rem)
-  plus : BinaryOperator 2 (codes "+") (operation Add)
-  minus : BinaryOperator 2 (codes "-") (operation Sub)
-  shift_left : BinaryOperator 3 (codes "<<") (operation Shl)
-  shift_right : BinaryOperator 3 (codes ">>") (operation Shr)
-  less : BinaryOperator 4 (codes "<") (operation Lt)
-  greater : BinaryOperator 4 (codes ">") (operation Gt)
-  at_most : BinaryOperator 4 (codes "<=") (operation Le)
-  at_least : BinaryOperator 4 (codes ">=") (operation Ge)
-  equal : BinaryOperator 5 (codes "==") (operation Eq)
-  unequal : BinaryOperator 5 (codes "!=") (operation Ne)
-  bit_and : BinaryOperator 6 (codes "&") (operation And)
-  bit_xor : BinaryOperator 7 (codes "^") (operation Xor)
-  bit_or : BinaryOperator 8 (codes "|") (operation Or)
-  and : BinaryOperator 9 (codes "&&") both
-  or : BinaryOperator 10 (codes "||") either
+  times : BinaryOperator 1 (codes "*") (Operation Mul)
+  divide : BinaryOperator 1 (codes "/") (Operation Div)
+  remainder : BinaryOperator 1 (codes "%") (Operation Rem)
+  plus : BinaryOperator 2 (codes "+") (Operation Add)
+  minus : BinaryOperator 2 (codes "-") (Operation Sub)
+  shift_left : BinaryOperator 3 (codes "<<") (Operation Shl)
+  shift_right : BinaryOperator 3 (codes ">>") (Operation Shr)
+  less : BinaryOperator 4 (codes "<") (Operation Lt)
+  greater : BinaryOperator 4 (codes ">") (Operation Gt)
+  at_most : BinaryOperator 4 (codes "<=") (Operation Le)
+  at_least : BinaryOperator 4 (codes ">=") (Operation Ge)
+  equal : BinaryOperator 5 (codes "==") (Operation Eq)
+  unequal : BinaryOperator 5 (codes "!=") (Operation Ne)
+  bit_and : BinaryOperator 6 (codes "&") (Operation And)
+  bit_xor : BinaryOperator 7 (codes "^") (Operation Xor)
+  bit_or : BinaryOperator 8 (codes "|") (Operation Or)
+  and : BinaryOperator 9 (codes "&&") Both
+  or : BinaryOperator 10 (codes "||") Either
 
 -- the loosest level
 abbrev pub loosest : ℕ

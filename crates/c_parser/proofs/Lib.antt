@@ -1,0 +1,10 @@
+mod TextTraces
+mod TextWalks
+mod TextTokens
+mod TextDeclarations
+mod TextStatements
+mod TextParameters
+mod TextGlobals
+mod TextItems
+mod TextLaws
+mod TextExamples
