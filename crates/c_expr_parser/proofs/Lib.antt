@@ -1,5 +1,5 @@
 pub mod Samples
-mod Examples
+pub mod Examples
 pub mod Beginnings
 mod OneKind
 mod Tables
@@ -18,11 +18,11 @@ pub mod CompleteTypes
 pub mod CompleteLoops
 pub mod CompleteRests
 pub mod Complete
-mod SoundPlans
-mod SoundMeans
+pub mod SoundPlans
+pub mod SoundMeans
 pub mod SoundTables
 mod SoundTypes
-mod SoundTerminals
+pub mod SoundTerminals
 mod SoundEnds
 mod SoundRest
 mod SoundAssignment

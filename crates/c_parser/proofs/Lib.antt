@@ -8,3 +8,12 @@ mod TextGlobals
 mod TextItems
 mod TextLaws
 mod TextExamples
+mod TextPlans
+mod TextMeans
+mod TextFits
+mod TextSpeaks
+mod TextSpoken
+mod TextInduction
+mod TextDefines
+mod TextArrays
+mod TextFunctions
