@@ -58,6 +58,17 @@ replaced : seen (calling ∷ calling_2 ∷ []) 4096 (alone 3 ++ Install 1 ∷ al
 unfolding digits
 replaced = refl
 
+-- its record has the calls in the transaction, each with the definition that was current, and not the enter of main
+recorded : option_map (λ r. r.closed) (source_run (calling ∷ calling_2 ∷ []) 4096 (alone 3 ++ Install 1 ∷ alone 16))
+    ≡ Some ((record { name = codes "h"; entry = 0 } ∷ record { name = codes "g"; entry = 1 } ∷ record { name = codes "f"; entry = 0 }
+    ∷ record { name = codes "g"; entry = 1 } ∷ []) ∷ [])
+unfolding digits
+recorded = refl
+
+-- what is used outside a transaction isn't recorded
+unrecorded : option_map (λ r. r.open_records) (source_run (calling ∷ []) 4096 (alone 1)) ≡ Some []
+unrecorded = refl
+
 -- objects are brought from layout to layout
 brought : seen (connection ∷ connection_2 ∷ connection_3 ∷ []) 4096
     (alone 10 ++ Install 1 ∷ alone 2 ++ Install 2 ∷ alone 9)
