@@ -25,6 +25,7 @@ mod nodes;
 mod operand;
 mod operators;
 mod parser;
+pub mod parts;
 mod postfix;
 mod quoted;
 mod stop;

@@ -17,3 +17,16 @@ mod TextInduction
 mod TextDefines
 mod TextArrays
 mod TextFunctions
+mod TextParsing
+mod TextExits
+mod TextForms
+mod TextLoops
+mod TextOpenings
+mod TextLists
+mod TextItemForms
+mod TextSound
+mod TextFaults
+mod TextCuts
+mod TextPrograms
+mod TextExact
+mod TextAnswers

@@ -50,7 +50,7 @@ pub record Defines (n : ℕ) : Type 0 where
   pub list_so : (d : ℕ) → Explains n (Made parameters (λ ps ts r. PrototypeParameters d ts ps)) (Want (TextWanted.ParameterList d) Give)
   pub updates_so : (d : ℕ) → Explains n (Made updates (λ us ts r. Updates d ts us)) (Want (TextWanted.Updates d) Give)
 
-members_of : {d : ℕ} {ty : CType} {ns vs : List Placed} {s : Placed} {these more : List Binding} (us : List Placed) → TypeName d us ty
+pub members_of : {d : ℕ} {ty : CType} {ns vs : List Placed} {s : Placed} {these more : List Binding} (us : List Placed) → TypeName d us ty
     → Declarators d ty (Member d ty) ns these → IsMark d ";" s → MoreMembers d more vs
     → Members d (us ++ (ns ++ (s ∷ vs))) (these ++ more)
 members_of {d} {ns = ns} {s = s} {these} us t ds h MoreMembers.none =

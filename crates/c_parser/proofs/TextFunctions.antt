@@ -1,6 +1,6 @@
 -- What the plans of functions behind their names mean.
 use Rattle.std.specs.Prelude.{◌≡◌, ℕ, zero, suc, true, List, [], ◌∷◌, ◌++◌, Option, Some, None, codes}
-use Rattle.std.proofs.Common.{append-nil}
+use Rattle.std.proofs.Common.{refl, append-nil}
 use Rattle.c_lexer.specs.declared.token.Token.{Token}
 use Rattle.c_lexer.specs.declared.token.TokenKind.TheVariants.{Mark}
 use Rattle.c_tree.specs.declared.name.Name.{Name}
@@ -43,7 +43,7 @@ pub data IsFunction (start : ℕ) (r : Option CType) (n : Name) : List Placed �
   prototype : {paren close semicolon : Placed} {ts : List Placed} {ps : Parameters} {rest : List Token}
       → IsMark 0 "(" paren → PrototypeParameters 1 ts ps → IsMark 0 ")" close → IsMark 0 ";" semicolon
       → IsFunction start r n (paren ∷ (ts ++ close ∷ semicolon ∷ [])) (made (prototype_made start r n ps)) rest
-  none : {rest : List Token} → IsFunction start r n [] (part nothing) rest
+  none : {t : CType} {rest : List Token} → r ≡ Some t → IsFunction start r n [] (part nothing) rest
 
 abbrev Bodies : ℕ → Option CType → Name → List Binding → Meaning
 Bodies start r n bs = Made made (λ f ts rest. IsBody start r n bs f ts)
@@ -99,7 +99,7 @@ function_left start None m = (
   made (prototype_made start None m (Named [])),
   IsFunction.prototype (is_mark 0 0 "(") (PrototypeParameters.named ParameterList.nothing) (is_mark 0 1 ")") (is_mark 0 2 ";"),
 )
-function_left start (Some t) m = λ rest p. IsFunction.none
+function_left start (Some t) m = λ rest p. IsFunction.none refl
 
 pub function_all : (n : ℕ) (start : ℕ) (r : Option CType) (m : Name)
     → Explains n (IsFunction start r m) (Want (TextWanted.Function start r m) Give)

@@ -97,7 +97,7 @@ result_walk : {w : TextWanted} {ts : List Placed} {r : Option CType} → Entry w
 result_walk entry (ResultType.nothing s) rest ends k = void_walk entry s rest k
 result_walk entry (ResultType.value ty) rest ends k = typed_walk entry ty rest ends k
 
-result_starts : {ts : List Placed} {r : Option CType} → ResultType ts r → (more : List Placed) → start (ts ++ more) ≡ start ts
+pub result_starts : {ts : List Placed} {r : Option CType} → ResultType ts r → (more : List Placed) → start (ts ++ more) ≡ start ts
 result_starts (ResultType.nothing s) more = refl
 result_starts (ResultType.value ty) more = starts (type_opens ty) more
 

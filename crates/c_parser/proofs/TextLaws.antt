@@ -1,7 +1,6 @@
 -- The laws of whole texts: each item of a text is read as it is and no further, so a text is read in one way.
 use Rattle.std.specs.Prelude.{◌≡◌, ℕ, zero, suc, List, [], ◌∷◌, ◌++◌, take, length}
 use Rattle.std.proofs.Common.{refl, ap, sym, ◌∙◌}
-use Rattle.std.proofs.lemmas.List.{map-append}
 use Rattle.c_lexer.specs.declared.token.Token.{Token}
 use Rattle.c_tree.specs.declared.def.Def.{Def}
 use Rattle.c_expr_parser.specs.Placed.{Placed, tokens, end}
@@ -13,16 +12,14 @@ use Rattle.c_parser.specs.TextWalk.TextPlan.{Give}
 use Rattle.c_parser.specs.TextWalk.TextTrace.{Gave, Stopped}
 use Rattle.c_parser.proofs.TextTraces.{nexts, text_placed, text_end, placed_nexts, end_nexts, run_text_same}
 use Rattle.c_parser.proofs.TextItems.{Yields, item_yields}
-
-tokens_append : (ts us : List Placed) → tokens (ts ++ us) ≡ tokens ts ++ tokens us
-tokens_append ts us = map-append (λ (t : Placed). t.token) ts us
+use Rattle.c_parser.proofs.TextFaults.{tokens_append}
 
 run_give : (f : Found) (rest : List Token) → run_text rest (Give f) ≡ Gave f rest
 run_give f [] = refl
 run_give f (t ∷ ts) = refl
 
 -- an item of a text before others
-reads_item : {ts : List Placed} {definitions : List Def} (y : Yields TextWanted.Item ts definitions) (rest : List Placed)
+pub reads_item : {ts : List Placed} {definitions : List Def} (y : Yields TextWanted.Item ts definitions) (rest : List Placed)
     → run_text (tokens (ts ++ rest)) item ≡ nexts ts (Gave (made y.by_count) (tokens rest))
 reads_item {ts} y rest =
     ap (λ l. run_text l item) (tokens_append ts rest)
@@ -37,7 +34,7 @@ item_end : {ts : List Placed} {definitions : List Def} (y : Yields TextWanted.It
 item_end {ts} y rest = ap text_end (reads_item y rest) ∙ end_nexts ts (made y.by_count) (tokens rest)
 
 -- an item has a token
-has_token : (ts rest : List Placed) (definitions : List Def) → Yields TextWanted.Item ts definitions → ¬ (tokens (ts ++ rest) ≡ [])
+pub has_token : (ts rest : List Placed) (definitions : List Def) → Yields TextWanted.Item ts definitions → ¬ (tokens (ts ++ rest) ≡ [])
 has_token [] rest definitions y e =
     let gave : Stopped [] ≡ Gave (made y.by_count) [] = (y.goes [] Give).carried in
     absurd (cc)

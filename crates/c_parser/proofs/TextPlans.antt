@@ -7,7 +7,7 @@ use Rattle.c_expr_parser.specs.Walk.{Value, Plan, Trace, run, remaining}
 use Rattle.c_expr_parser.specs.Walk.Trace.{Put, Took, Dead}
 use Rattle.c_expr_parser.proofs.Traces.{remaining_run}
 use Rattle.c_expr_parser.proofs.SoundPlans.{Explained, Sound}
-use Rattle.c_parser.specs.TextWalk.{Found, TextPlan, TextTrace, then_text, behind, text_depth, text_takes, text_left_out, text_passed, text_met, text_finish, run_text}
+use Rattle.c_parser.specs.TextWalk.{Found, TextPlan, TextTrace, then_text, behind, text_depth, text_takes, text_left_out, text_passed, text_met, text_finish, run_text, text_remaining}
 use Rattle.c_parser.specs.TextWalk.TextPlan.{Give, Want}
 use Rattle.c_parser.specs.TextWalk.TextTrace.{Next, Gave, Stopped}
 use Rattle.c_parser.proofs.TextTraces.{then_then, lift, run_behind}
@@ -53,12 +53,6 @@ pub run_then : (ts : List Token) (p : TextPlan) (k : Found → TextPlan)
     → run_text ts (then_text p k) ≡ text_bind (run_text ts p) (λ f rest. run_text rest (k f))
 run_then [] p k = finish_then p k
 run_then (t ∷ ts) p k = step_then t ts (run_then ts) p k
-
--- all tokens of a trace
-abbrev pub text_remaining : TextTrace → List Token
-text_remaining (Next t tr) = t.token ∷ text_remaining tr
-text_remaining (Gave f rest) = rest
-text_remaining (Stopped rest) = rest
 
 passed_remaining : (ts : List Token) (o : Option Found) (f : Found → TextTrace) → ((v : Found) → text_remaining (f v) ≡ ts)
     → text_remaining (text_passed ts o f) ≡ ts

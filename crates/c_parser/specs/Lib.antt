@@ -1,1 +1,3 @@
+pub mod Programs
 pub mod TextWalk
+pub mod Parts

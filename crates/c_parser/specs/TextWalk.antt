@@ -1,6 +1,6 @@
 -- How a whole text is walked through: declarations, statements and definitions over the walk through expressions. A plan
 -- says what is wanted next and how to go on with what was read; each token is looked at once.
-use Rattle.std.specs.Prelude.{ℕ, zero, suc, true, if◌then◌else◌, List, [], ◌∷◌, ◌++◌, Option, Some, None, option_map, pos, codes}
+use Rattle.std.specs.Prelude.{◌≡◌, ℕ, zero, suc, true, nat_le, length, if◌then◌else◌, List, [], ◌∷◌, ◌++◌, Option, Some, None, option_map, pos, codes, ◌+◌}
 use Rattle.std.specs.Str.{bytes_eq}
 use Rattle.c_ints.specs.declared.int.Int.TheVariants.{I32}
 use Rattle.c_lexer.specs.declared.token.Token.{Token}
@@ -22,7 +22,10 @@ use Rattle.c_tree.specs.declared.def.Def.{Def}
 use Rattle.c_tree.specs.declared.def.DefKind.{DefKind}
 use Rattle.c_tree.specs.declared.def.DefKind.TheVariants as kind
 use Rattle.c_tree.specs.declared.def.Length.{Length}
+use Rattle.c_expr_parser.specs.declared.stop.Stop.{Stop}
+use Rattle.c_expr_parser.specs.declared.stop.Stop.TheVariants.{Stuck, Deep, Memory}
 use Rattle.c_expr_parser.specs.Placed.{Placed}
+use Rattle.c_expr_parser.specs.Readings.{most_depth}
 use Rattle.c_expr_parser.specs.Tables.{look, is, is_kind, when_some, begins_type, constant_of}
 use Rattle.c_expr_parser.specs.Walk.{Value, Wanted, Plan, takes, left_out, depth_of, after, as_expr, as_type, as_name, assignment_rest, conditional_rest, assignment, conditional, operand_plan, type_plan}
 use Rattle.c_expr_parser.specs.Walk.Value.{nothing, named}
@@ -521,6 +524,48 @@ abbrev pub run_text : List Token → TextPlan → TextTrace
 run_text [] p = text_finish p
 run_text (t ∷ ts) p = text_step t ts (run_text ts) p
 
+-- all tokens of a trace
+abbrev pub text_remaining : TextTrace → List Token
+text_remaining (Next t tr) = t.token ∷ text_remaining tr
+text_remaining (Gave f rest) = rest
+text_remaining (Stopped rest) = rest
+
+-- what was found and the tokens behind it; or how many tokens are left where none fits, or where the first is too deep
+pub data TextParsed : Type 0 where
+  found : Found → List Token → TextParsed
+  stuck_at : ℕ → TextParsed
+  deep_at : ℕ → TextParsed
+
+-- a token at a depth, of which so many are left, and what comes behind it
+abbrev pub text_at_depth : ℕ → ℕ → TextParsed → TextParsed
+text_at_depth d left behind = if nat_le d most_depth then behind else deep_at left
+
+-- a trace up to the first token that is too deep
+abbrev pub text_cut : TextTrace → TextParsed
+text_cut (Next t tr) = text_at_depth t.depth (length (text_remaining (Next t tr))) (text_cut tr)
+text_cut (Gave f rest) = found f rest
+text_cut (Stopped rest) = stuck_at (length rest)
+
+-- a plan carried out on tokens
+unfoldable pub text_parsed : TextPlan → List Token → TextParsed
+text_parsed p ts = text_cut (run_text ts p)
+
+-- something wanted that is read on tokens
+abbrev pub text_reads : TextWanted → List Token → TextParsed
+text_reads w ts = text_parsed (Want w Give) ts
+
+-- a function that stopped tells where nothing fits, or where the first token is that is too deep
+abbrev pub TextStops : Stop → TextParsed → Type 0
+TextStops (Stuck left) m = m ≡ stuck_at left
+TextStops (Deep left) m = m ≡ deep_at left
+TextStops Memory m = Unit {0}
+
 -- an item of a text
 abbrev pub item : TextPlan
 item = Want Item Give
+
+-- the definitions of the items with which some tokens begin, and the tokens behind these
+pub data ItemsRead (ts : List Token) : List Def → List Token → Type 0 where
+  none : ItemsRead ts [] ts
+  more : {ds : List Def} {f : ℕ → List Def} {rest behind : List Token} (n : ℕ) → ItemsRead ts ds rest
+      → text_parsed item rest ≡ found (made f) behind → n + length behind ≡ length rest → ItemsRead ts (ds ++ f n) behind

@@ -1,10 +1,33 @@
-//! The laws of the grammar for whole texts.
+//! The parser of whole texts, and the laws of the grammar for them.
+//!
+//! [`parse`] reads the program that a text's tokens are, or tells the first token that doesn't fit or is too
+//! deep. It takes each token once and descends with the depth of the text alone: lists are loops.
 //!
 //! `specs/TextWalk.antt` says how a text is walked through, token by token: it stands on the walk through
-//! expressions of `c_expr_parser`. `proofs/` shows that it reads whatever the grammar reads, and so that a
-//! text is read in one way alone.
+//! expressions of `c_expr_parser`. `specs/Parts.antt` has the parts of that walk that single functions carry
+//! out. `proofs/` shows that it reads whatever the grammar reads, and so that a text is read in one way alone.
 #![tactic(auto)]
 
+mod ahead;
+mod block;
+mod control;
+mod declaration;
+mod function;
+mod global;
+mod item;
 mod laws;
+mod members;
+mod node;
+mod opening;
+mod parameters;
+mod parser;
+mod push;
+mod simple;
+mod statement;
+#[cfg(test)]
+mod tests;
+mod transformer;
 
+pub use c_expr_parser::SyntaxFault;
 pub use laws::{one_program, program_depth};
+pub use parser::parse;

@@ -1,0 +1,19 @@
+use Rattle.std.proofs.Common.{◌≡◌, ◌∷◌, ◌++◌, ℕ, suc, [], List, Option, Some, None, refl, sym, ap, ◌∙◌, arith, add-one, length}
+use Rattle.c_parser.specs.TextWalk.{update_statement, text_parsed}
+use Rattle.c_parser.proofs.TextExits.{through, through_of, through_expr, hands, hands_of, hands_want, hands_expr, sinks_on, tail_call}
+use Rattle.c_parser.proofs.simple.update.Goals as goal
+
+pub returns-in_err-rest-clause-reads : goal.returns-in_err-rest-clause-reads
+returns-in_err-rest-clause-reads c =
+    let e1 : text_parsed (update_statement c.args.depth c.args.start) c.args.tokens.now ≡ _ = refl in
+    hands_of _ c.from_residual.result c.in_err-rest.field-0.0 _ _ _ c.from_residual.ensures.1 (e1) c.in_err-rest.ensures.reads
+
+pub returns-in_err-rest-2-clause-reads : goal.returns-in_err-rest-2-clause-reads
+returns-in_err-rest-2-clause-reads c =
+    let e1 : text_parsed (update_statement c.args.depth c.args.start) c.args.tokens.now ≡ _ = refl in
+    hands_of _ c.from_residual-in_err-rest-2.result c.in_err-rest-2.field-0.0 _ _ _ c.from_residual-in_err-rest-2.ensures.1 (through_of _ _ _ (e1) c.in_ok-rest.ensures.reads) c.in_err-rest-2.ensures.reads
+
+pub returns-clause-reads : goal.returns-clause-reads
+returns-clause-reads c =
+    let e1 : text_parsed (update_statement c.args.depth c.args.start) c.args.tokens.now ≡ _ = refl in
+    tail_call _ _ (through_of _ _ _ (through_of _ _ _ (e1) c.in_ok-rest.ensures.reads) c.in_ok-rest-2.ensures.reads) c.simple.ensures.reads

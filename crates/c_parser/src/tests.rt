@@ -1,0 +1,149 @@
+//! What no clause says: that calls succeed with ample memory, and that the definitions which the clauses
+//! cite mean what they should, on small texts.
+use crate::{SyntaxFault, parse};
+use c_lexer::lex;
+use c_tree::{DefKind, StmtNode};
+use std::test::Fail;
+
+/// Texts with an item of each kind, and how many definitions they make.
+const ACCEPTED: [(&str, usize); 16] = [
+    ("", 0),
+    ("struct T;", 1),
+    ("struct T { int a, b; struct U *p, *q; };", 1),
+    ("mtx_t m; static mtx_t n;", 2),
+    ("thrd_t t[4]; int a, b = 2, c[3] = {1, 2,};", 4),
+    ("struct T *p, *q; static struct T *r = NULL;", 3),
+    (
+        "int f(); int g(void); void h(int a, struct T *b); int k(int, thrd_t);",
+        4,
+    ),
+    ("static struct T *f(void) { return NULL; }", 1),
+    ("dsu_transform struct T { a = old.b + 1; c = 2; }", 1),
+    ("dsu_transform struct T { }", 1),
+    ("dsu_transform g = old + 1;", 1),
+    (
+        "void f(void) { int a, b = 1; struct T *p = q, *r; ; { } a = b; }",
+        1,
+    ),
+    (
+        "void f(void) { while (1) break; do continue; while (0); return; }",
+        1,
+    ),
+    (
+        "void f(void) { for (;;) ; for (i = 0; i < 3; i++) g(i); }",
+        1,
+    ),
+    (
+        "void f(void) { for (int i = 0, j = 1; ; ) { dsu_update(); } }",
+        1,
+    ),
+    (
+        "void f(void) { dsu_tx { int a = 1; b = a; } dsu_tx { } }",
+        1,
+    ),
+];
+
+#[test]
+fn each_kind_of_item_is_read(rt: HostRuntime) -> Result<(), Fail> {
+    for (text, count) in ACCEPTED {
+        let tokens = lex(rt.alloc(), text.as_bytes())?;
+        let program = parse(rt.alloc(), tokens.as_slice())?;
+        assert_eq!(rt; program.definitions.as_slice().len(), count, "{text}");
+        assert_eq!(rt; program.end, text.len(), "{text}");
+    }
+    Ok(())
+}
+
+/// Texts that are none, and the number of the token where that is seen.
+const REFUSED: [(&str, usize); 16] = [
+    ("int main(void) { return 1", 8),
+    ("int x = 1", 4),
+    ("int x", 2),
+    ("int a[2] = {,};", 7),
+    ("static struct T { int a; };", 3),
+    ("void f(void) { else; }", 6),
+    ("int f(int, int b);", 6),
+    ("int f(int a, int);", 7),
+    ("void g;", 2),
+    ("dsu_transform x = 1", 4),
+    ("int f(void) { dsu_tx; }", 7),
+    ("struct T { };", 3),
+    ("int x = 1, ;", 5),
+    ("mtx_t m, n;", 2),
+    ("int f(void) { for (;) ; }", 9),
+    ("int x; }", 3),
+];
+
+#[test]
+fn faults_are_told_by_their_tokens(rt: HostRuntime) -> Result<(), Fail> {
+    for (text, place) in REFUSED {
+        let tokens = lex(rt.alloc(), text.as_bytes())?;
+        let fault = parse(rt.alloc(), tokens.as_slice()).err();
+        assert_eq!(rt; fault, Some(SyntaxFault::At(place)), "{text}");
+    }
+    Ok(())
+}
+
+/// A text whose initialiser stands in so many parentheses.
+fn nested(rt: HostRuntime, depth: u32) -> Result<Option<SyntaxFault>, Fail> {
+    let mut text = String::new(rt.alloc());
+    text.push_str("int x = ")?;
+    for _ in 0..depth {
+        text.push_str("(")?;
+    }
+    text.push_str("1")?;
+    for _ in 0..depth {
+        text.push_str(")")?;
+    }
+    text.push_str(";")?;
+    let tokens = lex(rt.alloc(), text.as_bytes())?;
+    Ok(parse(rt.alloc(), tokens.as_slice()).err())
+}
+
+#[test]
+fn the_sixty_fifth_level_is_too_deep(rt: HostRuntime) -> Result<(), Fail> {
+    assert_eq!(rt; nested(rt, 64)?, None);
+    assert_eq!(rt; nested(rt, 65)?, Some(SyntaxFault::TooDeep(68)));
+    Ok(())
+}
+
+#[test]
+fn an_else_belongs_to_the_nearest_if(rt: HostRuntime) -> Result<(), Fail> {
+    let tokens = lex(
+        rt.alloc(),
+        b"static int f(void) { if (a) if (b) x; else y; }",
+    )?;
+    let program = parse(rt.alloc(), tokens.as_slice())?;
+    for def in program.definitions.as_slice() {
+        let DefKind::Function(function) = &def.kind else {
+            return Err(Fail::new("no function"));
+        };
+        assert_eq!(rt; def.place, 7);
+        assert_eq!(rt; function.tokens, 20);
+        for stmt in function.body.as_slice() {
+            let StmtNode::If(_, inner) = &stmt.node else {
+                return Err(Fail::new("the first `if` has an `else`"));
+            };
+            let is_whole = match &inner.get().node {
+                StmtNode::IfElse(_, _, _) => true,
+                _ => false,
+            };
+            assert!(rt; is_whole);
+        }
+    }
+    Ok(())
+}
+
+#[test]
+fn the_longest_text_is_read(rt: HostRuntime) -> Result<(), Fail> {
+    let mut text = String::new(rt.alloc());
+    for _ in 0..21_842 {
+        text.push_str("int x;\n")?;
+    }
+    text.push_str("int x, y; int x, y;")?;
+    let tokens = lex(rt.alloc(), text.as_bytes())?;
+    assert_eq!(rt; tokens.as_slice().len(), 65_536);
+    let program = parse(rt.alloc(), tokens.as_slice())?;
+    assert_eq!(rt; program.definitions.as_slice().len(), 21_846);
+    Ok(())
+}
