@@ -73,9 +73,11 @@ impl<T> Scopes<T> {
 }
 
 impl<T: Drop> Scopes<T> {
-    /// Enters a table within the innermost one. It becomes the innermost, with nothing in it.
+    /// Enters a table within the innermost one. It becomes the innermost, with nothing in it, and can
+    /// be left.
     pub fn enter(&mut self) -> Result<(), AllocError>
         ensures entered { OnOk result (self.new ≡ [] ∷ self.old) }
+        ensures nested { OnOk result (1 < length self.new) }
         ensures fault { OnErr result (self.new ≡ self.old) }
     {
         self.steps.push(Step::Enter(self.start))?;

@@ -1,10 +1,12 @@
 -- What changes between two texts, by name.
 use Rattle.std.specs.Prelude.{Bool, true, false, not, ◌&&◌, List, map, filter, Option, Some}
+use Rattle.std.specs.Ordering.{int_eq}
+use Rattle.c_ints.specs.Number.{value_of}
 use Rattle.c_tree.specs.BareExpr.{Bytes, BareType}
 use Rattle.c_tree.specs.BareDef.{BareBinding, BareDef, Struct, Mutex, Function, Global, Array}
 use Rattle.c_types.specs.Names.{name_set, is_among}
 use Rattle.c_types.specs.Texts.{definition, names}
-use Rattle.c_types.specs.Same.{same_int, same_list, same_option, same_type, same_stmts, same_binding}
+use Rattle.c_types.specs.Same.{same_list, same_option, same_type, same_stmts, same_binding}
 
 -- a struct's layout: its fields with their types, in order
 abbrev pub same_layout : List BareBinding → List BareBinding → Bool
@@ -15,14 +17,14 @@ abbrev pub same_signature : Option BareType → List BareBinding → Option Bare
 same_signature r ps q qs =
     same_option same_type r q && same_list same_type (map (λ b. b.declared) ps) (map (λ b. b.declared) qs)
 
--- two definitions of one name have the same interface: a struct's layout, a function's signature, a global's type,
--- of a mutex that it is there
+-- two definitions of one name have the same interface: a struct's layout, a function's signature, a global's type (of
+-- an array with its length as a number, whatever the type of the constant that tells it), of a mutex that it is there
 abbrev pub same_interface : BareDef → BareDef → Bool
 same_interface (Struct tag ms) (Struct other ns) = same_layout ms ns
 same_interface (Mutex name) (Mutex other) = true
 same_interface (Function r name ps body) (Function q other qs code) = same_signature r ps q qs
 same_interface (Global a) (Global b) = same_type a.declared b.declared
-same_interface (Array t name n initial) (Array u other m values) = same_type t u && same_int n m
+same_interface (Array t name n initial) (Array u other m values) = same_type t u && int_eq (value_of n) (value_of m)
 same_interface _ _ = false
 
 -- two definitions of one name are the same: a function's with its parameters' names and its body; of the others

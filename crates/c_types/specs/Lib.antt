@@ -13,3 +13,14 @@ pub mod Same
 pub mod Changes
 pub mod Constants
 pub mod Transformers
+pub mod Faults
+pub mod Lookup
+pub mod Found
+pub mod Formats
+pub mod Expressions
+pub mod Need
+pub mod Statements
+pub mod Views
+pub mod TransformSyntax
+pub mod Index
+pub mod Definitions

@@ -1,3 +1,6 @@
+ghost use Rattle.std.specs.Prelude.{◌≡◌};
+ghost use Rattle.c_types.specs.Faults.{first, is_before, number_of, sooner, unless};
+
 /// What is wrong with a text whose tokens and grammar are right. Where two faults stand at one place,
 /// the one that is listed first is told.
 #[derive(Clone, Copy, Debug, PartialEq, Eq)]
@@ -35,4 +38,66 @@ pub enum TypeFault {
     Refused(TypeKind, usize),
     /// Want of memory.
     Memory,
+}
+
+/// A fault of a text.
+#[derive(Clone, Copy, Debug, PartialEq, Eq)]
+pub struct Fault {
+    pub kind: TypeKind,
+    /// A byte counted from 0.
+    pub place: usize,
+}
+
+impl TypeKind {
+    /// The number that decides between two faults at one place.
+    pub(crate) fn number(self) -> u8
+        ensures { result ≡ number_of self }
+    {
+        match self {
+            TypeKind::UnknownName => 1,
+            TypeKind::DeclaredTwice => 2,
+            TypeKind::WrongType => 3,
+            TypeKind::WrongCount => 4,
+            TypeKind::NotPlace => 5,
+            TypeKind::OutsideLoop => 6,
+            TypeKind::NoMain => 7,
+            TypeKind::BadFormat => 8,
+            TypeKind::LeavesTransaction => 9,
+            TypeKind::OverLimit => 10,
+            TypeKind::UnknownField => 11,
+            TypeKind::BadTransformer => 12,
+        }
+    }
+}
+
+impl Fault {
+    /// Whether it is told rather than the other.
+    pub(crate) fn is_before(self, other: Fault) -> bool
+        ensures { result ≡ is_before self other }
+    {
+        self.place < other.place
+            || (self.place == other.place && self.kind.number() < other.kind.number())
+    }
+}
+
+/// The first of two faults that may be there.
+pub(crate) fn sooner(a: Option<Fault>, b: Option<Fault>) -> Option<Fault>
+    ensures { result ≡ sooner a b }
+{
+    match (a, b) {
+        (Some(a), Some(b)) => Some(if b.is_before(a) { b } else { a }),
+        (Some(a), None) => Some(a),
+        (None, b) => b,
+    }
+}
+
+/// A fault, where a test fails.
+pub(crate) fn unless(holds: bool, kind: TypeKind, place: usize) -> Option<Fault>
+    ensures { result ≡ first (unless holds kind place) }
+{
+    if holds {
+        None
+    } else {
+        Some(Fault { kind, place })
+    }
 }

@@ -1,16 +1,21 @@
 -- Uses, changes, transformers and skeletons of small texts.
-use Rattle.std.proofs.Common.{◌≡◌, ℕ, List, [], ◌∷◌, refl}
+use Rattle.std.proofs.Common.{◌≡◌, ℕ, ℤ, pos, negsuc, List, [], ◌∷◌, refl}
 use Rattle.std.specs.Prelude.{codes, map}
+use Rattle.c_ints.specs.declared.kind.Kind.{Kind}
+use Rattle.c_ints.specs.declared.kind.Kind.TheVariants.{I32, I64}
+use Rattle.c_ints.specs.Number.{number}
 use Rattle.bytecode.specs.Skeleton.{Skeleton, CheckIn, Print, Back, Return}
+use Rattle.c_tree.specs.BareExpr.{Integer}
 use Rattle.c_tree.specs.BareDef.{BareDef}
 use Rattle.c_types.specs.Texts.{definition}
-use Rattle.c_types.specs.Values.{int_of}
+use Rattle.c_types.specs.Values.{Value, Number, int_of}
 use Rattle.c_types.specs.Changes.{changed, interface, added}
-use Rattle.c_types.specs.Transformers.{transformed}
+use Rattle.c_types.specs.Transformers.{transformed, transformed_global}
 use Rattle.c_types.specs.Skeletons.{skeleton_of, direct_uses, check_ins}
 use Rattle.source_model.specs.Texts.{Text}
 use Rattle.source_model.specs.Store.{Body, store}
-use Rattle.source_model.proofs.Texts.{counting, calling, calling_2, connection, connection_2, connection_3, other_kind_of}
+use Rattle.source_model.proofs.Texts.{text_with, counting, calling, calling_2, connection, connection_2, connection_3, other_kind_of}
+use Rattle.source_model.proofs.CornerTexts.{global_of, transforming, old_and, array_g, wider_struct, narrow_struct, array_of_two, array_of_three}
 
 -- the skeleton of a function of a text
 abbrev skeleton_in : List BareDef → List ℕ → Skeleton
@@ -66,9 +71,49 @@ brought : map (λ v. v.value)
     ≡ int_of 3 ∷ int_of 4 ∷ int_of 7 ∷ int_of 14 ∷ []
 brought = refl
 
+-- a global of another type: by its transformer, which wraps; without one it is zero
+abbrev at : Kind → ℤ → Value
+at kind n = Number (number kind n)
+
+by_its_transformer : transformed_global (global_of (Integer I32)) (transforming (Integer I64) (old_and 7)) (codes "g") (int_of 6 ∷ [])
+    ≡ at I64 (pos 13) ∷ []
+by_its_transformer = refl
+
+wraps : transformed_global (global_of (Integer I32)) (transforming (Integer I64) (old_and 2147483647)) (codes "g") (int_of 1 ∷ [])
+    ≡ at I64 (negsuc 2147483647) ∷ []
+wraps = refl
+
+becomes_zero : transformed_global (global_of (Integer I32)) (global_of (Integer I64)) (codes "g") (int_of 6 ∷ []) ≡ at I64 (pos 0) ∷ []
+becomes_zero = refl
+
+-- an array keeps the elements below the shorter length where their type stays
+longer : transformed_global array_of_two array_of_three (codes "a") (int_of 1 ∷ int_of 2 ∷ []) ≡ int_of 1 ∷ int_of 2 ∷ int_of 0 ∷ []
+longer = refl
+
+shorter : transformed_global array_of_three array_of_two (codes "a") (int_of 1 ∷ int_of 2 ∷ int_of 3 ∷ []) ≡ int_of 1 ∷ int_of 2 ∷ []
+shorter = refl
+
+other_elements : transformed_global (array_g (Integer I32)) (array_g (Integer I64)) (codes "g") (int_of 1 ∷ int_of 2 ∷ int_of 3 ∷ [])
+    ≡ at I64 (pos 0) ∷ at I64 (pos 0) ∷ at I64 (pos 0) ∷ []
+other_elements = refl
+
+-- a scalar that becomes an array, and one that was an array, are zero
+to_an_array : transformed_global (global_of (Integer I32)) (array_g (Integer I32)) (codes "g") (int_of 6 ∷ [])
+    ≡ int_of 0 ∷ int_of 0 ∷ int_of 0 ∷ []
+to_an_array = refl
+
+from_an_array : transformed_global (array_g (Integer I32)) (global_of (Integer I32)) (codes "g") (int_of 1 ∷ int_of 2 ∷ int_of 3 ∷ [])
+    ≡ int_of 0 ∷ []
+from_an_array = refl
+
+-- a field of the same name and another type, and a new one, are zero
+other_fields : map (λ v. v.value) (transformed narrow_struct wider_struct (codes "s") (record { name = codes "v"; value = int_of 3 } ∷ []))
+    ≡ at I64 (pos 0) ∷ int_of 0 ∷ []
+other_fields = refl
+
 -- the bodies of two versions: main has a direct use of the struct whose layout changed, so it has a new body too
 abbrev plain : List BareDef → Text
-plain definitions = record { definitions = definitions; tokens = [] }
+plain definitions = text_with definitions []
 
 pub record Brought : Type 0 where
   pub function : List ℕ

@@ -9,11 +9,12 @@ use Rattle.std.proofs.lemmas.Option.{same_Some}
 use Rattle.bytecode.specs.declared.run.Event.{Event}
 use Rattle.bytecode.specs.declared.run.Event.TheVariants.{Move, CheckIn, Offer, Decide, Withdraw}
 use Rattle.c_tree.specs.BareExpr.{Bytes}
+use Rattle.con_freeness.specs.Verdicts.{Verdict, Admitted, Refused}
 use Rattle.source_model.specs.declared.patch.NotPatch.{NotPatch}
 use Rattle.source_model.specs.Worlds.{World}
 use Rattle.source_model.specs.Moves.{move}
 use Rattle.source_model.specs.Runs.{SourceMove, install, run}
-use Rattle.source_model.specs.Answers.{Answer, Installed, RefusedFor, NoPatch, Withdrawn, NotOffered, Verdict, Admitted, Refused}
+use Rattle.source_model.specs.Answers.{Answer, Installed, RefusedFor, NoPatch, Withdrawn, NotOffered}
 use Rattle.source_model.specs.Guards.{Guard, Setup, Rules, Answered, Seat, first_guard, has_ended, seat_of, moved, checked_in, offer_at, can_open, is_open, decide, decided, decided_by, answered, installed_over}
 use Rattle.source_model.specs.Guards as guard
 use Rattle.source_model.specs.Journals.{happens, play, guard_behind, guard_if, answer_of, install_of, move_by, moves}

@@ -1,27 +1,35 @@
 -- Small runs with their events, by the solo schedule and by hand.
-use Rattle.std.proofs.Common.{◌≡◌, ℕ, zero, suc, false, List, [], ◌∷◌, Option, Some, None, refl, pos}
-use Rattle.std.specs.Prelude.{codes, option_map, map}
+use Rattle.std.proofs.Common.{◌≡◌, ℕ, zero, suc, Bool, true, false, List, [], ◌∷◌, Option, Some, None, refl, pos}
+use Rattle.std.specs.Prelude.{codes, option_map, map, replicate, ◌++◌}
+use Rattle.std.specs.Option.{option_and_then}
 use Rattle.std.specs.Fmt.{digits}
 use Rattle.bytecode.specs.declared.run.Event.{Event}
 use Rattle.bytecode.specs.declared.run.Event.TheVariants.{Move, CheckIn, Offer, Decide, Withdraw}
 use Rattle.bytecode.specs.declared.run.Ending.{Ending}
 use Rattle.bytecode.specs.declared.run.Ending.TheVariants.{Finished, Deadlock, Cut}
 use Rattle.c_tree.specs.BareDef.{BareDef}
-use Rattle.source_model.specs.declared.patch.NotPatch.TheVariants.{Kind}
+use Rattle.con_freeness.specs.declared.refusal.Effect.TheVariants as effect
+use Rattle.con_freeness.specs.Verdicts.{Refusal, Admitted, Refused, Both}
+use Rattle.source_model.specs.declared.answer.OfferAnswer.TheVariants as ids
+use Rattle.source_model.specs.declared.patch.NotPatch.{NotPatch}
+use Rattle.source_model.specs.declared.patch.NotPatch.TheVariants.{Versions, Kind, Transform, StoreFull}
 use Rattle.source_model.specs.Runs.{SourceMove}
 use Rattle.source_model.specs.Runs as source
 use Rattle.source_model.specs.Texts.{Text}
-use Rattle.source_model.specs.Answers.{Answer, Installed, NoPatch, Withdrawn, Admitted}
+use Rattle.source_model.specs.Answers.{Answer, Installed, RefusedFor, NoPatch, Withdrawn, NotOffered, answer_seen}
+use Rattle.source_model.specs.Patches.{not_patch}
 use Rattle.source_model.specs.Guards.{Guard, Setup, Rules, Mark, NoThread, CheckInOf, first_guard}
-use Rattle.source_model.specs.Journals.{happens, guard_behind, answers, moves, ending, solo_next, acted_by, is_prompt}
-use Rattle.source_model.proofs.Texts.{counting, locking, calling, calling_2, other_kind_of}
+use Rattle.source_model.specs.Journals.{happens, guard_behind, answers, moves, ending, due, slots_behind, solo_next, acted_by, is_prompt}
+use Rattle.source_model.proofs.Texts.{text_with, counting, locking, calling, calling_2, other_kind_of}
+use Rattle.source_model.proofs.CornerTexts.{joining_itself}
+use Rattle.source_model.proofs.ServerText.{serving, serving_2}
 
 -- each patch is admitted, and nothing is pinned
 abbrev admitting : Rules
 admitting = record { verdict = λ versions marks pins c i. Admitted; meets_prior = λ versions mark names. false; wrong = λ p q. None }
 
 abbrev text : List BareDef → Text
-text definitions = record { definitions = definitions; tokens = [] }
+text definitions = text_with definitions []
 
 abbrev alone : List BareDef → Setup
 alone definitions = record { first = text definitions; offers = []; capacity = 4096 }
@@ -59,8 +67,11 @@ pub record Told : Type 0 where
 abbrev told_of : Setup → Guard → Told
 told_of setup g = record { output = g.world.output; answers = answers setup g; ending = ending g }
 
+abbrev told_by : Rules → Setup → List Event → Option Told
+told_by rules setup events = option_map (told_of setup) (guard_behind rules setup events)
+
 abbrev told : Setup → List Event → Option Told
-told setup events = option_map (told_of setup) (guard_behind admitting setup events)
+told = told_by admitting
 
 -- an endless loop: the check-in at the start of main, then moves
 counts : solo_events (alone counting) 6 ≡ Move 0 ∷ CheckIn 0 ∷ Move 0 ∷ Move 0 ∷ Move 0 ∷ Move 0 ∷ []
@@ -124,3 +135,127 @@ first_mark _ = NoThread
 
 second_check_in : first_mark (marks (alone calling) (Move 0 ∷ CheckIn 0 ∷ Move 0 ∷ CheckIn 0 ∷ [])) ≡ CheckInOf (codes "main") 1 1
 second_check_in = refl
+
+-- four threads serve sixteen requests, each thread in its turn
+abbrev times : ℕ → List ℕ → List ℕ
+times zero bytes = []
+times (suc n) bytes = bytes ++ times n bytes
+
+abbrev serving_with : List Answer → Told
+serving_with given =
+    record { output = times 16 (codes "served\n") ++ codes "total 136\n"; answers = given; ending = Finished (pos 0) }
+
+served : told (alone serving) (solo_events (alone serving) 1000) ≡ Some (serving_with [])
+unfolding digits
+served = refl
+
+-- and `cost` is replaced behind the eighth
+served_on : told (offered serving serving_2 8) (solo_events (offered serving serving_2 8) 1000) ≡ Some (serving_with (Installed 2 ∷ []))
+unfolding digits
+served_on = refl
+
+in_time : is_prompt admitting (offered serving serving_2 8) (solo_events (offered serving serving_2 8) 1000) ≡ true
+in_time = refl
+
+-- a patch that isn't admitted: nothing is installed, and the run goes on
+abbrev refusal : Refusal
+refusal = record { slot = 0; effect = Both (codes "h") (codes "g") }
+
+abbrev refusing : Rules
+refusing = record admitting { verdict = λ versions marks pins c i. Refused refusal }
+
+refuses : told_by refusing (offered calling calling_2 1) (solo_events (offered calling calling_2 1) 40)
+    ≡ Some (record { output = codes "start\n1\n1\n"; answers = RefusedFor refusal ∷ []; ending = Finished (pos 0) })
+unfolding digits
+refuses = refl
+
+-- answers with ids, where `g` is the first name and `h` the third
+with_ids : map (answer_seen (codes "g" ∷ codes "f" ∷ codes "h" ∷ []))
+    (ids.Installed 2 ∷ ids.Refused (record { slot = 0; effect = effect.Both 2 0 }) ∷ ids.NotPatch Versions ∷ ids.Withdrawn ∷ ids.NotOffered ∷ [])
+    ≡ Installed 2 ∷ RefusedFor refusal ∷ NoPatch Versions ∷ Withdrawn ∷ NotOffered ∷ []
+with_ids = refl
+
+-- each row's prior set meets each changed set
+abbrev pinning : Rules
+pinning = record admitting { meets_prior = λ versions mark names. true }
+
+abbrev pins : Setup → List Event → Option (List Bool)
+pins setup events = option_map (λ g. map (λ s. s.pinned) g.seats) (guard_behind pinning setup events)
+
+-- an install pins the threads that are in a transaction, until their outermost one ends
+pinned_inside : pins (offered calling calling_2 1) (solo_events (offered calling calling_2 1) 7) ≡ Some (true ∷ replicate 15 false)
+pinned_inside = refl
+
+pinned_no_more : pins (offered calling calling_2 1) (solo_events (offered calling calling_2 1) 40) ≡ Some (replicate 16 false)
+unfolding digits
+pinned_no_more = refl
+
+not_pinned_outside : pins (offered calling calling_2 0) (Move 0 ∷ Offer 1 ∷ Decide 1 ∷ []) ≡ Some (replicate 16 false)
+not_pinned_outside = refl
+
+-- a thread waits for itself, and main, which would wait for it, stands at a check-in: the run isn't at its end
+abbrev to_the_check_in : List Event
+to_the_check_in =
+    Move 0 ∷ CheckIn 0 ∷ Move 0 ∷ Move 0 ∷ Move 0 ∷ Move 1 ∷ CheckIn 1 ∷ Move 1 ∷ []
+
+stands_at_a_check_in : told (alone joining_itself) to_the_check_in ≡ Some (record { output = []; answers = []; ending = Cut })
+stands_at_a_check_in = refl
+
+stuck_behind_it : told (alone joining_itself) (to_the_check_in ++ CheckIn 0 ∷ [])
+    ≡ Some (record { output = []; answers = []; ending = Deadlock })
+stuck_behind_it = refl
+
+-- an offer is due once, and only where each earlier one was closed
+abbrev two_offers : Setup
+two_offers = record {
+  first = text calling;
+  offers = record { text = text calling_2; lines = 0 } ∷ record { text = text calling; lines = 0 } ∷ [];
+  capacity = 4096;
+}
+
+abbrev due_behind : List Event → Option ℕ
+due_behind events = option_and_then (due two_offers) (guard_behind admitting two_offers events)
+
+first_due : due_behind [] ≡ Some 1
+first_due = refl
+
+none_due_while_open : due_behind (Offer 1 ∷ []) ≡ None
+none_due_while_open = refl
+
+second_due : due_behind (Offer 1 ∷ Withdraw 1 ∷ []) ≡ Some 2
+second_due = refl
+
+none_due_behind_a_gap : due_behind (Offer 2 ∷ Decide 2 ∷ []) ≡ None
+none_due_behind_a_gap = refl
+
+passed_over : told two_offers (Offer 2 ∷ Decide 2 ∷ [])
+    ≡ Some (record { output = []; answers = NotOffered ∷ Installed 2 ∷ []; ending = Cut })
+passed_over = refl
+
+no_way_back : told two_offers (Offer 2 ∷ Decide 2 ∷ Offer 1 ∷ []) ≡ None
+no_way_back = refl
+
+-- the slots in their order behind slot 13
+in_turn : slots_behind (Some 13) ≡ 14 ∷ 15 ∷ 0 ∷ 1 ∷ 2 ∷ 3 ∷ 4 ∷ 5 ∷ 6 ∷ 7 ∷ 8 ∷ 9 ∷ 10 ∷ 11 ∷ 12 ∷ 13 ∷ []
+in_turn = refl
+
+-- the causes for which a text isn't a patch: the earlier one is told
+abbrev cause : ℕ → Option ℕ → List BareDef → ℕ → Option NotPatch
+cause versions place second tokens =
+    not_patch (λ p q. place) (replicate versions (text calling))
+    (text_with second (record { function = codes "main"; count = tokens } ∷ record { function = codes "g"; count = tokens } ∷ []))
+
+versions_first : cause 64 (Some 7) other_kind_of 131073 ≡ Some Versions
+versions_first = refl
+
+then_the_kind : cause 63 (Some 7) other_kind_of 131073 ≡ Some (Kind (codes "g"))
+then_the_kind = refl
+
+then_transformers : cause 1 (Some 7) calling_2 131073 ≡ Some (Transform 7)
+then_transformers = refl
+
+then_the_store : cause 1 None calling_2 131073 ≡ Some StoreFull
+then_the_store = refl
+
+fits_just : cause 1 None calling_2 131072 ≡ None
+fits_just = refl

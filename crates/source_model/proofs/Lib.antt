@@ -1,5 +1,8 @@
 mod Texts
+mod CornerTexts
+mod ServerText
 mod Runs
+mod Corners
 mod Changes
 mod Moved
 mod Greatest

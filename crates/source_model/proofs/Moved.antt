@@ -151,8 +151,7 @@ initialise_keeps s values (Some slot) = trapped s MutexHeld
 
 lock_keeps : (s : Standing) (name : Bytes) (values : List Value) (holder : Option ℕ) → Kept s (lock s name values holder)
 lock_keeps s name values None = goes_quiet s _ _ refl refl refl
-lock_keeps s name values (Some slot) =
-    either_way s.slot s.world (slot == s.slot) (traps s Relock) None (trapped s Relock) tt
+lock_keeps s name values (Some slot) = trapped s Relock
 
 unlock_keeps : (s : Standing) (name : Bytes) (values : List Value) (holder : Option ℕ) → Kept s (unlock s name values holder)
 unlock_keeps s name values None = trapped s NotHeld

@@ -14,14 +14,14 @@ pub record Seen : Type 0 where
   pub output : List ℕ
   pub state : State
 
-abbrev seen_of : Result → Seen
+abbrev pub seen_of : Result → Seen
 seen_of r = record { output = r.output; state = r.state }
 
-abbrev seen : List (List BareDef) → ℕ → List SourceMove → Option Seen
+abbrev pub seen : List (List BareDef) → ℕ → List SourceMove → Option Seen
 seen texts capacity moves = option_map seen_of (source_run texts capacity moves)
 
 -- n moves of thread 0
-abbrev alone : ℕ → List SourceMove
+abbrev pub alone : ℕ → List SourceMove
 alone n = replicate n (Move 0)
 
 -- a print, then a sum that overflows
@@ -97,15 +97,15 @@ waiting : seen (joining ∷ []) 4096 (alone 3 ++ Move 1 ∷ Move 0 ∷ []) ≡ N
 waiting = refl
 
 -- moves of thread 0 as long as it can move, at most n
-abbrev moved_on : (World → World) → World → Option World → World
+abbrev pub moved_on : (World → World) → World → Option World → World
 moved_on go w None = w
 moved_on go w (Some after) = go after
 
-abbrev to_the_end : ℕ → World → World
+abbrev pub to_the_end : ℕ → World → World
 to_the_end zero w = w
 to_the_end (suc n) w = moved_on (to_the_end n) w (move w 0)
 
-abbrev seen_at_the_end : ℕ → List BareDef → ℕ → Seen
+abbrev pub seen_at_the_end : ℕ → List BareDef → ℕ → Seen
 seen_at_the_end n text capacity = seen_of (result (to_the_end n (first_world text capacity)))
 
 -- loops, jumps, scopes, objects, arrays and narrow kinds

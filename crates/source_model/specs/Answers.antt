@@ -1,24 +1,10 @@
--- What is answered to an offer.
-use Rattle.std.specs.Prelude.{ℕ}
+-- What is answered to an offer, with the texts of names.
+use Rattle.std.specs.Prelude.{ℕ, List}
 use Rattle.c_tree.specs.BareExpr.{Bytes}
+use Rattle.con_freeness.specs.Verdicts.{Refusal, refusal_seen}
 use Rattle.source_model.specs.declared.patch.NotPatch.{NotPatch}
-
--- why a row doesn't admit a patch: a name that active code uses has another interface; a transaction may have used a
--- changed name and may use a changed name yet; a pinned one may use a changed name yet
-pub data Effect : Type 0 where
-  Concrete : Bytes → Effect
-  Both : (prior : Bytes) (future : Bytes) → Effect
-  Pinned : Bytes → Effect
-
--- a refusal: the least slot whose row doesn't admit, and why
-pub record Refusal : Type 0 where
-  pub slot : ℕ
-  pub effect : Effect
-
--- whether the rows in force admit a patch
-pub data Verdict : Type 0 where
-  Admitted : Verdict
-  Refused : Refusal → Verdict
+use Rattle.source_model.specs.declared.answer.OfferAnswer.{OfferAnswer}
+use Rattle.source_model.specs.declared.answer.OfferAnswer.TheVariants as ids
 
 -- the answer to an offer: installed as that version, refused, no patch, withdrawn, or never closed
 pub data Answer : Type 0 where
@@ -27,3 +13,11 @@ pub data Answer : Type 0 where
   NoPatch : NotPatch → Answer
   Withdrawn : Answer
   NotOffered : Answer
+
+-- what an answer with ids says in a table of names
+abbrev pub answer_seen : List Bytes → OfferAnswer → Answer
+answer_seen names (ids.Installed version) = Installed version
+answer_seen names (ids.Refused r) = RefusedFor (refusal_seen names r)
+answer_seen names (ids.NotPatch cause) = NoPatch cause
+answer_seen names ids.Withdrawn = Withdrawn
+answer_seen names ids.NotOffered = NotOffered

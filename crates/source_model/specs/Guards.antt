@@ -8,12 +8,13 @@ use Rattle.c_types.specs.Changes.{changed, interface}
 use Rattle.c_types.specs.Stops.{Stop, Return, Begin, End, Update}
 use Rattle.c_types.specs.Pieces.{Halt, Stopped}
 use Rattle.c_types.specs.Threads.{Frame, Enter, next_of}
+use Rattle.con_freeness.specs.Verdicts.{Verdict, Admitted, Refused}
 use Rattle.source_model.specs.declared.patch.NotPatch.{NotPatch}
 use Rattle.source_model.specs.Worlds.{World, Slot, Free, Live, Over, in_slot, first_world}
 use Rattle.source_model.specs.Runs.{install, is_live}
 use Rattle.source_model.specs.Texts.{Text}
 use Rattle.source_model.specs.Store.{Body, store, generation_by, body_in, check_in_number}
-use Rattle.source_model.specs.Answers.{Verdict, Admitted, Refused, Answer, Installed, RefusedFor, NoPatch}
+use Rattle.source_model.specs.Answers.{Answer, Installed, RefusedFor, NoPatch}
 use Rattle.source_model.specs.Patches.{last_definitions, not_patch}
 
 -- where the row in force of a slot comes from: no live thread is there; the start of a function; a check-in of a body,
@@ -58,7 +59,7 @@ pub record Setup : Type 0 where
 
 -- the admission test, over the texts of the versions so far: whether the rows of the marks admit a patch with that
 -- changed set and that interface set, where some threads are pinned; whether the prior set of a mark's row meets a
--- changed set; and the place of a transformer that doesn't fit
+-- changed set; and the place of the first transformer of a text that doesn't fit, where the text follows some definitions
 pub record Rules : Type 0 where
   pub verdict : List Text → List Mark → List Bool → List Bytes → List Bytes → Verdict
   pub meets_prior : List Text → Mark → List Bytes → Bool

@@ -120,9 +120,11 @@ abbrev pub initialise : Standing → List Value → Option ℕ → Option World
 initialise s values None = goes_on s s.world (int_of 0 ∷ values)
 initialise s values (Some slot) = traps s MutexHeld
 
+-- a lock is made only where no other slot holds the mutex (`must_wait`): a free one is taken, and one that the thread
+-- holds traps
 abbrev pub lock : Standing → Bytes → List Value → Option ℕ → Option World
 lock s name values None = goes_on s (with_holder name s.slot s.world) (int_of 0 ∷ values)
-lock s name values (Some slot) = if slot == s.slot then traps s Relock else None
+lock s name values (Some slot) = traps s Relock
 
 abbrev pub unlock : Standing → Bytes → List Value → Option ℕ → Option World
 unlock s name values None = traps s NotHeld
@@ -228,7 +230,7 @@ perform Begin s values = begin_at s s.thread.depth (gone_on s values)
 perform End s values = end_at s s.thread.depth (gone_on s values)
 perform Update s values = goes_on s s.world values
 
--- whether a stop must wait: a lock that another slot holds (a join waits by what `join` says)
+-- whether a stop must wait: the lock of a mutex that another slot holds (a join waits by what `join` says)
 abbrev pub is_others : ℕ → Option ℕ → Bool
 is_others slot None = false
 is_others slot (Some holder) = not (holder == slot)

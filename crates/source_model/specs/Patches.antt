@@ -60,8 +60,8 @@ is_full bodies = nat_lt check_in_limit (all_check_ins bodies) || nat_lt token_li
 abbrev pub cause_if : Bool → NotPatch → Option NotPatch
 cause_if test cause = if test then Some cause else None
 
--- the first cause for which a text isn't a patch, where there is one. Where a transformer of it doesn't fit its old and
--- new definitions is told by `wrong`
+-- the first cause for which a text isn't a patch, where there is one. The place of its first transformer that doesn't
+-- fit its old and new definitions is told by `wrong`
 abbrev pub not_patch : (List BareDef → Text → Option ℕ) → List Text → Text → Option NotPatch
 not_patch wrong versions q =
     let p = last_definitions versions in

@@ -12,10 +12,12 @@ pub record Tokens : Type 0 where
   pub function : Bytes
   pub count : ℕ
 
--- a text: its definitions in order, and the numbers of tokens of its functions
+-- a text: its definitions in order, the numbers of tokens of its functions, and the tree from which both come, whose
+-- places tell where a fault stands
 pub record Text : Type 0 where
   pub definitions : List BareDef
   pub tokens : List Tokens
+  pub tree : Program
 
 abbrev pub tokens_of_kind : DefKind → Option Tokens
 tokens_of_kind (Function f) = Some (record { function = f.name.text; count = f.tokens })
@@ -33,4 +35,5 @@ abbrev pub text_of : Program → Text
 text_of p = record {
   definitions = map bare_def p.definitions;
   tokens = filter_map (λ d. tokens_of_kind d.kind) p.definitions;
+  tree = p;
 }

@@ -7,12 +7,14 @@
 //! `Patches`, `Answers`, `Guards` and `Journals` for check-ins and offers. `Laws`, `EvaluationLaws` and `JournalLaws` say what shows that
 //! they mean what is meant, and the calls of `laws` carry them. In `proofs/` small texts are run by the definitions.
 //!
-//! Read in this order: `patch` (why a text is no patch), `laws`.
+//! Read in this order: `patch` (why a text is no patch), `answer` (what is answered to an offer), `laws`.
 #![tactic(auto)]
 
+mod answer;
 mod laws;
 mod patch;
 
+pub use answer::OfferAnswer;
 pub use laws::{
     current_version_is_greatest, entries_stay_apart, equal_bodies_are_equal, install_keeps_frames,
     interface_set_lies_in_changed_set, journal_is_a_run, local_evaluation_ends,

@@ -1,0 +1,268 @@
+-- What is found by a table is the first of its list.
+use Rattle.std.proofs.Common.{◌≡◌, ℕ, zero, suc, ◌+◌, ◌<◌, ◌≤◌, Bool, true, false, not, ◌||◌, ltb, List, [], ◌∷◌, ◌++◌, map, take, drop, length, get_or, Option, None, Some, is_some, is_none, refl, sym, ap, subst, ◌∙◌, arith, bytes_eq, if◌then◌else◌, option_map, option_and_then, slice_get}
+use Rattle.std.specs.Option.{option_or}
+use Rattle.std.proofs.lemmas.Bool.Decides.{nat_tests}
+use Rattle.std.proofs.lemmas.List.{at_drop_more}
+use Rattle.std.proofs.lemmas.Option.{slice_get-map}
+use Rattle.std.specs.List.{find, list_any}
+use Rattle.c_scope.specs.Tables.{look_up, look_up_first, innermost, declared}
+use Rattle.c_scope.proofs.NameLemmas.{bytes_same, same_bytes}
+use Rattle.c_tree.specs.BareExpr.{Bytes}
+use Rattle.c_tree.specs.declared.name.CType.{CType}
+use Rattle.c_tree.specs.declared.def.Binding.{Binding}
+use Rattle.c_tree.specs.declared.def.Def.{Def}
+use Rattle.c_tree.specs.declared.def.DefKind.{DefKind}
+use Rattle.c_tree.specs.declared.def.DefKind.TheVariants as kind
+use Rattle.c_types.specs.declared.key.Key.TheVariants as by
+use Rattle.c_types.specs.Expressions.{member}
+use Rattle.c_types.specs.Lookup.{name_of, is_named, defines_tag, declares_tag, definition_of, struct_of, members_in, members_of, is_tag}
+use Rattle.c_types.specs.Index.{is_key, key_of, keys, place_of, stands_before, noted, entered, table_of, own_members, member_keys, member_tables}
+
+module _ {T : Type 0} where
+  or_none : (o : Option T) → option_or o None ≡ o
+  or_none None = refl
+  or_none (Some x) = refl
+
+  or_in_turn : (a b c : Option T) → option_or (option_or a b) c ≡ option_or a (option_or b c)
+  or_in_turn None b c = refl
+  or_in_turn (Some x) b c = refl
+
+  looked_behind : (table : List (Bytes × T)) (name : Bytes) (value : T) (other : Bytes) →
+      look_up (table ++ (name, value) ∷ []) other ≡ option_or (look_up table other) (if bytes_eq other name then Some value else None)
+  looked_behind [] name value other = refl
+  looked_behind (d ∷ ds) name value other = by (bytes_eq other d.0) (looked_behind ds name value other)
+    where
+      by : (b : Bool) → look_up (ds ++ (name, value) ∷ []) other ≡ option_or (look_up ds other) (if bytes_eq other name then Some value else None) →
+          (if b then Some d.1 else look_up (ds ++ (name, value) ∷ []) other) ≡ option_or (if b then Some d.1 else look_up ds other) (if bytes_eq other name then Some value else None)
+      by true rest = refl
+      by false rest = rest
+
+  -- one table with a name more, unless it has it
+  pub one_more : Bytes → T → List (Bytes × T) → List (Bytes × T)
+  one_more name value table = if is_some (look_up table name) then table else table ++ (name, value) ∷ []
+
+  pub one_more_is : (table : List (Bytes × T)) (name : Bytes) (value : T) →
+      (if is_some (look_up table name) then table ∷ [] else declared (table ∷ []) name value) ≡ one_more name value table ∷ []
+  unfolding one_more
+  one_more_is table name value = by (is_some (look_up table name))
+    where
+      by : (b : Bool) → (if b then table ∷ [] else (table ++ (name, value) ∷ []) ∷ []) ≡ (if b then table else table ++ (name, value) ∷ []) ∷ []
+      by true = refl
+      by false = refl
+
+  pub looked_more : (table : List (Bytes × T)) (name : Bytes) (value : T) (other : Bytes) →
+      look_up (one_more name value table) other ≡ option_or (look_up table other) (if bytes_eq other name then Some value else None)
+  unfolding one_more
+  looked_more table name value other = by (look_up table name) refl (bytes_eq other name) refl
+    where
+      by : (o : Option T) → look_up table name ≡ o → (b : Bool) → bytes_eq other name ≡ b →
+          look_up (if is_some o then table else table ++ (name, value) ∷ []) other ≡ option_or (look_up table other) (if b then Some value else None)
+      by None is b same = looked_behind table name value other ∙ ap (λ x. option_or (look_up table other) (if x then Some value else None)) same
+      by (Some v) is true same =
+          let here : look_up table other ≡ Some v = ap (look_up table) (bytes_same other name same) ∙ is in
+          here ∙ sym (ap (λ o. option_or o (Some value)) here)
+      by (Some v) is false same = sym (or_none (look_up table other))
+
+on_from : (n : ℕ) (o : Option ℕ) → option_map (λ i. suc n + i) o ≡ option_map (λ i. n + i) (option_map suc o)
+on_from n None = refl
+on_from n (Some i) = ap Some (omega arith)
+
+from_here : (n : ℕ) (b : Bool) (o : Option ℕ) →
+    option_or (if b then Some n else None) (option_map (λ i. suc n + i) o) ≡ option_map (λ i. n + i) (if b then Some 0 else option_map suc o)
+from_here n true o = ap Some (omega arith)
+from_here n false o = on_from n o
+
+pub entered_looked : (ks : List (Option Bytes)) (n : ℕ) (table : List (Bytes × ℕ)) (name : Bytes) →
+    innermost (entered ks n (table ∷ [])) name ≡ option_or (look_up table name) (option_map (λ i. n + i) (place_of name ks))
+entered_looked [] n table name = refl
+entered_looked (None ∷ ks) n table name =
+    entered_looked ks (suc n) table name ∙ ap (option_or (look_up table name)) (on_from n (place_of name ks))
+entered_looked (Some k ∷ ks) n table name =
+    ap (λ ts. innermost (entered ks (suc n) ts) name) (one_more_is table k n)
+    ∙ entered_looked ks (suc n) (one_more k n table) name
+    ∙ ap (λ o. option_or o (option_map (λ i. suc n + i) (place_of name ks))) (looked_more table k n name)
+    ∙ or_in_turn (look_up table name) (if bytes_eq name k then Some n else None) (option_map (λ i. suc n + i) (place_of name ks))
+    ∙ ap (option_or (look_up table name)) (from_here n (bytes_eq name k) (place_of name ks))
+
+from_zero : (o : Option ℕ) → option_map (λ i. 0 + i) o ≡ o
+from_zero None = refl
+from_zero (Some i) = ap Some (omega arith)
+
+-- the table has the first place of each name
+pub table_looked : (ks : List (Option Bytes)) (name : Bytes) → innermost (table_of ks) name ≡ place_of name ks
+table_looked ks name = entered_looked ks 0 [] name ∙ from_zero (place_of name ks)
+
+none_before : (o : Option ℕ) → stands_before o 0 ≡ false
+none_before None = refl
+none_before (Some first) = grind (arith, nat_tests)
+
+both_less : (a b : ℕ) → ltb (suc a) (suc b) ≡ ltb a b
+both_less a b = grind (arith, nat_tests)
+
+module _ {A : Type 0} (f : A → Option Bytes) (name : Bytes) where
+  -- what stands at the first place of a name is the first of that name
+  pub found : (xs : List A) → option_and_then (slice_get xs) (place_of name (map f xs)) ≡ find (λ x. is_key name (f x)) xs
+  found [] = refl
+  found (x ∷ xs) = by (is_key name (f x)) (place_of name (map f xs)) (found xs)
+    where
+      by : (b : Bool) (o : Option ℕ) → option_and_then (slice_get xs) o ≡ find (λ y. is_key name (f y)) xs →
+          option_and_then (slice_get (x ∷ xs)) (if b then Some 0 else option_map suc o) ≡ (if b then Some x else find (λ y. is_key name (f y)) xs)
+      by true o rest = refl
+      by false None rest = rest
+      by false (Some i) rest = rest
+
+  -- one of that name stands before a place
+  pub found_before : (xs : List A) (place : ℕ) → stands_before (place_of name (map f xs)) place ≡ list_any (is_key name) (map f (take place xs))
+  found_before [] zero = refl
+  found_before [] (suc place) = refl
+  found_before (x ∷ xs) zero = none_before (place_of name (map f (x ∷ xs)))
+  found_before (x ∷ xs) (suc place) = by (is_key name (f x)) (place_of name (map f xs)) (found_before xs place)
+    where
+      by : (b : Bool) (o : Option ℕ) → stands_before o place ≡ list_any (is_key name) (map f (take place xs)) →
+          stands_before (if b then Some 0 else option_map suc o) (suc place) ≡ (b || list_any (is_key name) (map f (take place xs)))
+      by true o rest = grind (arith, nat_tests)
+      by false None rest = rest
+      by false (Some i) rest = both_less i place ∙ rest
+
+  -- some are of that name
+  pub found_some : (xs : List A) → is_some (place_of name (map f xs)) ≡ list_any (λ x. is_key name (f x)) xs
+  found_some [] = refl
+  found_some (x ∷ xs) = by (is_key name (f x)) (place_of name (map f xs)) (found_some xs)
+    where
+      by : (b : Bool) (o : Option ℕ) → is_some o ≡ list_any (λ y. is_key name (f y)) xs →
+          is_some (if b then Some 0 else option_map suc o) ≡ (b || list_any (λ y. is_key name (f y)) xs)
+      by true o rest = refl
+      by false None rest = rest
+      by false (Some i) rest = rest
+
+-- one step along a list whose names are noted
+pub step : {A : Type 0} (f : A → Option Bytes) (xs : List A) (i : ℕ) (x : A) (tables next : List (List (Bytes × ℕ))) → i < length xs →
+    x ≡ get_or xs i x → next ≡ noted (f x) i tables →
+    entered (map f (drop (i + 1) xs)) (i + 1) next ≡ entered (map f (drop i xs)) i tables
+step f xs i x tables next below is made =
+    ap (λ n. entered (map f (drop (i + 1) xs)) n next) (omega arith)
+    ∙ ap (entered (map f (drop (i + 1) xs)) (suc i)) made
+    ∙ ap (λ y. entered (map f (drop (i + 1) xs)) (suc i) (noted (f y) i tables)) is
+    ∙ sym (at_drop_more (λ ys. entered (map f ys) i tables) xs i x below)
+
+-- definitions that two tests tell alike
+module _ (p q : Def → Bool) (alike : (d : Def) → p d ≡ q d) where
+  same_find : (ds : List Def) → find p ds ≡ find q ds
+  same_find [] = refl
+  same_find (d ∷ ds) =
+      ap (λ b. if b then Some d else find p ds) (alike d) ∙ ap (λ o. if q d then Some d else o) (same_find ds)
+
+  same_any : (ds : List Def) → list_any p ds ≡ list_any q ds
+  same_any [] = refl
+  same_any (d ∷ ds) = ap (λ b. b || list_any p ds) (alike d) ∙ ap (λ b. q d || b) (same_any ds)
+
+named_alike : (name : Bytes) (made : DefKind) → is_key name (key_of by.Name made) ≡ is_named name (name_of made)
+named_alike name (kind.Struct tag members) = refl
+named_alike name (kind.Forward tag) = refl
+named_alike name (kind.Mutex other) = refl
+named_alike name (kind.Function f) = refl
+named_alike name (kind.Prototype p) = refl
+named_alike name (kind.Global d) = refl
+named_alike name (kind.Array a) = refl
+named_alike name (kind.TransformStruct t) = refl
+named_alike name (kind.TransformGlobal global e) = refl
+
+struct_alike : (tag : Bytes) (made : DefKind) → is_key tag (key_of by.Struct made) ≡ defines_tag tag made
+struct_alike tag (kind.Struct other members) = refl
+struct_alike tag (kind.Forward other) = refl
+struct_alike tag (kind.Mutex other) = refl
+struct_alike tag (kind.Function f) = refl
+struct_alike tag (kind.Prototype p) = refl
+struct_alike tag (kind.Global d) = refl
+struct_alike tag (kind.Array a) = refl
+struct_alike tag (kind.TransformStruct t) = refl
+struct_alike tag (kind.TransformGlobal global e) = refl
+
+tag_alike : (tag : Bytes) (made : DefKind) → is_key tag (key_of by.Tag made) ≡ declares_tag tag made
+tag_alike tag (kind.Struct other members) = refl
+tag_alike tag (kind.Forward other) = refl
+tag_alike tag (kind.Mutex other) = refl
+tag_alike tag (kind.Function f) = refl
+tag_alike tag (kind.Prototype p) = refl
+tag_alike tag (kind.Global d) = refl
+tag_alike tag (kind.Array a) = refl
+tag_alike tag (kind.TransformStruct t) = refl
+tag_alike tag (kind.TransformGlobal global e) = refl
+
+-- what is found by a name is the definition that declares it
+pub named_found : (ds : List Def) (name : Bytes) → find (λ d. is_key name (key_of by.Name d.kind)) ds ≡ definition_of ds name
+named_found ds name =
+    same_find (λ d. is_key name (key_of by.Name d.kind)) (λ d. is_named name (name_of d.kind)) (λ d. named_alike name d.kind) ds
+
+pub struct_found : (ds : List Def) (tag : Bytes) → find (λ d. is_key tag (key_of by.Struct d.kind)) ds ≡ struct_of ds tag
+struct_found ds tag =
+    same_find (λ d. is_key tag (key_of by.Struct d.kind)) (λ d. defines_tag tag d.kind) (λ d. struct_alike tag d.kind) ds
+
+pub tag_found : (ds : List Def) (tag : Bytes) → is_some (place_of tag (keys by.Tag ds)) ≡ is_tag ds tag
+tag_found ds tag =
+    found_some (λ d. key_of by.Tag d.kind) tag ds
+    ∙ same_any (λ d. is_key tag (key_of by.Tag d.kind)) (λ d. declares_tag tag d.kind) (λ d. tag_alike tag d.kind) ds
+
+-- the members that are looked at are those of the struct
+members_alike : (ds : List Def) (tag name : Bytes) →
+    option_and_then (λ d. member (own_members d.kind) name) (struct_of ds tag)
+    ≡ option_and_then (λ members. member members name) (members_of ds tag)
+members_alike [] tag name = refl
+members_alike (d ∷ ds) tag name = by d.kind (members_alike ds tag name)
+  where
+    by : (made : DefKind) →
+        option_and_then (λ d'. member (own_members d'.kind) name) (struct_of ds tag) ≡ option_and_then (λ members. member members name) (members_of ds tag) →
+        option_and_then (λ d'. member (own_members d'.kind) name) (if defines_tag tag made then Some (record { place = d.place; kind = made }) else struct_of ds tag)
+        ≡ option_and_then (λ members. member members name) (option_and_then (λ d'. members_in d'.kind) (if defines_tag tag made then Some (record { place = d.place; kind = made }) else struct_of ds tag))
+    by (kind.Struct other members) rest = inside (bytes_eq tag other.text)
+      where
+        inside : (b : Bool) →
+            option_and_then (λ d'. member (own_members d'.kind) name) (if b then Some (record { place = d.place; kind = kind.Struct other members }) else struct_of ds tag)
+            ≡ option_and_then (λ ms. member ms name) (option_and_then (λ d'. members_in d'.kind) (if b then Some (record { place = d.place; kind = kind.Struct other members }) else struct_of ds tag))
+        inside true = refl
+        inside false = rest
+    by (kind.Forward other) rest = rest
+    by (kind.Mutex other) rest = rest
+    by (kind.Function f) rest = rest
+    by (kind.Prototype p) rest = rest
+    by (kind.Global d') rest = rest
+    by (kind.Array a) rest = rest
+    by (kind.TransformStruct t) rest = rest
+    by (kind.TransformGlobal global e) rest = rest
+
+pub struct_member : (ds : List Def) (tag name : Bytes) →
+    option_and_then (λ d. member (own_members d.kind) name) (option_and_then (slice_get ds) (place_of tag (keys by.Struct ds)))
+    ≡ option_and_then (λ members. member members name) (members_of ds tag)
+struct_member ds tag name =
+    ap (option_and_then (λ d. member (own_members d.kind) name)) (found (λ d. key_of by.Struct d.kind) tag ds ∙ struct_found ds tag)
+    ∙ members_alike ds tag name
+
+-- a member is found by the table of its struct
+pub member_found : (ds : List Def) (place : ℕ) (d : Def) (tables : List (List (List (Bytes × ℕ)))) (number : Option ℕ) (name : Bytes) →
+    slice_get ds place ≡ Some d → tables ≡ member_tables ds →
+    number ≡ option_and_then (λ t. innermost t name) (slice_get tables place) →
+    option_map (λ b. b.declared) (option_and_then (slice_get (own_members d.kind)) number) ≡ member (own_members d.kind) name
+member_found ds place d tables number name at are is =
+    let members : List Binding = own_members d.kind in
+    ap (λ n. option_map (λ b. b.declared) (option_and_then (slice_get members) n))
+    (is
+    ∙ ap (λ ts. option_and_then (λ t. innermost t name) (slice_get ts place)) are
+    ∙ ap (option_and_then (λ t. innermost t name)) (slice_get-map (λ d'. table_of (member_keys (own_members d'.kind))) ds place)
+    ∙ ap (λ o. option_and_then (λ t. innermost t name) (option_map (λ d'. table_of (member_keys (own_members d'.kind))) o)) at
+    ∙ table_looked (member_keys members) name)
+    ∙ ap (option_map (λ b. b.declared)) (found (λ b. Some b.name.text) name members)
+
+-- a member is found by the tables of all definitions
+pub members_found : (ds : List Def) (place : Option ℕ) (tables : List (List (List (Bytes × ℕ)))) (number : Option ℕ) (name : Bytes) →
+    tables ≡ member_tables ds →
+    number ≡ option_and_then (λ t. innermost t name) (option_and_then (slice_get tables) place) →
+    option_and_then (λ d. option_map (λ b. b.declared) (option_and_then (slice_get (own_members d.kind)) number)) (option_and_then (slice_get ds) place)
+    ≡ option_and_then (λ d. member (own_members d.kind) name) (option_and_then (slice_get ds) place)
+members_found ds None tables number name are is = refl
+members_found ds (Some place) tables number name are is = by (slice_get ds place) refl
+  where
+    by : (o : Option Def) → slice_get ds place ≡ o →
+        option_and_then (λ d. option_map (λ b. b.declared) (option_and_then (slice_get (own_members d.kind)) number)) o
+        ≡ option_and_then (λ d. member (own_members d.kind) name) o
+    by None at = refl
+    by (Some d) at = member_found ds place d tables number name at are is

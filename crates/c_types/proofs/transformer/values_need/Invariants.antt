@@ -1,0 +1,9 @@
+use Rattle.std.proofs.Common.{◌≡◌, ◌≤◌, length, map, drop, min}
+use Rattle.c_types.specs.Need.{greatest, need}
+use Rattle.c_types.proofs.transformer.values_need.Given as goal
+
+abbrev pub invariant-loop-i : goal.invariant-loop-i
+invariant-loop-i l = (l.i ≤ length l.values) × (l.most ≡ min (greatest (map (λ v. need v.value) (drop l.i l.values))) 65)
+
+abbrev pub decreases-loop-i : goal.decreases-loop-i
+decreases-loop-i l = l.i

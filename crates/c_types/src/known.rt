@@ -1,0 +1,259 @@
+ghost use Rattle.std.specs.Prelude.{◌≡◌, ◌+◌, [], ◌∷◌, IfOk, OnOk, take, option_copied, option_and_then, option_map};
+ghost use Rattle.std.specs.List.{find, list_any, slice_get};
+ghost use Rattle.c_scope.specs.Tables.{innermost};
+ghost use Rattle.c_types.specs.Expressions.{member};
+ghost use Rattle.c_types.specs.Index.{is_key, key_of, keys, member_keys, member_tables, noted, own_members, place_of, stands_before, table_of};
+ghost use Rattle.c_types.specs.Lookup.{definition_of, is_known, is_tag, members_of, struct_of};
+
+use crate::key::{Key, key_of};
+use crate::lookup::members_in;
+use c_scope::Scopes;
+use c_tree::{Binding, CType, Def, DefKind};
+use dsu_io::{List, Text};
+use std::alloc::{AllocError, Global};
+use std::marker::Model;
+
+/// The definitions of a text, with tables of their names. Contracts see the list of the definitions; a name is found
+/// by one look into a table, however long the text is.
+#[derive(Drop)]
+pub struct Known<'a> {
+    definitions: &'a [Def],
+    names: Scopes<usize>,
+    structs: Scopes<usize>,
+    tags: Scopes<usize>,
+    struct_transformers: Scopes<usize>,
+    global_transformers: Scopes<usize>,
+    /// For each definition the members that it declares.
+    members: Vec<Scopes<usize>>,
+}
+
+impl<'a> Model for Known<'a> {
+    ghost use Rattle.std.specs.Prelude.{List as ListOf};
+    ghost use Rattle.c_tree.specs.declared.def.Def.{Def};
+    ghost use Rattle.std.specs.Coded.{codes};
+    ghost use Rattle.c_tree.specs.contracts.def.Def as def;
+    ghost use Rattle.c_types.specs.Index.{IsIndex};
+
+    ghost Value = { ListOf Def };
+
+    ghost coded = { Prim.hlevel (codes, def.the_row.coded) };
+
+    ghost view = { λ k. k.definitions.now };
+
+    ghost invariant = { λ k. IsIndex k.definitions.now k.names k.structs k.tags k.struct_transformers k.global_transformers k.members.items };
+}
+
+/// Gives a name, if there is one, its place in the table, unless the table has it.
+fn note(table: &mut Scopes<usize>, name: Option<&Text>, place: usize) -> Result<(), AllocError>
+    ensures { OnOk result (table.new ≡ noted (option_copied name.entry) place table.old) }
+{
+    if let Some(name) = name {
+        table.declare(name.as_str(), place)?;
+    }
+    Ok(())
+}
+
+/// Of what definitions are found by, the first place of each.
+fn table_of(alloc: Global, by: Key, definitions: &[Def]) -> Result<Scopes<usize>, AllocError>
+    ensures { IfOk result (λ table. table ≡ table_of (keys by definitions.now)) }
+{
+    let mut table = Scopes::new(alloc);
+    for place in 0..definitions.len() {
+        note(&mut table, key_of(by, &definitions[place].kind), place)?;
+    }
+    Ok(table)
+}
+
+/// Of the names of members, the first place of each.
+fn member_table(alloc: Global, members: &[Binding]) -> Result<Scopes<usize>, AllocError>
+    ensures { IfOk result (λ table. table ≡ table_of (member_keys members.now)) }
+{
+    let mut table = Scopes::new(alloc);
+    for place in 0..members.len() {
+        note(&mut table, Some(&members[place].name.text), place)?;
+    }
+    Ok(table)
+}
+
+/// For each definition the table of its members.
+fn member_tables(alloc: Global, definitions: &[Def]) -> Result<Vec<Scopes<usize>>, AllocError>
+    ensures { IfOk result (λ tables. tables.items ≡ member_tables definitions.now) }
+{
+    let mut tables = Vec::new(alloc);
+    for definition in definitions {
+        tables.push(member_table(alloc, own_members(&definition.kind))?)?;
+    }
+    Ok(tables)
+}
+
+/// The members of a struct's definition; of another none.
+fn own_members(kind: &DefKind) -> &[Binding]
+    ensures { result.now ≡ own_members kind.now }
+{
+    match members_in(kind) {
+        Some(members) => members.as_slice(),
+        None => &[],
+    }
+}
+
+impl<'a> Known<'a> {
+    /// Of a text's definitions.
+    pub(crate) fn of(alloc: Global, definitions: &'a [Def]) -> Result<Known<'a>, AllocError>
+        ensures { IfOk result (λ known. known ≡ definitions.now) }
+    {
+        Ok(Known {
+            definitions,
+            names: table_of(alloc, Key::Name, definitions)?,
+            structs: table_of(alloc, Key::Struct, definitions)?,
+            tags: table_of(alloc, Key::Tag, definitions)?,
+            struct_transformers: table_of(alloc, Key::StructTransformer, definitions)?,
+            global_transformers: table_of(alloc, Key::GlobalTransformer, definitions)?,
+            members: member_tables(alloc, definitions)?,
+        })
+    }
+
+    /// The definitions themselves.
+    pub(crate) fn definitions(&self) -> &'a [Def]
+        ensures { result.now ≡ self.now }
+    {
+        self.definitions
+    }
+
+    /// The first place of each name that definitions are found by.
+    fn table(&self, by: Key) -> &Scopes<usize>
+        ensures { result.now ≡ table_of (keys by self.now) }
+    {
+        match by {
+            Key::Name => &self.names,
+            Key::Struct => &self.structs,
+            Key::Tag => &self.tags,
+            Key::StructTransformer => &self.struct_transformers,
+            Key::GlobalTransformer => &self.global_transformers,
+        }
+    }
+
+    /// The first place of a definition that is found by a name.
+    #[tactic(auto, using(crate::proofs::Index::table_looked))]
+    fn place_of(&self, by: Key, name: &str) -> Option<usize>
+        ensures { result ≡ place_of name.now (keys by self.now) }
+    {
+        self.table(by).find(name).copied()
+    }
+
+    /// The definition at a place.
+    fn at(&self, place: Option<usize>) -> Option<&'a Def>
+        ensures { option_copied result ≡ option_and_then (slice_get self.now) place }
+    {
+        match place {
+            Some(place) => self.definitions().get(place),
+            None => None,
+        }
+    }
+
+    /// The first definition that is found by a name.
+    fn found(&self, by: Key, name: &str) -> Option<&'a Def>
+        ensures { option_copied result ≡ find (λ d. is_key name.now (key_of by d.kind)) self.now }
+    {
+        self.at(self.place_of(by, name))
+    }
+
+    /// Whether a definition before a place is found by a name.
+    pub(crate) fn is_found_before(&self, by: Key, name: &str, place: usize) -> bool
+        ensures { result ≡ list_any (is_key name.now) (keys by (take place self.now)) }
+    {
+        stands_before(self.place_of(by, name), place)
+    }
+
+    /// The first definition that declares a name.
+    #[tactic(auto, using(crate::proofs::Index::named_found))]
+    pub(crate) fn definition_of(&self, name: &str) -> Option<&'a Def>
+        ensures { option_copied result ≡ definition_of self.now name.now }
+    {
+        self.found(Key::Name, name)
+    }
+
+    /// Whether a tag is declared.
+    #[tactic(auto, using(crate::proofs::Index::tag_found))]
+    pub(crate) fn is_tag(&self, tag: &str) -> bool
+        ensures { result ≡ is_tag self.now tag.now }
+    {
+        self.place_of(Key::Tag, tag).is_some()
+    }
+
+    /// Whether a type's tag is declared; an integer type and `thrd_t` have none.
+    pub(crate) fn is_known(&self, declared: &CType) -> bool
+        ensures { result ≡ is_known self.now declared.now }
+    {
+        match declared {
+            CType::Handle(tag) => self.is_tag(tag.text.as_str()),
+            CType::Integer(_) => true,
+            CType::Thread => true,
+        }
+    }
+
+    /// The first definition of a tag's struct.
+    #[tactic(auto, using(crate::proofs::Index::struct_found))]
+    fn struct_of(&self, tag: &str) -> Option<&'a Def>
+        ensures { option_copied result ≡ struct_of self.now tag.now }
+    {
+        self.found(Key::Struct, tag)
+    }
+
+    /// The members of a tag's struct, where it is defined.
+    pub(crate) fn members_of(&self, tag: &str) -> Option<&'a List<Binding>>
+        ensures { option_copied result ≡ members_of self.now tag.now }
+    {
+        let def = self.struct_of(tag)?;
+        members_in(&def.kind)
+    }
+
+    /// The type of a member of the definition at a place.
+    fn member_at(&self, place: Option<usize>, name: &str) -> Option<&'a CType>
+        ensures { option_copied result ≡ option_and_then (λ d. member (own_members d.kind) name.now) (option_and_then (slice_get self.now) place) }
+    {
+        let number = number_in(self.members.as_slice(), place, name);
+        declared_in(self.at(place), number)
+    }
+
+    /// The type of a member of a tag's struct.
+    pub(crate) fn member(&self, tag: &str, name: &str) -> Option<&'a CType>
+        ensures { option_copied result ≡ option_and_then (λ members. member members name.now) (members_of self.now tag.now) }
+    {
+        self.member_at(self.place_of(Key::Struct, tag), name)
+    }
+}
+
+/// Whether the first is a place, and before the other.
+fn stands_before(first: Option<usize>, place: usize) -> bool
+    ensures { result ≡ stands_before first place }
+{
+    match first {
+        Some(first) => first < place,
+        None => false,
+    }
+}
+
+/// What the table at a place has for a name.
+fn number_in(tables: &[Scopes<usize>], place: Option<usize>, name: &str) -> Option<usize>
+    ensures { result ≡ option_and_then (λ table. innermost table name.now) (option_and_then (slice_get tables.now) place) }
+{
+    tables.get(place?)?.find(name).copied()
+}
+
+/// The type of the member of a number.
+fn declared_at(members: &[Binding], number: Option<usize>) -> Option<&CType>
+    ensures { option_copied result ≡ option_map (λ b. b.declared) (option_and_then (slice_get members.now) number) }
+{
+    let binding = members.get(number?)?;
+    Some(&binding.declared)
+}
+
+/// The type of the member of a number of a definition.
+fn declared_in(definition: Option<&Def>, number: Option<usize>) -> Option<&CType>
+    ensures { option_copied result ≡ option_and_then (λ d. option_map (λ b. b.declared) (option_and_then (slice_get (own_members d.kind)) number)) (option_copied definition.entry) }
+{
+    match definition {
+        Some(definition) => declared_at(own_members(&definition.kind), number),
+        None => None,
+    }
+}

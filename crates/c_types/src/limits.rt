@@ -1,0 +1,22 @@
+//! The limits of a text. What goes past one is told at the first token of its definition.
+
+/// Tokens of a function, from its result type to its closing brace.
+pub(crate) const MOST_TOKENS: u32 = 4096;
+
+/// Parameters of a function.
+pub(crate) const MOST_PARAMETERS: usize = 8;
+
+/// Variables of a function, its parameters with them.
+pub(crate) const MOST_VARIABLES: usize = 64;
+
+/// Fields of a struct.
+pub(crate) const MOST_FIELDS: usize = 16;
+
+/// The operand need of an expression.
+pub(crate) const MOST_NEED: u32 = 64;
+
+/// Names of a text.
+pub(crate) const MOST_NAMES: usize = 2048;
+
+/// The length of an array.
+pub(crate) const LONGEST_ARRAY: i128 = 65_536;

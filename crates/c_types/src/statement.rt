@@ -1,0 +1,204 @@
+ghost use Rattle.std.specs.Prelude.{◌≡◌, ◌++◌, IfOk, OnOk, not};
+ghost use Rattle.std.specs.Option.{option_or};
+ghost use Rattle.c_types.specs.Expressions.{fits, is_condition};
+ghost use Rattle.c_types.specs.Faults.{first};
+ghost use Rattle.c_types.specs.Found.{is_evaluated};
+ghost use Rattle.c_types.specs.Lookup.{declare, is_repeated};
+ghost use Rattle.c_types.specs.Statements.{declared, evaluated, jump, left, optional, part_in, returned, value_returned};
+ghost use Rattle.c_types.specs.Views.{around_seen};
+
+use crate::expression::{fits, unknown_tag};
+use crate::fault::{Fault, TypeKind, sooner, unless};
+use crate::found::Part;
+use crate::known::Known;
+use crate::look::look;
+use crate::lookup::{Names, Position};
+use c_scope::Scopes;
+use c_tree::{CType, Declaration, Expr};
+use std::alloc::{AllocError, Global};
+
+/// What a `break` or `continue` at a place belongs to.
+#[derive(Clone, Copy, Debug, PartialEq, Eq)]
+pub enum Loop {
+    /// No loop encloses the place.
+    Outside,
+    /// A loop that stands in the innermost transaction round the place, or there is none.
+    Within,
+    /// A loop that the innermost transaction stands in.
+    Beyond,
+}
+
+/// What surrounds a statement, but for the scopes.
+#[derive(Clone, Copy)]
+pub struct Around<'a> {
+    pub text: &'a Known<'a>,
+    /// The type of the function's result; `None` where it is void.
+    pub result: &'a Option<CType>,
+    pub loops: Loop,
+    pub in_transaction: bool,
+}
+
+/// What an expression in a function is found to be.
+fn seen(
+    alloc: Global,
+    around: &Around,
+    scopes: &Scopes<CType>,
+    expr: &Expr,
+) -> Result<Part, AllocError>
+    ensures { IfOk result (λ part. part ≡ part_in (around_seen around.now scopes.now) expr.now) }
+{
+    let names = Names {
+        text: around.text,
+        scopes,
+        position: Position::InFunction,
+    };
+    look(alloc, &names, expr)
+}
+
+/// What is wrong with a test.
+pub(crate) fn tested(
+    alloc: Global,
+    around: &Around,
+    scopes: &Scopes<CType>,
+    expr: &Expr,
+) -> Result<Option<Fault>, AllocError>
+    ensures { IfOk result (λ fault. fault ≡ first (evaluated is_condition (around_seen around.now scopes.now) expr.now)) }
+{
+    let part = seen(alloc, around, scopes, expr)?;
+    Ok(part.required(part.found.has_scalar()))
+}
+
+/// What is wrong with an expression that may be without a value.
+pub(crate) fn stood(
+    alloc: Global,
+    around: &Around,
+    scopes: &Scopes<CType>,
+    expr: &Expr,
+) -> Result<Option<Fault>, AllocError>
+    ensures { IfOk result (λ fault. fault ≡ first (evaluated is_evaluated (around_seen around.now scopes.now) expr.now)) }
+{
+    let part = seen(alloc, around, scopes, expr)?;
+    Ok(part.required(part.found.is_evaluated()))
+}
+
+/// What is wrong with a value that is converted to a type.
+pub(crate) fn given(
+    alloc: Global,
+    around: &Around,
+    scopes: &Scopes<CType>,
+    to: &CType,
+    expr: &Expr,
+) -> Result<Option<Fault>, AllocError>
+    ensures { IfOk result (λ fault. fault ≡ first (evaluated (fits around.now.text.now to.now) (around_seen around.now scopes.now) expr.now)) }
+{
+    let part = seen(alloc, around, scopes, expr)?;
+    Ok(part.required(fits(around.text, to, &part.found)))
+}
+
+/// What is wrong with a `break` or `continue`.
+pub(crate) fn jump(loops: Loop, at: usize) -> Option<Fault>
+    ensures { result ≡ first (jump loops at) }
+{
+    match loops {
+        Loop::Outside => unless(false, TypeKind::OutsideLoop, at),
+        Loop::Within => None,
+        Loop::Beyond => unless(false, TypeKind::LeavesTransaction, at),
+    }
+}
+
+/// What is wrong with `return;`.
+pub(crate) fn returned(around: &Around, scopes: &Scopes<CType>, at: usize) -> Option<Fault>
+    ensures { result ≡ first (returned around.now.result.now at ++ left (around_seen around.now scopes.now) at) }
+{
+    let no_value = match around.result {
+        None => None,
+        Some(_) => unless(false, TypeKind::WrongType, at),
+    };
+    let left = unless(!around.in_transaction, TypeKind::LeavesTransaction, at);
+    sooner(no_value, left)
+}
+
+/// What is wrong with `return e;`.
+pub(crate) fn value_returned(
+    alloc: Global,
+    around: &Around,
+    scopes: &Scopes<CType>,
+    at: usize,
+    expr: &Expr,
+) -> Result<Option<Fault>, AllocError>
+    ensures { IfOk result (λ fault. fault ≡ first (left (around_seen around.now scopes.now) at
+        ++ value_returned around.now.result.now at (around_seen around.now scopes.now) expr.now)) }
+{
+    let left = unless(!around.in_transaction, TypeKind::LeavesTransaction, at);
+    let value = match around.result {
+        None => sooner(
+            unless(false, TypeKind::WrongType, at),
+            stood(alloc, around, scopes, expr)?,
+        ),
+        Some(declared) => given(alloc, around, scopes, declared, expr)?,
+    };
+    Ok(sooner(left, value))
+}
+
+/// Faults of parts hide those of the whole.
+pub(crate) fn hiding(parts: Option<Fault>, whole: Option<Fault>) -> Option<Fault>
+    ensures { result ≡ option_or parts whole }
+{
+    parts.or(whole)
+}
+
+/// Adds a variable to the innermost block, unless that has one of its name; tells whether it was added.
+pub(crate) fn add(
+    scopes: &mut Scopes<CType>,
+    name: &str,
+    declared: CType,
+) -> Result<bool, AllocError>
+    ensures told { IfOk result (λ is_new. is_new ≡ not (is_repeated name.now scopes.old)) }
+    ensures scopes { OnOk result (scopes.new ≡ declare name.now declared scopes.old) }
+{
+    scopes.declare(name, declared)
+}
+
+/// What is wrong with an initialiser that may be absent.
+fn initial(
+    alloc: Global,
+    around: &Around,
+    scopes: &Scopes<CType>,
+    to: &CType,
+    expr: &Option<Expr>,
+) -> Result<Option<Fault>, AllocError>
+    ensures { IfOk result (λ fault. fault ≡ first (optional (fits around.now.text.now to.now) (around_seen around.now scopes.now) expr.now)) }
+{
+    match expr {
+        Some(expr) => given(alloc, around, scopes, to, expr),
+        None => Ok(None),
+    }
+}
+
+/// What is wrong with a declaration in a block. Behind it the innermost block has the variable, unless
+/// it had one of that name.
+#[tactic(auto, using(crate::proofs::Firsts::first_append, crate::proofs::Firsts::first_hiding))]
+pub(crate) fn declared(
+    alloc: Global,
+    around: &Around,
+    scopes: &mut Scopes<CType>,
+    declaration: &Declaration,
+) -> Result<Option<Fault>, AllocError>
+    ensures fault { IfOk result (λ fault. fault ≡ first (declared (around_seen around.now scopes.old) declaration.now).faults) }
+    ensures scopes { OnOk result (scopes.new ≡ (declared (around_seen around.now scopes.old) declaration.now).scopes) }
+{
+    let name = declaration.name.text.as_str();
+    let is_new = add(scopes, name, declaration.declared.copy()?)?;
+    let part = initial(
+        alloc,
+        around,
+        scopes,
+        &declaration.declared,
+        &declaration.initial,
+    )?;
+    let own = sooner(
+        unknown_tag(around.text, &declaration.declared),
+        unless(is_new, TypeKind::DeclaredTwice, declaration.name.place),
+    );
+    Ok(hiding(part, own))
+}

@@ -1,0 +1,216 @@
+ghost use Rattle.std.specs.Prelude.{◌≡◌, ◌++◌, IfOk, OnOk, map};
+ghost use Rattle.c_types.specs.Expressions.{is_condition};
+ghost use Rattle.c_types.specs.Faults.{first};
+ghost use Rattle.c_types.specs.Found.{is_evaluated};
+ghost use Rattle.c_types.specs.Statements.{beyond, in_a_transaction, in_block, in_loop, in_order, optional, walk};
+ghost use Rattle.c_types.specs.Views.{around_seen};
+
+use crate::fault::{Fault, sooner};
+use crate::statement::{Around, Loop, declared, jump, returned, stood, tested, value_returned};
+use c_scope::Scopes;
+use c_tree::{CType, Expr, Stmt, StmtNode as Node};
+use dsu_io::Boxed;
+use std::alloc::{AllocError, Global};
+
+/// The loops round a transaction, as the statements in it see them.
+fn beyond(loops: Loop) -> Loop
+    ensures { result ≡ beyond loops }
+{
+    match loops {
+        Loop::Outside => Loop::Outside,
+        Loop::Within | Loop::Beyond => Loop::Beyond,
+    }
+}
+
+/// What is wrong with the test of a `for`, where it has one.
+fn test_of_for(
+    alloc: Global,
+    around: &Around,
+    scopes: &Scopes<CType>,
+    test: &Option<Expr>,
+) -> Result<Option<Fault>, AllocError>
+    ensures { IfOk result (λ fault. fault ≡ first (optional is_condition (around_seen around.now scopes.now) test.now)) }
+{
+    match test {
+        Some(test) => tested(alloc, around, scopes, test),
+        None => Ok(None),
+    }
+}
+
+/// What is wrong with the step of a `for`, where it has one.
+fn step_of_for(
+    alloc: Global,
+    around: &Around,
+    scopes: &Scopes<CType>,
+    step: &Option<Expr>,
+) -> Result<Option<Fault>, AllocError>
+    ensures { IfOk result (λ fault. fault ≡ first (optional is_evaluated (around_seen around.now scopes.now) step.now)) }
+{
+    match step {
+        Some(step) => stood(alloc, around, scopes, step),
+        None => Ok(None),
+    }
+}
+
+/// The first fault of statements one after another. Behind them the innermost block has what they
+/// declare.
+#[cycle(walk)]
+pub(crate) fn statements(
+    alloc: Global,
+    around: &Around,
+    scopes: &mut Scopes<CType>,
+    body: &[Stmt],
+) -> Result<Option<Fault>, AllocError>
+    ensures fault { IfOk result (λ fault. fault ≡ first (in_order (map walk body.now) (around_seen around.now scopes.old)).faults) }
+    ensures scopes { OnOk result (scopes.new ≡ (in_order (map walk body.now) (around_seen around.now scopes.old)).scopes) }
+{
+    let mut fault = None;
+    for stmt in body {
+        fault = sooner(fault, statement(alloc, around, scopes, stmt)?);
+    }
+    Ok(fault)
+}
+
+/// The first fault of a statement. Behind it the innermost block has what it declares.
+#[cycle(walk)]
+fn statement(
+    alloc: Global,
+    around: &Around,
+    scopes: &mut Scopes<CType>,
+    stmt: &Stmt,
+) -> Result<Option<Fault>, AllocError>
+    ensures fault { IfOk result (λ fault. fault ≡ first (walk stmt.now (around_seen around.now scopes.old)).faults) }
+    ensures scopes { OnOk result (scopes.new ≡ (walk stmt.now (around_seen around.now scopes.old)).scopes) }
+{
+    match &stmt.node {
+        Node::Block(body) => block(alloc, around, scopes, body.as_slice()),
+        Node::Empty | Node::Update => Ok(None),
+        Node::Evaluate(expr) => stood(alloc, around, scopes, expr),
+        Node::Declare(declaration) => declared(alloc, around, scopes, declaration),
+        Node::If(test, body) => {
+            let of_test = tested(alloc, around, scopes, test)?;
+            Ok(sooner(of_test, inner(alloc, around, scopes, body)?))
+        }
+        Node::IfElse(test, body, otherwise) => {
+            let of_test = tested(alloc, around, scopes, test)?;
+            let of_body = inner(alloc, around, scopes, body)?;
+            let of_otherwise = inner(alloc, around, scopes, otherwise)?;
+            Ok(sooner(of_test, sooner(of_body, of_otherwise)))
+        }
+        Node::While(test, body) => {
+            let of_test = tested(alloc, around, scopes, test)?;
+            Ok(sooner(of_test, repeated(alloc, around, scopes, body)?))
+        }
+        Node::DoWhile(body, test) => {
+            let of_body = repeated(alloc, around, scopes, body)?;
+            Ok(sooner(of_body, tested(alloc, around, scopes, test)?))
+        }
+        Node::For(opening, test, step, body) => {
+            scopes.enter()?;
+            let of_opening = statements(alloc, around, scopes, opening.as_slice())?;
+            let of_turn = turn(alloc, around, scopes, test, step, body)?;
+            scopes.leave();
+            Ok(sooner(of_opening, of_turn))
+        }
+        Node::Break | Node::Continue => Ok(jump(around.loops, stmt.place)),
+        Node::Return => Ok(returned(around, scopes, stmt.place)),
+        Node::ReturnValue(expr) => value_returned(alloc, around, scopes, stmt.place, expr),
+        Node::Transaction(body, _) => transaction(alloc, around, scopes, body.as_slice()),
+    }
+}
+
+/// The first fault of the statements of a block.
+#[cycle(walk)]
+fn block(
+    alloc: Global,
+    around: &Around,
+    scopes: &mut Scopes<CType>,
+    body: &[Stmt],
+) -> Result<Option<Fault>, AllocError>
+    ensures fault { IfOk result (λ fault. fault ≡ first (in_order (map walk body.now) (in_block (around_seen around.now scopes.old))).faults) }
+    ensures scopes { OnOk result (scopes.new ≡ scopes.old) }
+{
+    scopes.enter()?;
+    let fault = statements(alloc, around, scopes, body)?;
+    scopes.leave();
+    Ok(fault)
+}
+
+/// The first fault of the statements of a transaction.
+#[cycle(walk)]
+fn transaction(
+    alloc: Global,
+    around: &Around,
+    scopes: &mut Scopes<CType>,
+    body: &[Stmt],
+) -> Result<Option<Fault>, AllocError>
+    ensures fault { IfOk result (λ fault. fault
+        ≡ first (in_order (map walk body.now) (in_block (in_a_transaction (around_seen around.now scopes.old)))).faults) }
+    ensures scopes { OnOk result (scopes.new ≡ scopes.old) }
+{
+    let inside = Around {
+        text: around.text,
+        result: around.result,
+        loops: beyond(around.loops),
+        in_transaction: true,
+    };
+    block(alloc, &inside, scopes, body)
+}
+
+/// The first fault of a part of an `if` or a loop, which is a block of its own.
+#[cycle(walk)]
+fn inner(
+    alloc: Global,
+    around: &Around,
+    scopes: &mut Scopes<CType>,
+    part: &Boxed<Stmt>,
+) -> Result<Option<Fault>, AllocError>
+    ensures fault { IfOk result (λ fault. fault ≡ first (walk part.now (in_block (around_seen around.now scopes.old))).faults) }
+    ensures scopes { OnOk result (scopes.new ≡ scopes.old) }
+{
+    scopes.enter()?;
+    let fault = statement(alloc, around, scopes, part.get())?;
+    scopes.leave();
+    Ok(fault)
+}
+
+/// The first fault of a loop's body.
+#[cycle(walk)]
+fn repeated(
+    alloc: Global,
+    around: &Around,
+    scopes: &mut Scopes<CType>,
+    body: &Boxed<Stmt>,
+) -> Result<Option<Fault>, AllocError>
+    ensures fault { IfOk result (λ fault. fault ≡ first (walk body.now (in_block (in_loop (around_seen around.now scopes.old)))).faults) }
+    ensures scopes { OnOk result (scopes.new ≡ scopes.old) }
+{
+    let inside = Around {
+        text: around.text,
+        result: around.result,
+        loops: Loop::Within,
+        in_transaction: around.in_transaction,
+    };
+    inner(alloc, &inside, scopes, body)
+}
+
+/// The first fault of what stands behind the first part of a `for`: its test, its step and its body.
+#[cycle(walk)]
+fn turn(
+    alloc: Global,
+    around: &Around,
+    scopes: &mut Scopes<CType>,
+    test: &Option<Expr>,
+    step: &Option<Expr>,
+    body: &Boxed<Stmt>,
+) -> Result<Option<Fault>, AllocError>
+    ensures fault { let around = around_seen around.now scopes.old in
+        IfOk result (λ fault. fault ≡ first (optional is_condition around test.now
+        ++ (optional is_evaluated around step.now ++ (walk body.now (in_block (in_loop around))).faults))) }
+    ensures scopes { OnOk result (scopes.new ≡ scopes.old) }
+{
+    let of_test = test_of_for(alloc, around, scopes, test)?;
+    let of_step = step_of_for(alloc, around, scopes, step)?;
+    let of_body = repeated(alloc, around, scopes, body)?;
+    Ok(sooner(of_test, sooner(of_step, of_body)))
+}
