@@ -1,5 +1,5 @@
 -- The words round an expression.
-use Rattle.std.proofs.Common.{◌≡◌, ◌≢◌, ◌<◌, ◌≤◌, ◌+◌, ◌-◌, ℕ, List, [], ◌∷◌, ◌++◌, Bool, true, false, IsTrue, refl, sym, ◌∙◌, ap, subst, map, take, drop, length, get_or, arith, Bor, Ok, Err, Option, None, MatchOption, append_assoc, length-append}
+use Rattle.std.proofs.Common.{◌≡◌, ◌<◌, ◌+◌, ◌-◌, ℕ, List, [], ◌++◌, Bool, true, false, IsTrue, sym, ◌∙◌, ap, subst, map, take, drop, length, get_or, arith, Bor, Ok, Err, Option, None, MatchOption, length-append}
 use Rattle.std.proofs.lemmas.List.{get_or-map, take-map, drop-map, length-map}
 use Rattle.std.proofs.lemmas.Bool.{false≢true}
 use Rattle.std.proofs.Math.Seq.{take-append_seam, drop-append_seam}

@@ -1,8 +1,8 @@
 pub mod Completeness
 pub mod FormLemmas
-pub mod LexPlaces
 pub mod MachineLemmas
 pub mod ReadSum
 pub mod ReaderSteps
 pub mod Scans
 pub mod Statuses
+pub mod TextNames

@@ -10,7 +10,7 @@ use Rattle.c_ints.specs.declared.operator.BinOp.{BinOp}
 use Rattle.c_ints.specs.declared.operator.ArithTrap.{ArithTrap}
 use Rattle.c_ints.specs.Arithmetic.{binary_value}
 use Rattle.bytecode.specs.declared.instr.Instr.{Instr}
-use Rattle.bytecode.specs.declared.instr.Instr.TheVariants.{Const, Binary}
+use Rattle.bytecode.specs.declared.instr.Instr.TheVariants.{Binary}
 use Rattle.bytecode.specs.Meaning.{Operands, pushed, step, continued, execute}
 use Rattle.dsu_run.specs.Form.{Formula, number, operation, value, combined}
 use Rattle.dsu_run.specs.Reader.{postfix}

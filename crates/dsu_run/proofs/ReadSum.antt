@@ -7,9 +7,9 @@ use Rattle.c_lexer.specs.declared.token.Token.{Token}
 use Rattle.dsu_run.specs.declared.reader.Reader.{Reader}
 use Rattle.dsu_run.specs.declared.reader.Expected.TheVariants.{Operator}
 use Rattle.dsu_run.specs.Form.{Word, word, Formula, Sum}
-use Rattle.dsu_run.specs.Reader.{State, opening, factor, read, Steps, IsIn, Takes, closed, closed_code, postfix}
+use Rattle.dsu_run.specs.Reader.{State, opening, IsIn, Takes, closed, closed_code, postfix}
 use Rattle.dsu_run.proofs.Scans.{Scans, Scans-append, stuck, unfinished, Scans-sum}
-use Rattle.dsu_run.proofs.ReaderSteps.{closed_postfix, code_closed, at_operator, unlike_read}
+use Rattle.dsu_run.proofs.ReaderSteps.{code_closed, at_operator, unlike_read}
 
 -- one more token
 words_more : (tokens : List Token) (i : ℕ) (x : Token) → i < length tokens → x ≡ get_or tokens i x

@@ -1,12 +1,10 @@
 -- What a reader keeps behind one more word.
-use Rattle.std.proofs.Common.{◌≡◌, ◌≢◌, ◌≤◌, ◌-◌, ◌^◌, w32, subst, rules, arith, ℕ, pos, List, [], ◌∷◌, ◌++◌, Some, None, refl, sym, ◌∙◌, ap, append_assoc}
+use Rattle.std.proofs.Common.{◌≡◌, ◌≢◌, ◌≤◌, ◌-◌, ◌^◌, w32, subst, rules, arith, ℕ, pos, [], ◌∷◌, ◌++◌, Some, None, refl, sym, ◌∙◌, ap, append_assoc}
 use Rattle.std.specs.Prelude.{ℤ}
 use mir.Val.{to_z, of_z, SFits}
 use Rattle.std.proofs.lemmas.Int.{to_z-of_z}
-use Rattle.std.specs.declared.option.Option.{Option}
 use Rattle.c_ints.specs.declared.int.Int.TheVariants.{I32}
 use Rattle.c_ints.specs.declared.operator.BinOp.TheVariants.{Mul}
-use Rattle.bytecode.specs.declared.instr.Instr.{Instr}
 use Rattle.bytecode.specs.declared.instr.Instr.TheVariants.{Const, Binary}
 use Rattle.dsu_run.specs.declared.reader.Sign.{Sign}
 use Rattle.dsu_run.specs.declared.reader.Joint.TheVariants.{Times, Adds}

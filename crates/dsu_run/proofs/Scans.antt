@@ -1,13 +1,12 @@
 -- The states that a reader goes through, and why the words of a sum are exactly those that lead to its end.
-use Rattle.std.proofs.Common.{◌≡◌, ℕ, List, [], ◌∷◌, ◌++◌, Option, Some, None, refl, sym, ◌∙◌, ap, subst, arith, append_assoc, append-nil}
-use Rattle.std.specs.Prelude.{codes, slice_index}
-use Rattle.c_ints.specs.declared.operator.BinOp.{BinOp}
+use Rattle.std.proofs.Common.{◌≡◌, ℕ, List, [], ◌∷◌, ◌++◌, Some, None, refl, sym, ◌∙◌, ap, subst, arith, append_assoc, append-nil}
+use Rattle.std.specs.Prelude.{slice_index}
 use Rattle.c_ints.specs.declared.operator.BinOp.TheVariants.{Add, Sub, Mul}
 use Rattle.dsu_run.specs.declared.reader.Sign.{Sign}
 use Rattle.dsu_run.specs.declared.reader.Sign.TheVariants.{Plus, Minus}
 use Rattle.dsu_run.specs.declared.reader.Joint.{Joint}
 use Rattle.dsu_run.specs.declared.reader.Joint.TheVariants.{Times, Adds}
-use Rattle.dsu_run.specs.Form.{Word, Formula, number, operation, IsDecimal, IsConstant, Product, constant, times, Sum, product, plus, minus}
+use Rattle.dsu_run.specs.Form.{Word, Formula, number, operation, IsConstant, Product, constant, times, Sum, product, plus, minus}
 use Rattle.dsu_run.specs.Reader.{operator, joint_word, Front, closed, State, opening, factor, read, joined, Steps}
 
 -- the state behind more words

@@ -1,5 +1,5 @@
 -- What the top call does with the words of a command line and the file that they name.
-use Rattle.std.specs.Prelude.{◌≡◌, ◌⊎◌, ◌≤◌, ◌<◌, ◌*◌, ◌+◌, ℕ, pos, List, [], ◌∷◌, ⊤, Option, Some, None, Result, Ok, Err, length, unwrap_or}
+use Rattle.std.specs.Prelude.{◌≡◌, ◌≢◌, ◌⊎◌, ◌≤◌, ◌<◌, ◌*◌, ℕ, pos, List, [], ◌∷◌, ⊤, Option, Some, None, Result, Ok, Err, length, min}
 use Rattle.std.specs.Io.KnownBytes.{Appends}
 use Rattle.dsu_io.specs.Causes.{Rose}
 use Rattle.dsu_io.specs.Sinks.{AppendsFront}
@@ -12,51 +12,72 @@ use Rattle.bytecode.specs.declared.run.Event.TheVariants.{Move, CheckIn}
 use Rattle.bytecode.specs.declared.run.Ending.{Ending}
 use Rattle.bytecode.specs.declared.run.Ending.TheVariants.{Finished, Trap, Deadlock, Cut}
 use Rattle.bytecode.specs.Trap.{trap_of}
-use Rattle.c_lexer.specs.declared.token.Token.{Token}
-use Rattle.c_lexer.specs.declared.token.LexFault.{LexFault}
-use Rattle.c_lexer.specs.Cut.{Lexes}
-use Rattle.dsu_run.specs.declared.place.Place.{Place}
-use Rattle.dsu_run.specs.declared.fault.Wrong.{Wrong}
-use Rattle.dsu_run.specs.Places.{line_at, column_at}
-use Rattle.dsu_run.specs.Refusals.{IsWrong}
+use Rattle.c_tree.specs.declared.def.Program.{Program}
+use Rattle.c_types.specs.Definitions.{names_of}
+use Rattle.text_reader.specs.declared.fault.Wrong.{Wrong}
+use Rattle.text_reader.specs.declared.fault.Wrong.TheVariants as wrong
+use Rattle.text_reader.specs.Accepted.{Accepted, FirstFault}
+use Rattle.dsu_cli.specs.declared.job.CliFault.{CliFault}
+use Rattle.dsu_cli.specs.declared.job.CliFault.TheVariants.{Usage as NoCommand, Memory as NoMemory}
+use Rattle.dsu_report.specs.declared.fault.PlaceWord.{PlaceWord}
+use Rattle.dsu_report.specs.declared.fault.PlaceWord.TheVariants as word
+use Rattle.dsu_report.specs.declared.fault.FaultLine.{FaultLine}
+use Rattle.dsu_report.specs.declared.fault.FaultLine.TheVariants.{Usage, Place, Unread, TooLong, Line, Write, Memory}
+use Rattle.dsu_report.specs.Places.{line_at, column_at}
+use Rattle.dsu_run.specs.declared.request.Request.{Request}
+use Rattle.dsu_run.specs.declared.request.Request.TheVariants.{Run, Check}
 use Rattle.dsu_run.specs.declared.fault.Fault.{Fault}
-use Rattle.dsu_run.specs.declared.fault.Fault.TheVariants.{Usage, Refused, At, Unread, TooLong, Write, Memory}
-use Rattle.dsu_run.specs.Words.{named_file}
+use Rattle.dsu_run.specs.declared.fault.Fault.TheVariants.{Refused, Told}
 use Rattle.dsu_run.specs.Form.{Formula, IsForm, value}
-use Rattle.dsu_run.specs.Texts.{number_line, report_text, fault_text}
+use Rattle.dsu_run.specs.Texts.{number_line, names_line, report_text, fault_text}
 
 -- a C text has at most so many bytes
 abbrev pub text_limit : ℕ
 text_limit = 1024 * 1024
 
--- the file, whose content may be told, is a text of the form with this expression
-pub record Holds (content : Option (List ℕ)) (e : Formula) : Type 0 where
+-- the file, whose content may be told, is a text that is accepted as this program
+pub record Holds (content : Option (List ℕ)) (program : Program) : Type 0 where
   pub text : List ℕ
   pub read : IsContent content text
   pub fits : length text ≤ text_limit
-  pub form : IsForm text e
+  pub accepted : Accepted text program
 
--- the fault at the byte at which the text's cut into tokens ends
-pub record EndsAt (text : List ℕ) (wrong : Wrong) (place : Place) : Type 0 where
-  pub fault : LexFault
-  pub at : ℕ
-  pub lexes : Lexes text (Err fault)
-  pub is : IsWrong fault wrong at
-  pub line : place.line ≡ line_at text at
-  pub column : place.column ≡ column_at text at
+-- and that is of the form with this expression
+pub record HoldsForm (content : Option (List ℕ)) (e : Formula) : Type 0 where
+  pub program : Program
+  pub holds : Holds content program
+  pub form : IsForm holds.text e
 
--- the fault for which a text is refused: that of its tokens, or that they aren't those of the form
-abbrev pub IsFaultOf : List ℕ → Fault → Type 0
-IsFaultOf text Refused = (tokens : List Token) × Lexes text (Ok tokens) × ((e : Formula) → IsForm text e → ⊥)
-IsFaultOf text (At wrong place) = EndsAt text wrong place
-IsFaultOf text _ = ⊥
+-- the word for what is wrong with a text
+abbrev pub word_of : Wrong → PlaceWord
+word_of wrong.BadByte = word.BadByte
+word_of wrong.BadLiteral = word.BadLiteral
+word_of wrong.Directive = word.Directive
+word_of wrong.TooMany = word.TooMany
+word_of wrong.Syntax = word.Syntax
+word_of wrong.TooDeep = word.TooDeep
+word_of (wrong.Kind kind) = word.Kind kind
+
+-- the byte at which a fault is told: a place behind the text counts as its end
+abbrev pub told_at : List ℕ → ℕ → ℕ
+told_at text at = min at (length text)
+
+-- the line of a fault at a byte of a text
+abbrev pub line_of : List ℕ → Wrong → ℕ → FaultLine
+line_of text what at = Place (line_at text (told_at text at)) (column_at text (told_at text at)) (word_of what)
+
+-- the fault for which a text is refused: its first; or, of a text to run, that it isn't of the form
+abbrev pub IsFaultOf : Request → List ℕ → Fault → Type 0
+IsFaultOf request text (Told line) = (what : Wrong) × (at : ℕ) × FirstFault text what at × (line ≡ line_of text what at)
+IsFaultOf (Run file) text Refused = (program : Program) × Accepted text program × ((e : Formula) → IsForm text e → ⊥)
+IsFaultOf (Check file) text Refused = ⊥
 
 -- the file is no longer than a text may be, and is refused for this fault
-pub record IsRefused (content : Option (List ℕ)) (fault : Fault) : Type 0 where
+pub record IsRefused (request : Request) (content : Option (List ℕ)) (fault : Fault) : Type 0 where
   pub text : List ℕ
   pub read : IsContent content text
   pub fits : length text ≤ text_limit
-  pub first : IsFaultOf text fault
+  pub first : IsFaultOf request text fault
 
 -- the file is longer than a text may be, as far as its content is told
 abbrev pub Exceeds : Option (List ℕ) → Type 0
@@ -64,14 +85,27 @@ Exceeds None = ⊤
 Exceeds (Some content) = text_limit < length content
 
 -- the status of a fault
+abbrev pub status_of_line : FaultLine → ℕ
+status_of_line Usage = 10
+status_of_line (Place line column word) = 11
+status_of_line Unread = 12
+status_of_line Write = 13
+status_of_line (Line line word) = 14
+status_of_line TooLong = 15
+status_of_line Memory = 20
+
 abbrev pub status_of : Fault → ℕ
-status_of Usage = 10
 status_of Refused = 11
-status_of (At wrong place) = 11
-status_of Unread = 12
-status_of Write = 13
-status_of TooLong = 15
-status_of Memory = 20
+status_of (Told line) = status_of_line line
+
+-- a fault of a file or its text, or want of memory (a private function cites this)
+abbrev pub IsOfText : Fault → Type 0
+IsOfText fault = (fault ≢ Told Usage) × (fault ≢ Told Write) × (status_of fault ≢ 14)
+
+-- the fault of words that ask for nothing (a private function cites this)
+abbrev pub fault_of_words : CliFault → Fault
+fault_of_words NoCommand = Told Usage
+fault_of_words NoMemory = Told Memory
 
 -- thread 0 enters main, passes the check-in there, and evaluates and prints; where nothing trapped, main returns
 abbrev pub moves_to_print : List Event
@@ -121,7 +155,7 @@ pub record PrintFailed (left : Result Int ArithTrap) (ending : Option Ending) (h
   pub history_is : history ≡ moves_to_print
   pub prints : AppendsFront out out' (printed left)
   pub cause : Rose out_before out_now
-  pub tells : Writes (fault_text Write []) err err' err_before err_now
+  pub tells : Writes (fault_text (Told Write) []) err err' err_before err_now
 
 -- a run that went to its end and whose report failed: the whole print, and a front of the report
 pub record ReportFailed (left : Result Int ArithTrap) (ending : Option Ending) (history : List Event)
@@ -136,17 +170,13 @@ pub record ReportFailed (left : Result Int ArithTrap) (ending : Option Ending) (
 abbrev pub IsRun : ℕ → Type 0
 IsRun status = (status ≡ 0) ⊎ (status ≡ 1)
 
--- the statuses that there are
+-- the statuses that there are: those of runs and of faults, without that of a journal's line
 abbrev pub IsStatus : ℕ → Type 0
-IsStatus status = IsRun status ⊎ ((fault : Fault) × (status ≡ status_of fault))
+IsStatus status = IsRun status ⊎ ((fault : Fault) × (status ≡ status_of fault) × (status ≢ 14))
 
 -- a file, an output or memory failed
 abbrev pub IsExcused : ℕ → Type 0
-IsExcused status = (status ≡ status_of Unread) ⊎ ((status ≡ status_of Write) ⊎ (status ≡ status_of Memory))
-
--- the file that a fault's line names, if the words name one
-abbrev pub file_at_fault : List (List ℕ) → List ℕ
-file_at_fault words = unwrap_or (named_file words) []
+IsExcused status = (status ≡ 12) ⊎ ((status ≡ 13) ⊎ (status ≡ 20))
 
 -- a command that came to nothing: no event, no ending, and the fault's line
 pub record Faulted (fault : Fault) (file : List ℕ) (ending : Option Ending) (history : List Event)
@@ -154,3 +184,39 @@ pub record Faulted (fault : Fault) (file : List ℕ) (ending : Option Ending) (h
   pub ending_is : ending ≡ None
   pub history_is : history ≡ []
   pub tells : Writes (fault_text fault file) err err' before now
+
+-- the number of a text's names was printed, and standard error stays as it was
+pub record Checked (names status : ℕ) (ending : Option Ending) (history : List Event) (out out' err err' : Option (List ℕ)) : Type 0 where
+  pub status_is : status ≡ 0
+  pub ending_is : ending ≡ None
+  pub history_is : history ≡ []
+  pub prints : Appends out out' (names_line names)
+  pub quiet : err' ≡ err
+
+-- the number of a text's names couldn't be printed whole
+pub record NamesFailed (names : ℕ) (ending : Option Ending) (history : List Event)
+    (out out' err err' : Option (List ℕ)) (out_before out_now err_before err_now : ℕ) : Type 0 where
+  pub ending_is : ending ≡ None
+  pub history_is : history ≡ []
+  pub prints : AppendsFront out out' (names_line names)
+  pub cause : Rose out_before out_now
+  pub tells : Writes (fault_text (Told Write) []) err err' err_before err_now
+
+-- what a command did that came to its end
+abbrev pub Done : Request → Option (List ℕ) → ℕ → Option Ending → List Event
+    → Option (List ℕ) → Option (List ℕ) → Option (List ℕ) → Option (List ℕ) → Type 0
+Done (Run file) content status ending history out out' err err' =
+    (e : Formula) × HoldsForm content e × Ran (value e) status ending history out out' err err'
+Done (Check file) content status ending history out out' err err' =
+    (program : Program) × Holds content program × Checked (names_of program.definitions) status ending history out out' err err'
+
+-- what a command did whose output failed
+abbrev pub Unwritten : Request → Option (List ℕ) → Option Ending → List Event
+    → Option (List ℕ) → Option (List ℕ) → Option (List ℕ) → Option (List ℕ) → ℕ → ℕ → ℕ → ℕ → Type 0
+Unwritten (Run file) content ending history out out' err err' out_before out_now err_before err_now =
+    (e : Formula) × HoldsForm content e
+    × (PrintFailed (value e) ending history out out' err err' out_before out_now err_before err_now
+    ⊎ ReportFailed (value e) ending history out out' err err' err_before err_now)
+Unwritten (Check file) content ending history out out' err err' out_before out_now err_before err_now =
+    (program : Program) × Holds content program
+    × NamesFailed (names_of program.definitions) ending history out out' err err' out_before out_now err_before err_now

@@ -1,48 +1,55 @@
-use crate::place::Place;
+use dsu_cli::CliFault;
+use dsu_report::FaultLine;
 
-/// What is wrong at a place of a text.
-#[derive(Clone, Copy, Debug, PartialEq, Eq)]
-pub enum Wrong {
-    BadByte,
-    BadLiteral,
-    Directive,
-    TooManyTokens,
-}
-
-/// Why a command came to nothing. Each has a status of its own and a line on standard error.
+/// Why a command came to nothing. Each has a status and a text on standard error.
 #[derive(Clone, Copy, Debug, PartialEq, Eq)]
 pub enum Fault {
-    /// The words name no command.
-    Usage,
-    /// The text isn't of a form that can be run.
+    /// The text isn't of the form that runs.
     Refused,
-    /// The text has a fault at a place.
-    At(Wrong, Place),
-    /// The file couldn't be read.
-    Unread,
-    /// The file is longer than a text may be.
-    TooLong,
-    /// Standard output or standard error couldn't be written.
-    Write,
-    /// Want of memory.
-    Memory,
+    /// Every other fault, as its line tells it.
+    Told(FaultLine),
+}
+
+impl From<CliFault> for Fault {
+    ghost use Rattle.std.specs.Prelude.{◌≡◌};
+    ghost use Rattle.dsu_run.specs.Answer.{fault_of_words};
+
+    ghost from_gives = { λ fault told. told ≡ fault_of_words fault };
+
+    fn from(fault: CliFault) -> Fault {
+        match fault {
+            CliFault::Usage => Fault::Told(FaultLine::Usage),
+            CliFault::Memory => Fault::Told(FaultLine::Memory),
+        }
+    }
 }
 
 impl Fault {
     ghost use Rattle.std.specs.Prelude.{◌≡◌};
-    ghost use Rattle.dsu_run.specs.Answer.{status_of};
+    ghost use Rattle.dsu_run.specs.Answer.{status_of, status_of_line};
 
     /// The status with which the program ends.
     pub fn status(self) -> u8
         ensures { result ≡ status_of self }
     {
         match self {
-            Fault::Usage => 10,
-            Fault::Refused | Fault::At(_, _) => 11,
-            Fault::Unread => 12,
-            Fault::Write => 13,
-            Fault::TooLong => 15,
-            Fault::Memory => 20,
+            Fault::Refused => 11,
+            Fault::Told(line) => Fault::status_of(line),
+        }
+    }
+
+    // The status of a fault that has a line.
+    fn status_of(line: FaultLine) -> u8
+        ensures { result ≡ status_of_line line }
+    {
+        match line {
+            FaultLine::Usage => 10,
+            FaultLine::Place(_, _, _) => 11,
+            FaultLine::Unread => 12,
+            FaultLine::Write => 13,
+            FaultLine::Line(_, _) => 14,
+            FaultLine::TooLong => 15,
+            FaultLine::Memory => 20,
         }
     }
 }

@@ -1,14 +1,8 @@
-ghost use Rattle.std.specs.Prelude.{◌≡◌, ◌≤◌, ◌↔◌, ◌++◌, ℕ, length, Ok, Err, IsTrue, IfOk, IsErrOf, MatchOption, List, map};
+ghost use Rattle.std.specs.Prelude.{◌≡◌, ◌≢◌, ◌↔◌, ◌++◌, IsTrue, IfOk, IsErrOf, MatchOption, List, map};
 ghost use Rattle.dsu_run.specs.Form.{Word, word, Formula, IsForm, before, behind};
 ghost use Rattle.dsu_run.specs.Reader.{postfix, given};
-ghost use Rattle.c_lexer.specs.declared.token.Token.{Token};
-ghost use Rattle.c_lexer.specs.declared.token.LexFault.{LexFault};
-ghost use Rattle.c_lexer.specs.Cut.{Lexes};
-ghost use Rattle.dsu_run.specs.declared.fault.Wrong.{Wrong};
-ghost use Rattle.dsu_run.specs.Refusals.{IsWrong, refusal_of};
 
 use crate::constant::is_word;
-use crate::fault::Wrong;
 use crate::reader::read_sum;
 use bytecode::Instr;
 use c_lexer::{LexFault, Token, TokenKind, lex};
@@ -43,8 +37,6 @@ const BEHIND: [(TokenKind, &str); 6] = [
 pub enum CompileFault {
     /// It isn't of the form.
     Refused,
-    /// Its tokens end at a fault, at this byte.
-    Lexical(Wrong, usize),
     /// Want of memory.
     Memory,
 }
@@ -92,30 +84,27 @@ fn middle(tokens: &[Token]) -> Option<&[Token]>
     }
 }
 
-// What a fault of the lexer comes to.
-fn refusal(fault: LexFault) -> CompileFault
-    ensures { result ≡ refusal_of fault }
+// A text without tokens isn't of the form.
+fn without_tokens(fault: LexFault) -> CompileFault
+    ensures { result ≡ CompileFault.Refused → fault ≢ LexFault.Memory }
 {
     match fault {
-        LexFault::BadByte(at) => CompileFault::Lexical(Wrong::BadByte, at),
-        LexFault::BadLiteral(at) => CompileFault::Lexical(Wrong::BadLiteral, at),
-        LexFault::Directive(at) => CompileFault::Lexical(Wrong::Directive, at),
-        LexFault::TooMany(at) => CompileFault::Lexical(Wrong::TooManyTokens, at),
         LexFault::Memory => CompileFault::Memory,
+        LexFault::BadByte(_)
+        | LexFault::BadLiteral(_)
+        | LexFault::Directive(_)
+        | LexFault::TooMany(_) => CompileFault::Refused,
     }
 }
 
 /// The code of a text of the form.
 pub fn compile(alloc: Global, text: &[u8]) -> Result<Vec<Instr>, CompileFault>
     ensures code { IfOk result (λ code. (e : Formula) × IsForm text.now e × (code.items ≡ postfix e)) }
-    ensures refused { IsErrOf result CompileFault.Refused
-        → (tokens : List Token) × Lexes text.now (Ok tokens) × ((e : Formula) → IsForm text.now e → ⊥) }
-    ensures lexical { (wrong : Wrong) (at : ℕ) → IsErrOf result (CompileFault.Lexical wrong at)
-        → (at ≤ length text.now) × ((fault : LexFault) × Lexes text.now (Err fault) × IsWrong fault wrong at) }
+    ensures refused { IsErrOf result CompileFault.Refused → (e : Formula) → IsForm text.now e → ⊥ }
 {
     let tokens = match lex(alloc, text) {
         Ok(tokens) => tokens,
-        Err(fault) => return Err(refusal(fault)),
+        Err(fault) => return Err(without_tokens(fault)),
     };
     let Some(found) = middle(&tokens) else {
         return Err(CompileFault::Refused);

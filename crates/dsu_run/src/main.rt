@@ -1,26 +1,31 @@
-//! Ginseng: runs C programs of a small form, and tells how their runs end.
+//! Ginseng: checks C programs, runs those of a small form, and tells how their runs end.
 //!
 //! `dsu_main` does all that the program does, over files and outputs that are handed in; its contract is
 //! what the program promises. `main` makes the words, the files of the file system and the standard
 //! streams, calls it on a thread with a large stack, and ends with its status.
 //!
-//! Read in this order: `top` (the top call), `words`, `form` with `constant` and `reader` (from tokens to
-//! code), `machine` (from code to a value), `place`, `fault` and `report` (what is told).
+//! Read in this order: `top` (the top call) with `outcome`, `request` (what the words ask for), `source` (a file's
+//! text and its tree), `check` and `run` (the two commands), `form` with `constant` and `reader` (from tokens
+//! to code), `machine` (from code to a value), `fault` and `report` (what is told).
 #![tactic(auto)]
 
+mod check;
 mod constant;
 mod fault;
 mod form;
 mod machine;
-mod place;
+mod outcome;
 mod reader;
 mod report;
+mod request;
+mod run;
+mod source;
 mod top;
-mod words;
 
 use crate::fault::Fault;
-use crate::report::write_fault;
+use crate::report::write_text;
 use crate::top::dsu_main;
+use dsu_cli::CliFault;
 use dsu_io::{Sink, StdFiles, StdSink, Text};
 use std::alloc::AllocError;
 use std::process::ExitCode;
@@ -39,26 +44,27 @@ impl Promise<u8> for AnyStatus {
 }
 
 // The words behind the program's name.
-fn words_of(rt: &HostRuntime) -> Result<Vec<Text>, Fault> {
+fn words_of(rt: &HostRuntime) -> Result<Vec<Text>, CliFault> {
     let Ok(given) = env::args(rt) else {
-        return Err(Fault::Usage);
+        return Err(CliFault::Usage);
     };
     let mut words = Vec::new(rt.alloc());
     for word in given.skip(1) {
         if words.push(Text::from(word)).is_err() {
-            return Err(Fault::Memory);
+            return Err(CliFault::Memory);
         }
     }
     Ok(words)
 }
 
 // Runs the top call over the real files and streams.
-fn run(rt: &HostRuntime) -> u8 {
+fn call(rt: &HostRuntime) -> u8 {
     let mut err = StdSink::new(rt.stderr());
     let words = match words_of(rt) {
         Ok(words) => words,
         Err(fault) => {
-            let _ = write_fault(fault, "", &mut err);
+            let fault = Fault::from(fault);
+            let _ = write_text(fault, "", &mut err);
             return fault.status();
         }
     };
@@ -69,7 +75,7 @@ fn run(rt: &HostRuntime) -> u8 {
 
 fn main(rt: HostRuntime) -> ExitCode {
     let builder = Builder::new().stack_size(STACK_BYTES);
-    let status = match builder.spawn_with(&rt, AnyStatus, move || run(&rt)) {
+    let status = match builder.spawn_with(&rt, AnyStatus, move || call(&rt)) {
         Ok(thread) => thread.join(&rt),
         Err(refused) => (refused.value)(),
     };

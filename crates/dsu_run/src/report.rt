@@ -1,24 +1,15 @@
-ghost use Rattle.std.specs.Prelude.{◌≡◌, ◌++◌, codes};
+ghost use Rattle.std.specs.Prelude.{◌≡◌};
 ghost use Rattle.dsu_io.specs.Causes.{HasCause};
 ghost use Rattle.dsu_io.specs.Sinks.{PutAppends};
 ghost use Rattle.c_ints.specs.Number.{value_of};
-ghost use Rattle.dsu_run.specs.Texts.{number_line, fault_text, report_text, trap_word, wrong_word};
+ghost use Rattle.dsu_run.specs.Texts.{number_line, names_line, fault_text, report_text, trap_word};
 
-use crate::fault::{Fault, Wrong};
+use crate::fault::Fault;
 use bytecode::{Ending, TrapKind};
 use c_ints::Int;
 use dsu_io::{Failed, Sink, put, put_all};
+use dsu_report::write_fault;
 use itoa::Buffer;
-
-/// What standard error has where the words name no command.
-pub const USAGE: &str = "\
-usage: ginseng run FILE [--offer FILE@LINES]... [--workers W] [--moves N] [--objects N] [--journal]
-       ginseng replay FILE JOURNAL [--offer FILE@LINES]... [--objects N]
-       ginseng check FILE
-       ginseng effects FILE
-       ginseng changes OLD NEW
-       ginseng gen SEED SIZE
-";
 
 /// Writes a number and a newline. It takes no memory.
 pub fn write_number<S: Sink>(value: Int, sink: &mut S) -> Result<(), Failed>
@@ -29,54 +20,27 @@ pub fn write_number<S: Sink>(value: Int, sink: &mut S) -> Result<(), Failed>
     put_all(sink, &[digits.format(value.value()).as_bytes(), b"\n"])
 }
 
-/// The words that report what is wrong at a place.
-fn words_for(wrong: Wrong) -> &'static str
-    ensures { result.now ≡ wrong_word wrong }
-{
-    match wrong {
-        Wrong::BadByte => "bad byte",
-        Wrong::BadLiteral => "bad literal",
-        Wrong::Directive => "directive",
-        Wrong::TooManyTokens => "too many tokens",
-    }
-}
-
-// Writes the line of a fault at a place.
-fn put_place<'a, S: Sink>(
-    file: &'a [u8],
-    line: &'a [u8],
-    column: &'a [u8],
-    words: &'a [u8],
-    sink: &mut S,
-) -> Result<(), Failed>
-    ensures bytes { PutAppends (S.told sink.old) (S.told sink.new) result
-        (file.now ++ codes ":" ++ line.now ++ codes ":" ++ column.now ++ codes ": " ++ words.now ++ codes "\n") }
+/// Writes the line of a text's number of names. It takes no memory.
+pub fn write_names<S: Sink>(names: usize, sink: &mut S) -> Result<(), Failed>
+    ensures bytes { PutAppends (S.told sink.old) (S.told sink.new) result (names_line names) }
     ensures cause { HasCause (S.faults sink.old) (S.faults sink.new) result }
 {
-    put_all(sink, &[file, b":", line, b":", column, b": ", words, b"\n"])
+    let mut digits = Buffer::new();
+    put_all(
+        sink,
+        &[b"ok ", digits.format(names).as_bytes(), b" names\n"],
+    )
 }
 
-/// Writes a fault's line, or the usage text. `file` is the file at fault, where one is. It takes no
+/// Writes what standard error has for a fault. `file` is the file at fault, where one is. It takes no
 /// memory.
-pub fn write_fault<S: Sink>(fault: Fault, file: &str, sink: &mut S) -> Result<(), Failed>
+pub fn write_text<S: Sink>(fault: Fault, file: &str, sink: &mut S) -> Result<(), Failed>
     ensures bytes { PutAppends (S.told sink.old) (S.told sink.new) result (fault_text fault file.now) }
     ensures cause { HasCause (S.faults sink.old) (S.faults sink.new) result }
 {
-    let file = file.as_bytes();
     match fault {
-        Fault::Usage => put(sink, USAGE.as_bytes()),
-        Fault::Refused => put_all(sink, &[file, b": refused\n"]),
-        Fault::At(wrong, place) => {
-            let mut line = Buffer::new();
-            let mut column = Buffer::new();
-            let line = line.format(place.line).as_bytes();
-            let column = column.format(place.column).as_bytes();
-            put_place(file, line, column, words_for(wrong).as_bytes(), sink)
-        }
-        Fault::Unread => put_all(sink, &[file, b": read fault\n"]),
-        Fault::TooLong => put_all(sink, &[file, b": too long\n"]),
-        Fault::Write => put(sink, b"write fault\n"),
-        Fault::Memory => put(sink, b"want of memory\n"),
+        Fault::Refused => put_all(sink, &[file.as_bytes(), b": refused\n"]),
+        Fault::Told(line) => write_fault(file, line, sink),
     }
 }
 

@@ -1,4 +1,6 @@
-use crate::top::{Outcome, TEXT_LIMIT, dsu_main};
+use crate::outcome::Outcome;
+use crate::source::TEXT_LIMIT;
+use crate::top::dsu_main;
 use bytecode::{Ending, Event, TrapKind};
 use dsu_io::{MemoryFiles, MemorySink, Text};
 use std::alloc::{AllocError, Global};
@@ -28,7 +30,7 @@ usage: ginseng run FILE [--offer FILE@LINES]... [--workers W] [--moves N] [--obj
        ginseng gen SEED SIZE
 ";
 
-const CASES: [Case; 23] = [
+const CASES: [Case; 43] = [
     Case {
         words: &["run", "x.c"],
         file: "int x = 08;",
@@ -125,21 +127,21 @@ const CASES: [Case; 23] = [
         file: "",
         status: 11,
         out: "",
-        err: "x.c: refused\n",
+        err: "x.c:1:1: no main\n",
     },
     Case {
         words: &["run", "x.c"],
         file: "int main(void) { printf(\"%d\\n\", 2+); return 0; }",
         status: 11,
         out: "",
-        err: "x.c: refused\n",
+        err: "x.c:1:35: syntax\n",
     },
     Case {
         words: &["run", "x.c"],
         file: "int main(void) { printf(\"%d\\n\", 2147483648); return 0; }",
         status: 11,
         out: "",
-        err: "x.c: refused\n",
+        err: "x.c:1:25: bad printf format\n",
     },
     Case {
         words: &["run", "x.c"],
@@ -185,6 +187,146 @@ const CASES: [Case; 23] = [
     },
     Case {
         words: &["runs", "x.c"],
+        file: P1,
+        status: 10,
+        out: "",
+        err: USAGE,
+    },
+    Case {
+        words: &["run", ""],
+        file: P1,
+        status: 10,
+        out: "",
+        err: USAGE,
+    },
+    Case {
+        words: &["run", "x.c", "--moves", "5"],
+        file: P1,
+        status: 10,
+        out: "",
+        err: USAGE,
+    },
+    Case {
+        words: &["run", "x.c", "--moves=1000000"],
+        file: P1,
+        status: 10,
+        out: "",
+        err: USAGE,
+    },
+    Case {
+        words: &["run", "--journal", "x.c"],
+        file: P1,
+        status: 10,
+        out: "",
+        err: USAGE,
+    },
+    Case {
+        words: &["effects", "x.c"],
+        file: P1,
+        status: 10,
+        out: "",
+        err: USAGE,
+    },
+    Case {
+        words: &["run", "x.c"],
+        file: "int main(void) { return 1",
+        status: 11,
+        out: "",
+        err: "x.c:1:26: syntax\n",
+    },
+    Case {
+        words: &["check", "x.c"],
+        file: "int main(void) { while (",
+        status: 11,
+        out: "",
+        err: "x.c:1:25: syntax\n",
+    },
+    Case {
+        words: &["run", "x.c"],
+        file: "int main(void) { return 0; }",
+        status: 11,
+        out: "",
+        err: "x.c: refused\n",
+    },
+    Case {
+        words: &["check", "x.c"],
+        file: "",
+        status: 11,
+        out: "",
+        err: "x.c:1:1: no main\n",
+    },
+    Case {
+        words: &["check", "x.c"],
+        file: "int h(void) { return 0; }\nint g(void) { return 1; }\nint f(void) { return g(); }\nint main(void) {\n  dsu_tx {\n    printf(\"start\\n\");\n    h();\n    printf(\"%d\\n\", g());\n    printf(\"%d\\n\", f());\n  }\n  return 0;\n}\n",
+        status: 0,
+        out: "ok 4 names\n",
+        err: "",
+    },
+    Case {
+        words: &["check", "x.c"],
+        file: P1,
+        status: 0,
+        out: "ok 1 names\n",
+        err: "",
+    },
+    Case {
+        words: &["check", "x.c"],
+        file: "struct s; struct s { int a; }; int f(void); int x, y[2]; mtx_t m; int f(void) { return 0; } int main(void) { return 0; } dsu_transform x = old;",
+        status: 0,
+        out: "ok 6 names\n",
+        err: "",
+    },
+    Case {
+        words: &["check", "x.c"],
+        file: "int main(void) { return x; }",
+        status: 11,
+        out: "",
+        err: "x.c:1:25: unknown name\n",
+    },
+    Case {
+        words: &["check", "x.c"],
+        file: "int main(void) { dsu_tx { return 0; } }",
+        status: 11,
+        out: "",
+        err: "x.c:1:27: leaves a transaction\n",
+    },
+    Case {
+        words: &["check", "x.c"],
+        file: "int main(void) { printf(\"%u\\n\", 4294967295); return 0; }",
+        status: 11,
+        out: "",
+        err: "x.c:1:25: bad printf format\n",
+    },
+    Case {
+        words: &["check", "x.c"],
+        file: "int f(int a) { return a; } int main(void) { return f(); }",
+        status: 11,
+        out: "",
+        err: "x.c:1:52: wrong number of arguments\n",
+    },
+    Case {
+        words: &["check", "y.c"],
+        file: P1,
+        status: 12,
+        out: "",
+        err: "y.c: read fault\n",
+    },
+    Case {
+        words: &["check"],
+        file: P1,
+        status: 10,
+        out: "",
+        err: USAGE,
+    },
+    Case {
+        words: &["check", "--journal", "x.c"],
+        file: P1,
+        status: 10,
+        out: "",
+        err: USAGE,
+    },
+    Case {
+        words: &["gen", "7", "0"],
         file: P1,
         status: 10,
         out: "",
@@ -262,6 +404,9 @@ fn a_run_is_told_by_its_events_and_ending(rt: HostRuntime) -> Result<(), Fail> {
     let refused = call(rt.alloc(), &["run", "x.c"], b"", NOTHING)?;
     assert_eq!(rt; refused.outcome.history.len(), 0);
     assert_eq!(rt; refused.outcome.ending, None);
+    let checked = call(rt.alloc(), &["check", "x.c"], P1.as_bytes(), NOTHING)?;
+    assert_eq!(rt; checked.outcome.history.len(), 0);
+    assert_eq!(rt; checked.outcome.ending, None);
     Ok(())
 }
 
@@ -399,11 +544,53 @@ fn a_text_has_at_most_its_limit_of_tokens(rt: HostRuntime) -> Result<(), Fail> {
     let mut text = Vec::new(alloc);
     text.resize(65_536, b';')?;
     let most = call(alloc, &["run", "x.c"], &text, NOTHING)?;
-    assert_eq!(rt; most.err.bytes(), b"x.c: refused\n".as_slice());
+    assert_eq!(rt; most.err.bytes(), b"x.c:1:1: syntax\n".as_slice());
     text.push(b'\n')?;
     text.push(b';')?;
     let more = call(alloc, &["run", "x.c"], &text, NOTHING)?;
     assert_eq!(rt; more.outcome.status, 11);
     assert_eq!(rt; more.err.bytes(), b"x.c:2:1: too many tokens\n".as_slice());
+    Ok(())
+}
+
+// A text with so many `(` before a `1`; or its front, up to the `1`.
+fn nested(alloc: Global, count: usize, closed: bool) -> Result<Vec<u8>, AllocError> {
+    let mut text = b"int x = ".as_slice().to_vec(alloc)?;
+    for _ in 0..count {
+        text.push(b'(')?;
+    }
+    text.push(b'1')?;
+    if closed {
+        for _ in 0..count {
+            text.push(b')')?;
+        }
+        text.extend_from_slice(b"; int main(void) { return 0; }")?;
+    }
+    Ok(text)
+}
+
+#[test]
+fn a_text_nests_at_most_its_limit_of_depth(rt: HostRuntime) -> Result<(), Fail> {
+    let alloc = rt.alloc();
+    let most = nested(alloc, 64, true)?;
+    let most = call(alloc, &["check", "x.c"], &most, NOTHING)?;
+    assert_eq!(rt; most.outcome.out.bytes(), b"ok 2 names\n".as_slice());
+    let more = nested(alloc, 65, false)?;
+    let more = call(alloc, &["check", "x.c"], &more, NOTHING)?;
+    assert_eq!(rt; more.err.bytes(), b"x.c:1:74: nested too deep\n".as_slice());
+    Ok(())
+}
+
+#[test]
+fn a_check_whose_print_fails_is_a_write_fault(rt: HostRuntime) -> Result<(), Fail> {
+    let third = Failing {
+        reads: &[],
+        prints: &[3],
+        reports: &[],
+    };
+    let seen = call(rt.alloc(), &["check", "x.c"], P1.as_bytes(), third)?;
+    assert_eq!(rt; seen.outcome.status, 13);
+    assert_eq!(rt; seen.outcome.out.bytes(), b"ok 1".as_slice());
+    assert_eq!(rt; seen.err.bytes(), b"write fault\n".as_slice());
     Ok(())
 }

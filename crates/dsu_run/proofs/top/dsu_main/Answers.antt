@@ -1,29 +1,24 @@
-use Rattle.std.proofs.Common.{Err, refl, ap, sym, subst, inl, inr, ℕ}
-use Rattle.dsu_run.specs.declared.fault.Fault.TheVariants.{Usage}
-use Rattle.dsu_run.specs.Answer.{Ran, IsExcused}
-use Rattle.dsu_run.proofs.Statuses.{run_status}
-use Rattle.dsu_run.proofs.Completeness.{told_run, excused, if_some_at}
+use Rattle.std.proofs.Common.{◌≡◌, ◌∙◌, List, ℕ, Option, Some, ap}
+use Rattle.dsu_run.specs.declared.request.Request.{Request}
+use Rattle.dsu_run.specs.declared.request.Request.TheVariants.{Run, Check}
+use Rattle.dsu_run.specs.Words.{asked}
 use Rattle.dsu_run.proofs.top.dsu_main.Goals as goal
 
-pub returns-in_default-clause-statuses : goal.returns-in_default-clause-statuses
-returns-in_default-clause-statuses g c = inr (Usage, c.fail.ensures.status)
+-- the file of a request that is known
+run_file_again : (o : Option Request) (a b : List ℕ) → o ≡ Some (Run a) → o ≡ Some (Run b) → a ≡ b
+run_file_again o a b first second = cc
 
-pub returns-in-Ok-clause-statuses : goal.returns-in-Ok-clause-statuses
-returns-in-Ok-clause-statuses g c = run_status _ c.tell.result.status c.tell.ensures.statuses
+check_file_again : (o : Option Request) (a b : List ℕ) → o ≡ Some (Check a) → o ≡ Some (Check b) → a ≡ b
+check_file_again o a b first second = cc
 
-pub returns-in-Ok-clause-complete : goal.returns-in-Ok-clause-complete
-returns-in-Ok-clause-complete g c text e =
-    if_some_at _ _ c.in-Some.file.now c.in-Some.ensures
-    (λ told fits form.
-    told_run _ text e c.in-Ok.ensures.plan.0 c.in-Ok.plan.left c.tell.result.status
-    (λ left. Ran left c.tell.result.status c.tell.result.ending c.tell.result.history.items (g.O.Sink.told c.args.out)
-    (g.O.Sink.told c.tell.result.out) (g.E.Sink.told c.args.err.now) (g.E.Sink.told c.tell.new.err))
-    told form c.in-Ok.ensures.plan.1 c.in-Ok.ensures.plan.2 c.tell.ensures.statuses c.tell.ensures.ran)
+pub returns-in-Ok-Run-clause-complete_run : goal.returns-in-Ok-Run-clause-complete_run
+returns-in-Ok-Run-clause-complete_run g c file text program e is told fits accepted form =
+    let here : asked c.args.words.now ≡ Some (Run c.in-Ok-Run.file) = c.in-Ok-Run.ensures.request ∙ ap (λ (r : Request). Some r) c.in-Ok-Run.field-0-is in
+    let same : c.as_str.result.now ≡ file = c.as_str.ensures ∙ run_file_again (asked c.args.words.now) c.in-Ok-Run.file file here is in
+    c.run_file.ensures.complete text program e (ap (g.F.Files.content c.args.files.now) same ∙ told) fits accepted form
 
-pub returns-in-Err-clause-complete : goal.returns-in-Err-clause-complete
-returns-in-Err-clause-complete g c text e =
-    if_some_at _ _ c.in-Some.file.now c.in-Some.ensures
-    (λ told fits form.
-    inl (subst {A = ℕ} IsExcused (sym c.fail-in-Err.ensures.status)
-    (excused _ text e c.in-Err.fault told fits form c.in-Err.ensures.others.0 c.in-Err.ensures.others.1
-    (λ is. c.in-Err.ensures.too_long (ap (λ f. Err f) is)) (λ is. c.in-Err.ensures.refused c.in-Err.fault refl is))))
+pub returns-in-Ok-Check-clause-complete_check : goal.returns-in-Ok-Check-clause-complete_check
+returns-in-Ok-Check-clause-complete_check g c file text program is told fits accepted =
+    let here : asked c.args.words.now ≡ Some (Check c.in-Ok-Check.file) = c.in-Ok-Check.ensures.request ∙ ap (λ (r : Request). Some r) c.in-Ok-Check.field-0-is in
+    let same : c.as_str-in-Ok-Check.result.now ≡ file = c.as_str-in-Ok-Check.ensures ∙ check_file_again (asked c.args.words.now) c.in-Ok-Check.file file here is in
+    c.check_file.ensures.complete text program (ap (g.F.Files.content c.args.files.now) same ∙ told) fits accepted
