@@ -1,0 +1,10 @@
+mod Examples
+mod Following
+mod Growing
+mod Leaving
+mod Kept
+mod Naming
+mod Resolving
+mod Sizes
+mod StepLaws
+mod Variables

@@ -1,0 +1,11 @@
+use Rattle.std.proofs.Common.{ap, ◌∙◌}
+use Rattle.c_types.specs.Evaluation.{local}
+use Rattle.source_runner.specs.Trees.{table}
+use Rattle.source_runner.specs.Work.{newest, scopes_of}
+use Rattle.source_runner.proofs.evaluation.evaluate.Goals as goal
+
+pub returns : goal.returns
+returns c =
+    let t = table c.args.trees.now in
+    c.loop-piece.invariant
+    ∙ ap (λ ps. local ps (newest c.loop-piece.work.values.items) (scopes_of t c.loop-piece.work.scopes.items)) (c.in_default.ensures.first t).0

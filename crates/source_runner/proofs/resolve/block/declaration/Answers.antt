@@ -1,0 +1,40 @@
+use Rattle.std.proofs.Common.{◌≡◌, ◌-◌, ◌<◌, suc, List, [], ◌∷◌, length, get_or, map, drop, reverse, Option, Some, None, option_map, refl, ap, sym, ◌∙◌, arith, Bor}
+use Rattle.std.specs.Option.{option_map_or}
+use Rattle.std.proofs.lemmas.List.{get_or-map, length-map}
+use Rattle.c_tree.specs.declared.name.CType.{CType}
+use Rattle.c_tree.specs.BareExpr.{Bytes, BareType, BareExpr}
+use Rattle.c_tree.specs.BareDef.{BareBinding}
+use Rattle.c_tree.specs.Bare.{bare_type, bare_expr, bare_stmt, bare_declaration}
+use Rattle.c_tree.proofs.Stmts.{by_node}
+use Rattle.c_types.specs.Resolved.{Expression, StatementThen, Convert, Declare}
+use Rattle.c_types.specs.Texts.{int}
+use Rattle.c_types.specs.Resolution.{Resolved, declared_by, tree_of, resolved}
+use Rattle.source_runner.specs.declared.node.NodeId.{NodeId}
+use Rattle.source_runner.specs.declared.node.Node.TheVariants.{Statement as StatementIs, Statements as StatementsAre}
+use Rattle.source_runner.specs.Nodes.{word, expression_at, expression_if, statement_at, statements_at, type_of, as_statement, as_statements}
+use Rattle.source_runner.specs.Parts.{a_node, a_node_if, a_word, in_type, both}
+use Rattle.source_runner.specs.Found.{found, in_found, each_node, before}
+use Rattle.source_runner.specs.Known.{known_of, locals_of, binding_of}
+use Rattle.source_runner.specs.Trees.{table}
+use Rattle.source_runner.proofs.Kept.{grows_trans, in_later, both_in, each_in, later_as, pushed}
+use Rattle.source_runner.proofs.Resolving.{before_more, one_more_local}
+use Rattle.source_runner.proofs.resolve.block.declaration.Goals as goal
+
+pub statement-requires : goal.statement-requires
+statement-requires c =
+    let value = in_later _ _ (a_node_if c.in_ok-value.value) c.in_ok-name.ensures.grows (in_later _ _ (a_node_if c.in_ok-value.value) c.in_ok-declared.ensures.grows c.in_ok-value.ensures.within) in
+    let declared = in_later _ _ _ c.in_ok-name.ensures.grows c.in_ok-declared.ensures.within in
+    both_in _ (in_type c.in_ok-declared.declared) (both (a_word c.in_ok-name.name) (a_node_if c.in_ok-value.value)) declared
+    (both_in _ (a_word c.in_ok-name.name) (a_node_if c.in_ok-value.value) c.in_ok-name.ensures.within value)
+
+pub returns-clause-tree : goal.returns-clause-tree
+returns-clause-tree c =
+    later_as statement_at _ c.statement.result _ _ c.statement.ensures.tree
+    (λ u g.
+    let g3 = grows_trans _ _ u c.statement.ensures.grows g in
+    let g2 = grows_trans _ _ u c.in_ok-name.ensures.grows g3 in
+    let g1 = grows_trans _ _ u c.in_ok-declared.ensures.grows g2 in
+    let d = c.args.declaration.now in
+    ap (λ type. Declare type (word u c.in_ok-name.name) (expression_if u c.in_ok-value.value)) (c.in_ok-declared.ensures.declared u g2)
+    ∙ ap (λ name. Declare (bare_type d.declared) name (expression_if u c.in_ok-value.value)) (c.in_ok-name.ensures.word u g3 ∙ c.as_str.ensures)
+    ∙ c.in_ok-value.ensures.tree u g1)

@@ -1,0 +1,47 @@
+use Rattle.std.proofs.Common.{◌≡◌, ◌-◌, ◌<◌, suc, List, [], ◌∷◌, length, get_or, map, drop, reverse, Option, Some, None, option_map, refl, ap, sym, ◌∙◌, arith, Bor}
+use Rattle.std.specs.Option.{option_map_or}
+use Rattle.std.proofs.lemmas.List.{get_or-map, length-map}
+use Rattle.c_tree.specs.declared.name.CType.{CType}
+use Rattle.c_tree.specs.BareExpr.{Bytes, BareType, BareExpr}
+use Rattle.c_tree.specs.BareDef.{BareBinding}
+use Rattle.c_tree.specs.Bare.{bare_type, bare_expr, bare_stmt, bare_declaration}
+use Rattle.c_tree.proofs.Stmts.{by_node}
+use Rattle.c_types.specs.Resolved.{Expression, StatementThen, Convert, Declare}
+use Rattle.c_types.specs.Texts.{int}
+use Rattle.c_types.specs.Resolution.{Resolved, declared_by, tree_of, resolved}
+use Rattle.source_runner.specs.declared.node.NodeId.{NodeId}
+use Rattle.source_runner.specs.declared.node.Node.TheVariants.{Statement as StatementIs, Statements as StatementsAre}
+use Rattle.source_runner.specs.Nodes.{word, expression_at, expression_if, statement_at, statements_at, type_of, as_statement, as_statements}
+use Rattle.source_runner.specs.Parts.{a_node, a_node_if, a_word, in_type, both}
+use Rattle.source_runner.specs.Found.{found, in_found, each_node, before}
+use Rattle.source_runner.specs.Known.{known_of, locals_of, binding_of}
+use Rattle.source_runner.specs.Trees.{table}
+use Rattle.source_runner.proofs.Kept.{grows_trans, in_later, both_in, each_in, later_as, pushed}
+use Rattle.source_runner.proofs.Resolving.{before_more, one_more_local}
+use Rattle.source_runner.proofs.resolve.block.linked.Goals as goal
+
+pub statements-requires-in-loop-i : goal.statements-requires-in-loop-i
+statements-requires-in-loop-i c =
+    let first : NodeId = record { 0 = 0 } in
+    let within : c.loop-i.i - 1 < length c.args.ids.now = omega (arith, c.loop-i-test.true, c.loop-i.invariant.short) in
+    both_in _ (a_node (get_or c.args.ids.now (c.loop-i.i - 1) first)) (a_node c.loop-i.list)
+    (in_later _ _ _ c.loop-i.invariant.grows (each_in _ c.args.ids.now (c.loop-i.i - 1) first c.requires within)) c.loop-i.invariant.within
+
+pub loop-i-preserved : goal.loop-i-preserved
+loop-i-preserved c =
+    let first : NodeId = record { 0 = 0 } in
+    let k = c.loop-i.i - 1 in
+    let ids = c.args.ids.now in
+    let within : k < length ids = omega (arith, c.loop-i-test.true, c.loop-i.invariant.short) in
+    let next : c.loop-i.i ≡ suc k = omega (arith, c.loop-i-test.true) in
+    record {
+      short = omega (arith, c.loop-i.invariant.short);
+      within = c.in_ok-list-2.ensures.within;
+      grows = grows_trans _ _ _ c.loop-i.invariant.grows c.statements-in-loop-i.ensures.grows;
+      tree = λ u g.
+          let s = statement_at u (get_or ids k first) in
+          c.in_ok-list-2.ensures.tree u g
+          ∙ before_more (map (statement_at u) ids) k c.loop-i.i s (statements_at u c.loop-i.list) next
+          (let long = length-map ids (statement_at u) in omega (arith, within, long)) (sym (get_or-map (statement_at u) ids k first s within))
+          (c.loop-i.invariant.tree u (grows_trans _ _ u c.statements-in-loop-i.ensures.grows g));
+    }

@@ -1,0 +1,19 @@
+use Rattle.std.proofs.Common.{◌≡◌, ◌≤◌, length, map, drop}
+use Rattle.c_types.specs.Resolved.{NoStatements}
+use Rattle.source_runner.specs.Nodes.{Table, statement_at, statements_at}
+use Rattle.source_runner.specs.Parts.{a_node}
+use Rattle.source_runner.specs.Found.{Grows, IsIn, before}
+use Rattle.source_runner.specs.Trees.{table}
+use Rattle.source_runner.proofs.resolve.block.linked.Given as goal
+
+abbrev pub invariant-loop-i : goal.invariant-loop-i
+invariant-loop-i l = record {
+  short : l.i ≤ length l.ids;
+  within : IsIn (table l.trees) (a_node l.list);
+  grows : Grows (table l.fn.trees) (table l.trees);
+  tree : (u : Table) → Grows (table l.trees) u
+      → statements_at u l.list ≡ before (drop l.i (map (statement_at u) l.ids)) NoStatements;
+}
+
+abbrev pub decreases-loop-i : goal.decreases-loop-i
+decreases-loop-i l = l.i

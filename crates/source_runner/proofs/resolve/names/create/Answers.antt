@@ -1,0 +1,48 @@
+use Rattle.std.proofs.Common.{◌≡◌, refl, ap, sym, ◌∙◌, map, Option, option_map, slice_get, string_bytes, Bor}
+use Rattle.c_tree.specs.declared.def.Binding.{Binding}
+use Rattle.c_tree.specs.BareExpr.{Bytes}
+use Rattle.c_tree.specs.BareDef.{BareBinding}
+use Rattle.c_tree.specs.Bare.{bare_type, bare_binding}
+use Rattle.c_types.specs.Names.{struct_name}
+use Rattle.c_types.specs.Texts.{int, bound, bound_type, members_of, parameters_of}
+use Rattle.c_types.specs.Resolved.{ExpressionThen, Convert}
+use Rattle.c_types.specs.Resolution.{tag_of, handed, passed}
+use Rattle.source_runner.specs.declared.node.Node.TheVariants.{Arguments as ArgumentsAre}
+use Rattle.source_runner.specs.Nodes.{Table, word, expression_at, arguments_at, type_of, as_arguments}
+use Rattle.source_runner.specs.Parts.{nothing, a_word, a_node, in_place, in_type, both}
+use Rattle.source_runner.specs.Found.{found, in_found, listed, each_node, given}
+use Rattle.source_runner.specs.Known.{known_of, locals_of}
+use Rattle.source_runner.specs.Trees.{table}
+use Rattle.source_runner.proofs.Kept.{grows_trans, in_later, both_in, left_in, right_in, later_as, word_kept, pushed}
+use Rattle.source_runner.proofs.Resolving.{local_variable, global_variable, or_same, handed_given, passed_nothing}
+use Rattle.source_runner.proofs.resolve.names.create.Goals as goal
+
+pub tree-requires : goal.tree-requires
+tree-requires c = in_later _ _ _ c.in_ok-place.ensures.grows (right_in _ (in_found c.args.thread) (in_found c.args.handed_over) c.requires)
+
+pub value-requires : goal.value-requires
+value-requires c =
+    let place = in_later _ _ _ c.in_ok-name.ensures.grows (in_later _ _ _ c.in_ok-passed.ensures.grows (in_later _ _ _ c.in_ok-value_tree.ensures.grows c.in_ok-place.ensures.within)) in
+    let passed = in_later _ _ _ c.in_ok-name.ensures.grows c.in_ok-passed.ensures.within in
+    let parts = both_in _ (in_place c.in_ok-place.place) (both (a_word c.in_ok-name.name) (a_node c.in_ok-passed.passed)) place
+    (both_in _ (a_word c.in_ok-name.name) (a_node c.in_ok-passed.passed) c.in_ok-name.ensures.within passed) in
+    both_in _ (both (in_place c.in_ok-place.place) (both (a_word c.in_ok-name.name) (a_node c.in_ok-passed.passed))) nothing parts
+    (record { words = refl; nodes = refl })
+
+pub returns-clause-found : goal.returns-clause-found
+returns-clause-found c =
+    later_as found _ c.value.result _ _ c.value.ensures.found
+    (λ u g.
+    let g4 = grows_trans _ _ u c.value.ensures.grows g in
+    let g3 = grows_trans _ _ u c.in_ok-name.ensures.grows g4 in
+    let g2 = grows_trans _ _ u c.in_ok-passed.ensures.grows g3 in
+    let g1 = grows_trans _ _ u c.in_ok-value_tree.ensures.grows g2 in
+    let e1 = c.in_ok-place.ensures.place u g1 in
+    let e2 = c.in_ok-value_tree.ensures.tree u g2 in
+    let e4 = c.in_ok-name.ensures.word u g4 in
+    let e3 = c.in_ok-passed.ensures.tree u g3
+    ∙ ap (λ p. given p (expression_at u c.in_ok-value_tree.value_tree)) c.parameter_at.ensures
+    ∙ ap (λ ps. given (slice_get ps 0) (expression_at u c.in_ok-value_tree.value_tree)) c.parameters.ensures
+    ∙ handed_given (parameters_of (known_of c.args.known.now c.args.name.now)) (expression_at u c.in_ok-value_tree.value_tree)
+    ∙ ap (handed (parameters_of (known_of c.args.known.now c.args.name.now))) e2 in
+    cc)

@@ -1,0 +1,45 @@
+use Rattle.std.proofs.Common.{◌≡◌, refl, ap, sym, ◌∙◌, map, Option, option_map, slice_get, string_bytes, Bor}
+use Rattle.c_tree.specs.declared.def.Binding.{Binding}
+use Rattle.c_tree.specs.BareExpr.{Bytes}
+use Rattle.c_tree.specs.BareDef.{BareBinding}
+use Rattle.c_tree.specs.Bare.{bare_type, bare_binding}
+use Rattle.c_types.specs.Names.{struct_name}
+use Rattle.c_types.specs.Texts.{int, bound, bound_type, members_of, parameters_of}
+use Rattle.c_types.specs.Resolved.{ExpressionThen, Convert}
+use Rattle.c_types.specs.Resolution.{tag_of, handed, passed}
+use Rattle.source_runner.specs.declared.node.Node.TheVariants.{Arguments as ArgumentsAre}
+use Rattle.source_runner.specs.Nodes.{Table, word, expression_at, arguments_at, type_of, as_arguments}
+use Rattle.source_runner.specs.Parts.{nothing, a_word, a_node, in_place, in_type, both}
+use Rattle.source_runner.specs.Found.{found, in_found, listed, each_node, given}
+use Rattle.source_runner.specs.Known.{known_of, locals_of}
+use Rattle.source_runner.specs.Trees.{table}
+use Rattle.source_runner.proofs.Kept.{grows_trans, in_later, both_in, left_in, right_in, later_as, word_kept, pushed}
+use Rattle.source_runner.proofs.Resolving.{local_variable, global_variable, or_same, handed_given, passed_nothing}
+use Rattle.source_runner.proofs.resolve.names.field.Goals as goal
+
+pub tag-requires : goal.tag-requires
+tag-requires c = c.declared.ensures.within _ c.requires
+
+pub tree-requires : goal.tree-requires
+tree-requires c = in_later _ _ _ c.in_ok-declared.ensures.grows (in_later _ _ _ c.in_ok-tag.ensures.grows c.requires)
+
+pub returns-clause-found : goal.returns-clause-found
+returns-clause-found c = λ u g.
+    let g3 = grows_trans _ _ u c.in_ok-name.ensures.grows g in
+    let g2 = grows_trans _ _ u c.in_ok-handle.ensures.grows g3 in
+    let g1 = grows_trans _ _ u c.in_ok-declared.ensures.grows g2 in
+    let look = known_of c.args.known.now in
+    let tagged : word u c.in_ok-tag.tag ≡ tag_of (found u c.args.of).type = c.in_ok-tag.ensures.word u g1 ∙ ap tag_of (c.declared.ensures.declared u) in
+    let typed = c.in_ok-declared.ensures.declared u g2 ∙ ap (λ (tag : Bytes). bound_type (members_of (look (struct_name tag))) c.args.name.now) tagged in
+    let e3 = c.in_ok-handle.ensures.tree u g3 in
+    let e4 = c.in_ok-name.ensures.word u g in
+    cc
+
+pub returns-clause-within : goal.returns-clause-within
+returns-clause-within c =
+    let tag = in_later _ _ _ c.in_ok-name.ensures.grows (in_later _ _ _ c.in_ok-handle.ensures.grows (in_later _ _ _ c.in_ok-declared.ensures.grows c.in_ok-tag.ensures.within)) in
+    let type = in_later _ _ _ c.in_ok-name.ensures.grows (in_later _ _ _ c.in_ok-handle.ensures.grows c.in_ok-declared.ensures.within) in
+    let handle = in_later _ _ _ c.in_ok-name.ensures.grows c.in_ok-handle.ensures.within in
+    both_in _ (both (a_word c.in_ok-tag.tag) (both (a_node c.in_ok-handle.handle) (a_word c.in_ok-name.name))) (in_type c.in_ok-declared.declared)
+    (both_in _ (a_word c.in_ok-tag.tag) (both (a_node c.in_ok-handle.handle) (a_word c.in_ok-name.name)) tag
+    (both_in _ (a_node c.in_ok-handle.handle) (a_word c.in_ok-name.name) handle c.in_ok-name.ensures.within)) type

@@ -1,0 +1,38 @@
+use Rattle.source_runner.specs.Nodes.{expression_at}
+use Rattle.source_runner.specs.Parts.{a_node, in_place, in_type, both}
+use Rattle.source_runner.specs.Found.{found, in_found}
+use Rattle.source_runner.proofs.Kept.{grows_trans, in_later, both_in, left_in, right_in, later_as}
+use Rattle.source_runner.proofs.resolve.operator.binary.Goals as goal
+
+pub side-requires : goal.side-requires
+side-requires c =
+    let a = left_in _ (in_found c.args.a) (in_found c.args.b) c.requires in
+    let b = right_in _ (in_found c.args.a) (in_found c.args.b) c.requires in
+    let types = both_in _ (in_type c.declared.result) (in_type c.declared-2.result) (c.declared.ensures.within _ a) (c.declared-2.ensures.within _ b) in
+    both_in _ (in_type c.common_type-compared.result) (in_found c.args.a) (c.common_type-compared.ensures.within _ types) a
+
+pub side-requires-2 : goal.side-requires-2
+side-requires-2 c =
+    let a = left_in _ (in_found c.args.a) (in_found c.args.b) c.requires in
+    let b = right_in _ (in_found c.args.a) (in_found c.args.b) c.requires in
+    let types = both_in _ (in_type c.declared.result) (in_type c.declared-2.result) (c.declared.ensures.within _ a) (c.declared-2.ensures.within _ b) in
+    in_later _ _ (both (in_type c.common_type-compared.result) (in_found c.args.b)) c.in_ok-left.ensures.grows
+    (both_in _ (in_type c.common_type-compared.result) (in_found c.args.b) (c.common_type-compared.ensures.within _ types) b)
+
+pub returns-clause-found : goal.returns-clause-found
+returns-clause-found c =
+    later_as found _ c.value.result _ _ c.value.ensures.found
+    (λ u g.
+    let g2 = grows_trans _ _ u c.value.ensures.grows g in
+    let g1 = grows_trans _ _ u c.in_ok-right.ensures.grows g2 in
+    let e1 = c.in_ok-left.ensures.tree u g1 in
+    let e2 = c.in_ok-right.ensures.tree u g2 in
+    let e3 = c.declared.ensures.declared u in
+    let e4 = c.declared-2.ensures.declared u in
+    let e5 = c.declared-3.ensures.declared u in
+    let e6 = c.declared-4.ensures.declared u in
+    let e7 = c.common_type-compared.ensures.declared u in
+    let e8 = c.kind.ensures u in
+    let e9 = c.kind-2.ensures u in
+    let e10 = c.binary_operator_kind-kind.ensures in
+    cc)

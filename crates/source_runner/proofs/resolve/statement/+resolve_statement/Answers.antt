@@ -1,0 +1,259 @@
+use Rattle.std.proofs.Common.{◌≡◌, ◌+◌, refl, sym, ap, ◌∙◌, List, [], ◌∷◌, drop, map, option_map, Option, arith}
+use Rattle.std.specs.Option.{option_map_or}
+use Rattle.std.proofs.lemmas.List.{map-append}
+use Rattle.c_tree.specs.BareDef.{BareBinding}
+use Rattle.c_tree.specs.BareExpr.{BareType}
+use Rattle.c_tree.specs.Bare.{bare_type, bare_expr, bare_stmt, bare_block}
+use Rattle.c_tree.proofs.Stmts.{by_node}
+use Rattle.c_types.specs.Resolved.{Expression, Statement, Statements, Block, Evaluate, If, IfElse, While, DoWhile, For, Return, Transaction, NoStatements, StatementThen}
+use Rattle.c_types.specs.Texts.{int}
+use Rattle.c_types.specs.Resolution.{statement, statements, tree_of, declared_by_all}
+use Rattle.source_runner.specs.Nodes.{expression_at, expression_if, statement_at, statements_at}
+use Rattle.source_runner.specs.Parts.{a_node, a_node_if, both}
+use Rattle.source_runner.specs.Found.{each_node, before}
+use Rattle.source_runner.specs.Known.{known_of, locals_of}
+use Rattle.source_runner.proofs.Kept.{grows_trans, in_later, both_in, each_more, later_as, told_ok}
+use Rattle.source_runner.proofs.Resolving.{before_last, sequence_more, declared_more, sequence_end, declared_end}
+use Rattle.source_runner.proofs.resolve.statement.+resolve_statement.Goals as goal
+
+pub resolve_statement-returns-in-Empty-clause-tree : goal.resolve_statement-returns-in-Empty-clause-tree
+resolve_statement-returns-in-Empty-clause-tree t c =
+    let look = known_of c.args.known.now in
+    let type = option_map_or (λ t. bare_type t.now) c.args.returned int in
+    let locals = locals_of c.args.locals.now in
+    later_as statement_at _ c.statement-in-Empty.result _ _ c.statement-in-Empty.ensures.tree
+    (λ u g. sym (ap (statement look type locals) (by_node c.args.stmt.now _ c.in-Empty.is)))
+
+pub resolve_statement-returns-in-Break-clause-tree : goal.resolve_statement-returns-in-Break-clause-tree
+resolve_statement-returns-in-Break-clause-tree t c =
+    let look = known_of c.args.known.now in
+    let type = option_map_or (λ t. bare_type t.now) c.args.returned int in
+    let locals = locals_of c.args.locals.now in
+    later_as statement_at _ c.statement-in-Break.result _ _ c.statement-in-Break.ensures.tree
+    (λ u g. sym (ap (statement look type locals) (by_node c.args.stmt.now _ c.in-Break.is)))
+
+pub resolve_statement-returns-in-Continue-clause-tree : goal.resolve_statement-returns-in-Continue-clause-tree
+resolve_statement-returns-in-Continue-clause-tree t c =
+    let look = known_of c.args.known.now in
+    let type = option_map_or (λ t. bare_type t.now) c.args.returned int in
+    let locals = locals_of c.args.locals.now in
+    later_as statement_at _ c.statement-in-Continue.result _ _ c.statement-in-Continue.ensures.tree
+    (λ u g. sym (ap (statement look type locals) (by_node c.args.stmt.now _ c.in-Continue.is)))
+
+pub resolve_statement-returns-in-Update-clause-tree : goal.resolve_statement-returns-in-Update-clause-tree
+resolve_statement-returns-in-Update-clause-tree t c =
+    let look = known_of c.args.known.now in
+    let type = option_map_or (λ t. bare_type t.now) c.args.returned int in
+    let locals = locals_of c.args.locals.now in
+    later_as statement_at _ c.statement-in-Update.result _ _ c.statement-in-Update.ensures.tree
+    (λ u g. sym (ap (statement look type locals) (by_node c.args.stmt.now _ c.in-Update.is)))
+
+pub resolve_statement-returns-in-Declare-clause-tree : goal.resolve_statement-returns-in-Declare-clause-tree
+resolve_statement-returns-in-Declare-clause-tree t c =
+    let look = known_of c.args.known.now in
+    let type = option_map_or (λ t. bare_type t.now) c.args.returned int in
+    let locals = locals_of c.args.locals.now in
+    later_as statement_at _ c.declaration.result _ _ c.declaration.ensures.tree
+    (λ u g. sym (ap (statement look type locals) (by_node c.args.stmt.now _ c.in-Declare.is)))
+
+pub resolve_statement-returns-in_ok-list-in-Block-clause-tree : goal.resolve_statement-returns-in_ok-list-in-Block-clause-tree
+resolve_statement-returns-in_ok-list-in-Block-clause-tree t c =
+    let look = known_of c.args.known.now in
+    let type = option_map_or (λ t. bare_type t.now) c.args.returned int in
+    let locals = locals_of c.args.locals.now in
+    later_as statement_at _ c.statement.result _ _ c.statement.ensures.tree
+    (λ u g.
+    let g1 = grows_trans _ _ u c.statement.ensures.grows g in
+    let elist = c.in_ok-list-in-Block.ensures.tree u g1 in
+    ap Block elist
+    ∙ sym (ap (statement look type locals) (by_node c.args.stmt.now _ c.in-Block.is)))
+
+pub resolve_statement-returns-in_ok-list-in-Transaction-clause-tree : goal.resolve_statement-returns-in_ok-list-in-Transaction-clause-tree
+resolve_statement-returns-in_ok-list-in-Transaction-clause-tree t c =
+    let look = known_of c.args.known.now in
+    let type = option_map_or (λ t. bare_type t.now) c.args.returned int in
+    let locals = locals_of c.args.locals.now in
+    later_as statement_at _ c.statement-in-Transaction.result _ _ c.statement-in-Transaction.ensures.tree
+    (λ u g.
+    let g1 = grows_trans _ _ u c.statement-in-Transaction.ensures.grows g in
+    let elist = c.in_ok-list-in-Transaction.ensures.tree u g1 in
+    ap Transaction elist
+    ∙ sym (ap (statement look type locals) (by_node c.args.stmt.now _ c.in-Transaction.is)))
+
+pub resolve_statement-returns-in_ok-x-in-Evaluate-clause-tree : goal.resolve_statement-returns-in_ok-x-in-Evaluate-clause-tree
+resolve_statement-returns-in_ok-x-in-Evaluate-clause-tree t c =
+    let look = known_of c.args.known.now in
+    let type = option_map_or (λ t. bare_type t.now) c.args.returned int in
+    let locals = locals_of c.args.locals.now in
+    later_as statement_at _ c.statement-in-Evaluate.result _ _ c.statement-in-Evaluate.ensures.tree
+    (λ u g.
+    let g1 = grows_trans _ _ u c.statement-in-Evaluate.ensures.grows g in
+    let ex = c.in_ok-x-in-Evaluate.ensures.tree u g1 in
+    ap Evaluate ex
+    ∙ sym (ap (statement look type locals) (by_node c.args.stmt.now _ c.in-Evaluate.is)))
+
+pub resolve_statement-returns-in_ok-y-in-If-clause-tree : goal.resolve_statement-returns-in_ok-y-in-If-clause-tree
+resolve_statement-returns-in_ok-y-in-If-clause-tree t c =
+    let look = known_of c.args.known.now in
+    let type = option_map_or (λ t. bare_type t.now) c.args.returned int in
+    let locals = locals_of c.args.locals.now in
+    later_as statement_at _ c.statement-in-If.result _ _ c.statement-in-If.ensures.tree
+    (λ u g.
+    let g2 = grows_trans _ _ u c.statement-in-If.ensures.grows g in
+    let g1 = grows_trans _ _ u c.in_ok-y-in-If.ensures.grows g2 in
+    let ex = c.in_ok-x-in-If.ensures.tree u g1 in
+    let ey = c.in_ok-y-in-If.ensures.tree u g2 in
+    ap (λ x. If x (statement_at u c.in_ok-y-in-If.y)) ex
+    ∙ ap (If (tree_of look locals (bare_expr c.in-If.e))) ey
+    ∙ sym (ap (statement look type locals) (by_node c.args.stmt.now _ c.in-If.is)))
+
+pub resolve_statement-returns-in_ok-y-in-While-clause-tree : goal.resolve_statement-returns-in_ok-y-in-While-clause-tree
+resolve_statement-returns-in_ok-y-in-While-clause-tree t c =
+    let look = known_of c.args.known.now in
+    let type = option_map_or (λ t. bare_type t.now) c.args.returned int in
+    let locals = locals_of c.args.locals.now in
+    later_as statement_at _ c.statement-in-While.result _ _ c.statement-in-While.ensures.tree
+    (λ u g.
+    let g2 = grows_trans _ _ u c.statement-in-While.ensures.grows g in
+    let g1 = grows_trans _ _ u c.in_ok-y-in-While.ensures.grows g2 in
+    let ex = c.in_ok-x-in-While.ensures.tree u g1 in
+    let ey = c.in_ok-y-in-While.ensures.tree u g2 in
+    ap (λ x. While x (statement_at u c.in_ok-y-in-While.y)) ex
+    ∙ ap (While (tree_of look locals (bare_expr c.in-While.e))) ey
+    ∙ sym (ap (statement look type locals) (by_node c.args.stmt.now _ c.in-While.is)))
+
+pub resolve_statement-returns-in_ok-x-in-DoWhile-clause-tree : goal.resolve_statement-returns-in_ok-x-in-DoWhile-clause-tree
+resolve_statement-returns-in_ok-x-in-DoWhile-clause-tree t c =
+    let look = known_of c.args.known.now in
+    let type = option_map_or (λ t. bare_type t.now) c.args.returned int in
+    let locals = locals_of c.args.locals.now in
+    later_as statement_at _ c.statement-in-DoWhile.result _ _ c.statement-in-DoWhile.ensures.tree
+    (λ u g.
+    let g2 = grows_trans _ _ u c.statement-in-DoWhile.ensures.grows g in
+    let g1 = grows_trans _ _ u c.in_ok-x-in-DoWhile.ensures.grows g2 in
+    let ey = c.in_ok-y-in-DoWhile.ensures.tree u g1 in
+    let ex = c.in_ok-x-in-DoWhile.ensures.tree u g2 in
+    ap (λ y. DoWhile y (expression_at u c.in_ok-x-in-DoWhile.x)) ey
+    ∙ ap (DoWhile (statement look type locals (bare_stmt c.in-DoWhile.a))) ex
+    ∙ sym (ap (statement look type locals) (by_node c.args.stmt.now _ c.in-DoWhile.is)))
+
+pub resolve_statement-returns-in_ok-z-in-IfElse-clause-tree : goal.resolve_statement-returns-in_ok-z-in-IfElse-clause-tree
+resolve_statement-returns-in_ok-z-in-IfElse-clause-tree t c =
+    let look = known_of c.args.known.now in
+    let type = option_map_or (λ t. bare_type t.now) c.args.returned int in
+    let locals = locals_of c.args.locals.now in
+    later_as statement_at _ c.statement-in-IfElse.result _ _ c.statement-in-IfElse.ensures.tree
+    (λ u g.
+    let g3 = grows_trans _ _ u c.statement-in-IfElse.ensures.grows g in
+    let g2 = grows_trans _ _ u c.in_ok-z-in-IfElse.ensures.grows g3 in
+    let g1 = grows_trans _ _ u c.in_ok-y-in-IfElse.ensures.grows g2 in
+    let ex = c.in_ok-x-in-IfElse.ensures.tree u g1 in
+    let ey = c.in_ok-y-in-IfElse.ensures.tree u g2 in
+    let ez = c.in_ok-z-in-IfElse.ensures.tree u g3 in
+    ap (λ x. IfElse x (statement_at u c.in_ok-y-in-IfElse.y) (statement_at u c.in_ok-z-in-IfElse.z)) ex
+    ∙ ap (λ y. IfElse (tree_of look locals (bare_expr c.in-IfElse.e)) y (statement_at u c.in_ok-z-in-IfElse.z)) ey
+    ∙ ap (IfElse (tree_of look locals (bare_expr c.in-IfElse.e)) (statement look type locals (bare_stmt c.in-IfElse.a))) ez
+    ∙ sym (ap (statement look type locals) (by_node c.args.stmt.now _ c.in-IfElse.is)))
+
+pub resolve_statement-returns-in_ok-x-in-Return-clause-tree : goal.resolve_statement-returns-in_ok-x-in-Return-clause-tree
+resolve_statement-returns-in_ok-x-in-Return-clause-tree t c =
+    let look = known_of c.args.known.now in
+    let type = option_map_or (λ t. bare_type t.now) c.args.returned int in
+    let locals = locals_of c.args.locals.now in
+    later_as statement_at _ c.statement-in-Return.result _ _ c.statement-in-Return.ensures.tree
+    (λ u g.
+    let g1 = grows_trans _ _ u c.statement-in-Return.ensures.grows g in
+    let ex = c.in_ok-x-in-Return.ensures.tree u g1 in
+    ap Return ex
+    ∙ sym (ap (statement look type locals) (by_node c.args.stmt.now _ c.in-Return.is)))
+
+pub resolve_statement-returns-in_ok-x-in-ReturnValue-clause-tree : goal.resolve_statement-returns-in_ok-x-in-ReturnValue-clause-tree
+resolve_statement-returns-in_ok-x-in-ReturnValue-clause-tree t c =
+    let look = known_of c.args.known.now in
+    let type = option_map_or (λ t. bare_type t.now) c.args.returned int in
+    let locals = locals_of c.args.locals.now in
+    later_as statement_at _ c.statement-in-ReturnValue.result _ _ c.statement-in-ReturnValue.ensures.tree
+    (λ u g.
+    let g1 = grows_trans _ _ u c.statement-in-ReturnValue.ensures.grows g in
+    let ex = c.in_ok-x-in-ReturnValue.ensures.tree u g1 in
+    ap Return ex
+    ∙ sym (ap (statement look type locals) (by_node c.args.stmt.now _ c.in-ReturnValue.is)))
+
+pub resolve_statement-returns-in_ok-z-in-For-clause-tree : goal.resolve_statement-returns-in_ok-z-in-For-clause-tree
+resolve_statement-returns-in_ok-z-in-For-clause-tree t c =
+    let look = known_of c.args.known.now in
+    let type = option_map_or (λ t. bare_type t.now) c.args.returned int in
+    let locals = locals_of c.args.locals.now in
+    let copy = c.in_ok-scope-in-For.ensures in
+    let inner = declared_by_all (bare_block (map bare_stmt c.in-For.first)) locals in
+    let declared = c.in_ok-f-in-For.ensures.locals ∙ ap (λ ls. declared_by_all (bare_block (map bare_stmt c.in-For.first)) (locals_of ls)) copy in
+    let at_test = ap locals_of c.as_slice.ensures.value ∙ declared in
+    let at_step = ap locals_of c.as_slice-in-For.ensures.value ∙ declared in
+    let at_body = ap locals_of c.as_slice-in-For-2.ensures.value ∙ declared in
+    let test = option_map bare_expr c.in-For.test in
+    let step = option_map bare_expr c.in-For.step in
+    later_as statement_at _ c.statement-in-For.result _ _ c.statement-in-For.ensures.tree
+    (λ u g.
+    let g4 = grows_trans _ _ u c.statement-in-For.ensures.grows g in
+    let g3 = grows_trans _ _ u c.in_ok-z-in-For.ensures.grows g4 in
+    let g2 = grows_trans _ _ u c.in_ok-y-in-For.ensures.grows g3 in
+    let g1 = grows_trans _ _ u c.in_ok-x-in-For.ensures.grows g2 in
+    let ef = c.in_ok-f-in-For.ensures.tree u g1 in
+    let ex = c.in_ok-x-in-For.ensures.tree u g2 in
+    let ey = c.in_ok-y-in-For.ensures.tree u g3 in
+    let ez = c.in_ok-z-in-For.ensures.tree u g4 in
+    ap (λ f. For f (expression_if u c.in_ok-x-in-For.x) (expression_if u c.in_ok-y-in-For.y) (statement_at u c.in_ok-z-in-For.z)) (ef ∙ ap (λ ls. statements look type (locals_of ls) (bare_block (map bare_stmt c.in-For.first))) copy)
+    ∙ ap (λ x. For (statements look type locals (bare_block (map bare_stmt c.in-For.first))) x (expression_if u c.in_ok-y-in-For.y) (statement_at u c.in_ok-z-in-For.z)) (ex ∙ ap (λ ls. option_map (tree_of look ls) test) at_test)
+    ∙ ap (λ y. For (statements look type locals (bare_block (map bare_stmt c.in-For.first))) (option_map (tree_of look inner) test) y (statement_at u c.in_ok-z-in-For.z)) (ey ∙ ap (λ ls. option_map (tree_of look ls) step) at_step)
+    ∙ ap (For (statements look type locals (bare_block (map bare_stmt c.in-For.first))) (option_map (tree_of look inner) test) (option_map (tree_of look inner) step)) (ez ∙ ap (λ ls. statement look type ls (bare_stmt c.in-For.a)) at_body)
+    ∙ sym (ap (statement look type locals) (by_node c.args.stmt.now _ c.in-For.is)))
+
+pub sequence-returns-clause-tree : goal.sequence-returns-clause-tree
+sequence-returns-clause-tree t c =
+    let look = known_of c.args.known.now in
+    let type = option_map_or (λ t. bare_type t.now) c.args.returned int in
+    let ids = c.loop-stmt.ids.items in
+    let xs = c.as_slice-stmt-items.result.now in
+    let inner = locals_of c.loop-stmt.locals.items in
+    later_as statements_at _ c.linked.result _ _ c.linked.ensures.tree
+    (λ u g.
+    ap (λ is. before (map (statement_at u) is) NoStatements) c.as_slice-order.ensures.value
+    ∙ ap (before (map (statement_at u) ids)) (sym (sequence_end look type xs c.loop-stmt.stmt-index inner c.loop-stmt-test.false))
+    ∙ sym (c.loop-stmt.invariant.tree u (grows_trans _ _ u c.linked.ensures.grows g))
+    ∙ ap (λ ys. statements look type (locals_of c.args.locals.now.items) (bare_block (map bare_stmt ys))) c.as_slice-stmt-items.ensures)
+
+pub resolve_statement-statement-requires-in-For : goal.resolve_statement-statement-requires-in-For
+resolve_statement-statement-requires-in-For t c =
+    let gx = c.in_ok-x-in-For.ensures.grows in
+    let gy = c.in_ok-y-in-For.ensures.grows in
+    let gz = c.in_ok-z-in-For.ensures.grows in
+    let f = a_node c.in_ok-f-in-For.f in
+    let x = a_node_if c.in_ok-x-in-For.x in
+    let y = a_node_if c.in_ok-y-in-For.y in
+    let z = a_node c.in_ok-z-in-For.z in
+    both_in _ f (both x (both y z)) (in_later _ _ f gz (in_later _ _ f gy (in_later _ _ f gx c.in_ok-f-in-For.ensures.within)))
+    (both_in _ x (both y z) (in_later _ _ x gz (in_later _ _ x gy c.in_ok-x-in-For.ensures.within))
+    (both_in _ y z (in_later _ _ y gz c.in_ok-y-in-For.ensures.within) c.in_ok-z-in-For.ensures.within))
+
+pub sequence-loop-stmt-preserved : goal.sequence-loop-stmt-preserved
+sequence-loop-stmt-preserved t c =
+    let look = known_of c.args.known.now in
+    let type = option_map_or (λ t. bare_type t.now) c.args.returned int in
+    let ids = c.loop-stmt.ids.items in
+    let xs = c.as_slice-stmt-items.result.now in
+    let i = c.loop-stmt.stmt-index in
+    let s = c.stmt-item.result in
+    let outer = locals_of c.loop-stmt.locals.items in
+    let here = ap locals_of c.as_slice.ensures.value in
+    record {
+      within = each_more _ ids c.push.new.self.items c.in_ok-id.id c.in_ok-push.ensures.items (in_later _ _ (each_node ids) c.resolve_statement.ensures.grows c.loop-stmt.invariant.within) c.in_ok-id.ensures.within;
+      grows = grows_trans _ _ _ c.loop-stmt.invariant.grows c.resolve_statement.ensures.grows;
+      tree = λ u g.
+          let rest = statements look type (locals_of c.declare.new.locals.items) (bare_block (map bare_stmt (drop (i + 1) xs))) in
+          c.loop-stmt.invariant.tree u (grows_trans _ _ u c.resolve_statement.ensures.grows g)
+          ∙ ap (before (map (statement_at u) ids)) (sequence_more look type xs i s outer (locals_of c.declare.new.locals.items) c.loop-stmt-test.true c.stmt-item.is c.in_ok-declare.ensures)
+          ∙ ap (λ x. before (map (statement_at u) ids) (StatementThen x rest)) (sym (c.in_ok-id.ensures.tree u g ∙ ap (λ ls. statement look type ls (bare_stmt s)) here))
+          ∙ sym (before_last (map (statement_at u) ids) (statement_at u c.in_ok-id.id) rest)
+          ∙ ap (λ ss. before ss rest) (sym (ap (map (statement_at u)) c.in_ok-push.ensures.items ∙ map-append (statement_at u) ids (c.in_ok-id.id ∷ [])));
+      locals = c.loop-stmt.invariant.locals ∙ declared_more xs i s outer (locals_of c.declare.new.locals.items) c.loop-stmt-test.true c.stmt-item.is c.in_ok-declare.ensures;
+    }

@@ -1,0 +1,21 @@
+use Rattle.std.proofs.Common.{◌≡◌, ◌≤◌, take, drop, length}
+use Rattle.c_types.specs.Evaluation.{stored}
+use Rattle.source_runner.specs.Nodes.{word}
+use Rattle.source_runner.specs.Trees.{table}
+use Rattle.source_runner.specs.Values.{seen}
+use Rattle.source_runner.specs.Work.{scopes_on, scopes_of}
+use Rattle.source_runner.proofs.scopes.store.Given as goal
+
+abbrev pub invariant-loop-left : goal.invariant-loop-left
+invariant-loop-left l =
+    let t = table l.trees in
+    let name = word t l.name in
+    record {
+      within : l.left ≤ length l.scopes;
+      same : l.scopes ≡ l.initial.scopes;
+      rest : stored name (seen l.value) (scopes_of t l.scopes)
+          ≡ scopes_on t (drop l.left l.scopes) (stored name (seen l.value) (scopes_of t (take l.left l.scopes)));
+    }
+
+abbrev pub decreases-loop-left : goal.decreases-loop-left
+decreases-loop-left l = l.left

@@ -1,0 +1,12 @@
+use Rattle.std.proofs.Common.{[], ◌∷◌, refl, arith}
+use Rattle.c_types.specs.Pieces.{Then}
+use Rattle.source_runner.specs.declared.piece.Piece.TheVariants as node
+use Rattle.source_runner.specs.Nodes.{statement_at}
+use Rattle.source_runner.proofs.Following.{from_decide}
+use Rattle.source_runner.proofs.step.then.Goals as goal
+
+pub returns : goal.returns
+returns c = λ t.
+    from_decide t (Then (statement_at t c.args.s) c.args.n) c.args.work.now c.decide.new.work c.decide.result
+    (node.Do c.args.s c.args.n ∷ []) [] refl (omega arith)
+    c.decide.ensures.meaning c.decide.ensures.scopes c.decide.ensures.falls

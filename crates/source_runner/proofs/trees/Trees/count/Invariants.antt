@@ -1,0 +1,11 @@
+use Rattle.std.proofs.Common.{◌≡◌, ◌+◌}
+use Rattle.c_types.specs.Evaluation.{count}
+use Rattle.source_runner.specs.Nodes.{arguments_at}
+use Rattle.source_runner.specs.Trees.{table}
+use Rattle.source_runner.proofs.trees.Trees.count.Given as goal
+
+abbrev pub invariant-loop-next : goal.invariant-loop-next
+invariant-loop-next l = l.so_far + count (arguments_at (table l.self) l.rest) ≡ count (arguments_at (table l.self) l.fn.arguments)
+
+abbrev pub decreases-loop-next : goal.decreases-loop-next
+decreases-loop-next l = count (arguments_at (table l.self) l.rest)

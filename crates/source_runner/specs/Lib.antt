@@ -1,0 +1,12 @@
+pub mod Found
+pub mod Grown
+pub mod Known
+pub mod Nodes
+pub mod Parts
+pub mod Pieces
+pub mod Steps
+pub mod Trees
+pub mod Values
+pub mod Weights
+pub mod Words
+pub mod Work
