@@ -13,7 +13,7 @@ use Rattle.c_parser.specs.TextWalk.{Found, TextWanted, TextPlan, TextParsed, exp
 use Rattle.c_parser.specs.TextWalk.Found.{part}
 use Rattle.c_parser.specs.TextWalk.TextPlan.{Give, Want}
 use Rattle.c_parser.specs.TextWalk.TextWanted.{Of}
-use Rattle.c_parser.specs.TextWalk.TextParsed.{found, stuck_at, deep_at}
+use Rattle.c_parser.specs.TextWalk.TextParsed.{found, deep_at}
 use Rattle.c_parser.proofs.TextParsing.{parsed_give, text_next, crosses, parsed_of, parsed_want, parsed_behind}
 
 -- behind a step that found something

@@ -1,6 +1,5 @@
 -- What becomes of something wanted in a text, by its first token: a sign that it begins with, or nothing.
-use Rattle.std.proofs.Common.{◌≡◌, ◌<◌, ◌≤◌, ℕ, suc, Bool, true, false, List, [], ◌∷◌, ◌++◌, length, Option, Some, None, refl, sym, ap, ◌∙◌, append_assoc}
-use Rattle.std.specs.Prelude.{option_map, if◌then◌else◌}
+use Rattle.std.proofs.Common.{◌≡◌, ◌<◌, ◌≤◌, ℕ, Bool, true, false, List, [], ◌∷◌, ◌++◌, length, Some, refl, sym, ap, ◌∙◌, append_assoc}
 use Rattle.std.proofs.Math.Path.{fun_ext}
 use Rattle.c_lexer.specs.declared.token.Token.{Token}
 use Rattle.c_tree.specs.declared.name.CType.{CType}
@@ -9,8 +8,8 @@ use Rattle.c_tree.specs.declared.expr.Expr.{Expr}
 use Rattle.c_expr_parser.specs.Readings.{most_depth}
 use Rattle.c_expr_parser.specs.Tables.{when_some, holds_ahead}
 use Rattle.c_expr_parser.specs.Walk.{assignment, conditional, as_expr}
-use Rattle.c_parser.specs.TextWalk.{Found, TextWanted, TextPlan, TextParsed, then_text, text_depth, text_takes, text_left_out, text_parsed, star_then, expr_then, conditional_then}
-use Rattle.c_parser.specs.TextWalk.TextPlan.{Give, Want}
+use Rattle.c_parser.specs.TextWalk.{Found, TextWanted, TextPlan, then_text, text_depth, text_takes, text_left_out, text_parsed, star_then, expr_then, conditional_then}
+use Rattle.c_parser.specs.TextWalk.TextPlan.{Want}
 use Rattle.c_parser.specs.TextWalk.TextParsed.{deep_at}
 use Rattle.c_parser.proofs.TextTraces.{then_behind}
 use Rattle.c_parser.proofs.TextParsing.{takes_first, sinks_first, passes_held}

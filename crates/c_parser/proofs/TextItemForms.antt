@@ -1,5 +1,5 @@
 -- How the plans of functions, transformers and items go on, by their first tokens, and what items make.
-use Rattle.std.proofs.Common.{◌≡◌, ◌<◌, ◌≤◌, ◌+◌, ◌-◌, ℕ, suc, Bool, true, false, List, [], ◌∷◌, ◌++◌, length, Option, Some, None, Result, refl, sym, ap, subst, ◌∙◌, arith}
+use Rattle.std.proofs.Common.{◌≡◌, ◌<◌, ◌≤◌, ◌-◌, ℕ, suc, Bool, true, false, List, [], ◌∷◌, ◌++◌, length, Option, Some, None, Result, refl, sym, ap, subst, ◌∙◌, arith}
 use Rattle.std.specs.Prelude.{option_map, if◌then◌else◌, codes, MatchResult, IfOk, Ok, Err}
 use Rattle.std.specs.Result.{IsErrAnd}
 use Rattle.std.proofs.Math.Path.{fun_ext}
@@ -13,18 +13,17 @@ use Rattle.c_tree.specs.declared.def.Parameters.TheVariants.{Named}
 use Rattle.c_tree.specs.declared.def.Def.{Def}
 use Rattle.c_tree.specs.declared.def.DefKind.TheVariants as kind
 use Rattle.c_expr_parser.specs.declared.stop.Stop.{Stop}
-use Rattle.c_expr_parser.specs.Readings.{most_depth}
 use Rattle.c_expr_parser.specs.Definitions.{def}
 use Rattle.c_expr_parser.specs.Tables.{is, is_kind, when_some, holds_ahead}
-use Rattle.c_expr_parser.specs.Walk.{Value, Plan, Word, Naming, Typing, nothing, named, takes, after, as_type, type_plan}
-use Rattle.c_expr_parser.specs.Walk.Plan.{Return, Then}
-use Rattle.c_parser.specs.TextWalk.{Found, TextWanted, TextPlan, TextParsed, then_text, behind, as_bindings, as_made, as_updates, as_parameters, text_at_depth, text_depth, text_takes, text_left_out, text_parsed, text_reads, TextStops, mark, name_then, type_then, conditional_then, type_from, members_behind, block_then, function_by, function_made, prototype_made, globals_by, typed_item, declared_plan, item_plan, behind_static}
+use Rattle.c_expr_parser.specs.Walk.{Plan, Word, Naming, Typing, nothing, named, after, as_type, type_plan}
+use Rattle.c_expr_parser.specs.Walk.Plan.{Return}
+use Rattle.c_parser.specs.TextWalk.{Found, TextWanted, TextPlan, TextParsed, then_text, behind, as_bindings, as_made, as_updates, as_parameters, text_at_depth, text_depth, text_takes, text_left_out, text_parsed, text_reads, TextStops, mark, name_then, type_then, conditional_then, type_from, members_behind, block_then, function_by, function_made, prototype_made, globals_by, typed_item, declared_plan, behind_static}
 use Rattle.c_parser.specs.TextWalk.Found.{part, made}
 use Rattle.c_parser.specs.TextWalk.TextPlan.{Give, Want}
 use Rattle.c_parser.specs.TextWalk.TextWanted.{Of, ParameterList, Body, Function, Tagged, Updates, Transformed, Item, Declared}
-use Rattle.c_parser.specs.TextWalk.TextParsed.{found, deep_at}
+use Rattle.c_parser.specs.TextWalk.TextParsed.{found}
 use Rattle.c_parser.specs.Parts.{function_plan, members_then, global_transformer_plan, Makes}
-use Rattle.c_parser.proofs.TextParsing.{text_next, parsed_takes, parsed_left, parsed_dead, parsed_end, parsed_end_left, parsed_give, parsed_then_text, passes_held, takes_first}
+use Rattle.c_parser.proofs.TextParsing.{text_next, parsed_takes, parsed_dead, parsed_end, parsed_give, parsed_then_text, passes_held, takes_first}
 use Rattle.c_parser.proofs.TextExits.{hands, stops_text, through}
 use Rattle.c_parser.proofs.TextForms.{IsFirst}
 use Rattle.c_parser.proofs.TextOpenings.{begins_as, then_give}

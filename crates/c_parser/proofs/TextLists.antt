@@ -1,10 +1,10 @@
 -- How the plans of parameters, members, globals and items go on, by their first tokens.
-use Rattle.std.proofs.Common.{◌≡◌, ◌<◌, ◌≤◌, ℕ, suc, Bool, true, false, List, [], ◌∷◌, ◌++◌, length, Option, Some, None, refl, sym, ap, ◌∙◌, arith, append_assoc, append-nil}
-use Rattle.std.specs.Prelude.{option_map, if◌then◌else◌, codes, map}
+use Rattle.std.proofs.Common.{◌≡◌, ◌<◌, ◌≤◌, ℕ, Bool, true, false, List, [], ◌∷◌, ◌++◌, length, Option, Some, None, refl, sym, ap, ◌∙◌, arith, append_assoc, append-nil}
+use Rattle.std.specs.Prelude.{option_map, if◌then◌else◌, codes}
 use Rattle.std.proofs.lemmas.List.{map-append}
 use Rattle.std.proofs.Math.Path.{fun_ext}
 use Rattle.c_lexer.specs.declared.token.Token.{Token}
-use Rattle.c_lexer.specs.declared.token.TokenKind.TheVariants.{Identifier, Keyword, Profile, Number, Mark}
+use Rattle.c_lexer.specs.declared.token.TokenKind.TheVariants.{Identifier, Keyword, Mark}
 use Rattle.c_tree.specs.declared.name.Name.{Name}
 use Rattle.c_tree.specs.declared.name.CType.{CType}
 use Rattle.c_tree.specs.declared.expr.Expr.{Expr}
@@ -17,15 +17,15 @@ use Rattle.c_tree.specs.declared.def.DefKind.TheVariants as kind
 use Rattle.c_expr_parser.specs.Readings.{most_depth}
 use Rattle.c_expr_parser.specs.Definitions.{def, defs}
 use Rattle.c_expr_parser.specs.Tables.{is, is_kind, when_some, holds_ahead, begins_type}
-use Rattle.c_expr_parser.specs.Walk.{Value, Plan, Word, Naming, Cast, nothing, named, takes, after, as_expr, as_type, conditional_rest, operand_plan, type_plan}
-use Rattle.c_expr_parser.specs.Walk.Plan.{Return, Then}
-use Rattle.c_parser.specs.TextWalk.{Found, TextWanted, TextPlan, TextParsed, then_text, behind, as_part, as_bindings, as_values, as_globals, as_listed, as_length, as_updates, text_depth, text_takes, text_left_out, text_at_depth, text_parsed, text_reads, mark, name_then, type_then, conditional_then, type_from, members_behind, names, parameters_by}
-use Rattle.c_parser.specs.TextWalk.Found.{part, parameters, bindings, values, listed, global, globals, updates, made}
+use Rattle.c_expr_parser.specs.Walk.{Plan, Word, Naming, Cast, nothing, named, after, as_expr, as_type, conditional_rest, operand_plan}
+use Rattle.c_expr_parser.specs.Walk.Plan.{Return}
+use Rattle.c_parser.specs.TextWalk.{TextPlan, behind, as_part, as_bindings, as_values, as_listed, as_length, as_updates, text_at_depth, text_parsed, text_reads, mark, type_then, conditional_then, type_from, members_behind, names, parameters_by}
+use Rattle.c_parser.specs.TextWalk.Found.{part, parameters, bindings, values, global, updates}
 use Rattle.c_parser.specs.TextWalk.TextPlan.{Give, Want}
-use Rattle.c_parser.specs.TextWalk.TextWanted.{Of, ParameterList, ParameterName, MoreMembers, MoreNames, MoreValues, AfterComma, ArrayInitial, ArrayLength, Global, Updates}
+use Rattle.c_parser.specs.TextWalk.TextWanted.{Of, ParameterList, ParameterName, MoreMembers, MoreValues, AfterComma, ArrayInitial, ArrayLength, Global, Updates}
 use Rattle.c_parser.specs.TextWalk.TextParsed.{deep_at}
-use Rattle.c_parser.specs.Parts.{named_plan, unnamed_plan, member_line_then, members_then, values_then, update_then}
-use Rattle.c_parser.proofs.TextParsing.{parsed_takes, parsed_left, parsed_dead, parsed_end, parsed_end_left, passes_held, takes_first, sinks_first, dead_first}
+use Rattle.c_parser.specs.Parts.{named_plan, unnamed_plan, member_line_then, update_then}
+use Rattle.c_parser.proofs.TextParsing.{parsed_takes, parsed_left, parsed_dead, parsed_end, parsed_end_left, passes_held, takes_first, sinks_first}
 use Rattle.c_parser.proofs.TextForms.{IsFirst, sign_some, then_conditional}
 use Rattle.c_parser.proofs.TextOpenings.{begins_as, begins_type_as, type_none, no_operand, then_give}
 use Rattle.c_parser.proofs.TextLoops.{more_members, more_values, more_updates}

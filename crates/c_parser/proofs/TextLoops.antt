@@ -16,8 +16,8 @@ use Rattle.c_expr_parser.specs.Definitions.{defs}
 use Rattle.c_expr_parser.specs.Readings.{most_depth}
 use Rattle.c_expr_parser.specs.Statements.{stmt, declares}
 use Rattle.c_expr_parser.specs.Tables.{is, holds_ahead}
-use Rattle.c_parser.specs.TextWalk.{Found, TextPlan, mark, star_then, variables, as_values, as_declarations, as_bindings, as_types, as_globals, as_updates, text_parsed}
-use Rattle.c_parser.specs.TextWalk.Found.{declarations, bindings, parameters, values, globals, updates, made}
+use Rattle.c_parser.specs.TextWalk.{TextPlan, mark, star_then, variables, as_values, as_declarations, as_bindings, as_types, as_globals, as_updates, text_parsed}
+use Rattle.c_parser.specs.TextWalk.Found.{declarations, parameters, made}
 use Rattle.c_parser.specs.TextWalk.TextPlan.{Give, Want}
 use Rattle.c_parser.specs.TextWalk.TextWanted.{MoreVariables, MoreParameters, MoreTypes, MoreMembers, MoreNames, MoreGlobals, MoreValues, Updates}
 use Rattle.c_parser.specs.TextWalk.TextParsed.{deep_at}

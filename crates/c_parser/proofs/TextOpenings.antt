@@ -13,14 +13,13 @@ use Rattle.c_tree.specs.declared.stmt.Stmt.{Stmt}
 use Rattle.c_tree.specs.declared.stmt.StmtNode.TheVariants.{Evaluate}
 use Rattle.c_expr_parser.specs.Readings.{most_depth}
 use Rattle.c_expr_parser.specs.Statements.{stmt, declares}
-use Rattle.c_expr_parser.specs.Tables.{is, is_kind, when_some, holds_ahead, begins_type, is_integer_word, prefix_of}
-use Rattle.c_expr_parser.specs.Walk.{Value, Wanted, Plan, Word, nothing, Cast, Typing, takes, depth_of, after, as_expr, as_type, assignment, assignment_rest, conditional, conditional_rest, operand_plan, operand_by, type_plan}
+use Rattle.c_expr_parser.specs.Tables.{is, when_some, holds_ahead, begins_type, is_integer_word, prefix_of}
+use Rattle.c_expr_parser.specs.Walk.{Value, Wanted, Plan, Word, nothing, Cast, Typing, takes, depth_of, after, as_expr, as_type, assignment_rest, operand_plan, operand_by, type_plan}
 use Rattle.c_expr_parser.specs.Walk.Plan.{Return, Then}
-use Rattle.c_expr_parser.proofs.Traces.{after_return}
-use Rattle.c_expr_parser.proofs.Steps.{with_values, look_values, is_spelled}
+use Rattle.c_expr_parser.proofs.Steps.{look_values, is_spelled}
 use Rattle.c_expr_parser.proofs.Forms.{mark_plan}
 use Rattle.c_expr_parser.proofs.Parsing.{no_items}
-use Rattle.c_parser.specs.TextWalk.{Found, TextWanted, TextPlan, TextParsed, then_text, behind, as_part, text_depth, text_takes, text_left_out, text_at_depth, text_parsed, mark, expr_then, expr_from, type_then, type_from, as_place, as_statement, as_statements, declaration_behind, keyword_statement, statement_by, statement_plan, expression_statement, text_reads}
+use Rattle.c_parser.specs.TextWalk.{Found, TextWanted, TextPlan, then_text, behind, as_part, text_depth, text_takes, text_left_out, text_at_depth, text_parsed, mark, expr_then, expr_from, type_then, type_from, as_place, as_statement, as_statements, declaration_behind, statement_by, statement_plan, expression_statement, text_reads}
 use Rattle.c_parser.specs.TextWalk.Found.{part, place, optional, statement, statements}
 use Rattle.c_parser.specs.TextWalk.TextPlan.{Give, Want}
 use Rattle.c_parser.specs.TextWalk.TextWanted.{Of, Optional, Statement, Items, Place, First}

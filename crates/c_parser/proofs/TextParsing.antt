@@ -8,7 +8,6 @@ use Rattle.c_expr_parser.specs.Tables.{holds_ahead}
 use Rattle.c_expr_parser.specs.Walk.{Value, Wanted, Plan, takes, left_out, depth_of, Trace, run, remaining, cut, at_depth, Parsed, read, stuck, deep, parsed, reads}
 use Rattle.c_expr_parser.specs.Walk.Plan.{Return, Then}
 use Rattle.c_expr_parser.specs.Walk.Trace.{Put, Took, Dead}
-use Rattle.c_expr_parser.proofs.Traces.{remaining_run}
 use Rattle.std.proofs.lemmas.Bool.{leb-true}
 use Rattle.c_expr_parser.proofs.Parsing.{no_items}
 use Rattle.c_parser.specs.TextWalk.{Found, TextWanted, TextPlan, TextTrace, TextParsed, then_text, behind, as_part, text_depth, text_takes, text_left_out, text_passed, text_met, text_finish, run_text, text_remaining, text_at_depth, text_cut, text_parsed, text_reads}

@@ -19,7 +19,7 @@ use Rattle.c_tree.specs.declared.def.DefKind.TheVariants as kind
 use Rattle.c_expr_parser.specs.declared.stop.Stop.{Stop}
 use Rattle.c_expr_parser.specs.declared.stop.Stop.TheVariants.{Stuck, Deep, Memory}
 use Rattle.c_expr_parser.specs.Tables.{look}
-use Rattle.c_expr_parser.specs.Statements.{stmt, declares}
+use Rattle.c_expr_parser.specs.Statements.{stmt}
 use Rattle.c_expr_parser.specs.Definitions.{def, defs}
 use Rattle.c_parser.specs.declared.opening.Word.{Word}
 use Rattle.c_parser.specs.declared.opening.Word.TheVariants as word

@@ -1,16 +1,16 @@
-use Rattle.std.proofs.Common.{◌≡◌, ◌∷◌, ◌++◌, ◌+◌, ℕ, suc, [], List, Option, Some, None, refl, sym, ap, subst, ◌∙◌, arith, add-one, length}
+use Rattle.std.proofs.Common.{◌≡◌, suc, refl, sym, ap, ◌∙◌, arith, add-one}
 use Rattle.std.specs.Prelude.{codes}
-use Rattle.c_lexer.specs.declared.token.TokenKind.TheVariants.{Mark, Keyword}
-use Rattle.c_tree.specs.declared.stmt.StmtNode.TheVariants.{Block, If, IfElse, While, DoWhile, For, Transaction}
+use Rattle.c_lexer.specs.declared.token.TokenKind.TheVariants.{Keyword}
+use Rattle.c_tree.specs.declared.stmt.StmtNode.TheVariants.{Block, While, DoWhile, For, Transaction}
 use Rattle.c_expr_parser.specs.Walk.{nothing}
 use Rattle.c_expr_parser.specs.Statements.{stmt}
 use Rattle.c_expr_parser.specs.Tables.{is}
-use Rattle.c_parser.specs.TextWalk.{Give, Want, Statement, Else, Items, Place, Optional, statement, statements, part, as_statement, as_statements, as_place, as_optional, if_else, simple, do_statement, for_statement, transaction, mark, found, text_parsed}
+use Rattle.c_parser.specs.TextWalk.{Give, Want, Statement, Else, Items, Place, Optional, statement, part, as_statement, as_statements, as_place, as_optional, if_else, simple, do_statement, for_statement, transaction, mark, found, text_parsed}
 use Rattle.c_parser.specs.Parts.{opened, word_plan, items_then}
 use Rattle.c_parser.proofs.TextParsing.{parsed_give, dead_end}
 use Rattle.c_parser.proofs.TextForms.{sign_none, sign_some, shifted}
 use Rattle.c_parser.proofs.TextOpenings.{opened_reads, opened_deep, evaluate_reads, items_end, items_statement, items_declaration, items_close}
-use Rattle.c_parser.proofs.TextExits.{through, through_of, through_expr, hands, hands_of, hands_want, hands_expr, sinks_on, tail_call, gives_tail}
+use Rattle.c_parser.proofs.TextExits.{through, through_of, hands, hands_of, hands_want, sinks_on, tail_call, gives_tail}
 use Rattle.c_parser.proofs.+statement.Goals as goal
 
 pub statement::statement-returns-in_default-clause-reads : goal.statement::statement-returns-in_default-clause-reads

@@ -1,4 +1,4 @@
-use Rattle.std.proofs.Common.{◌≡◌, ◌∙◌, refl, sym, ap, arith, Some}
+use Rattle.std.proofs.Common.{◌∙◌, refl, sym, ap, arith, Some}
 use Rattle.std.specs.Prelude.{codes}
 use Rattle.c_expr_parser.specs.Tables.{when_some}
 use Rattle.c_parser.specs.TextWalk.{Give, Place, place}

@@ -1,8 +1,6 @@
-use Rattle.std.proofs.Common.{◌≡◌, ◌∷◌, ◌++◌, [], refl, sym, ap, ◌∙◌, arith, length}
-use Rattle.std.specs.Prelude.{codes}
-use Rattle.c_parser.specs.TextWalk.{text_parsed, mark}
+use Rattle.std.proofs.Common.{◌∷◌, ◌++◌, [], refl, ap, ◌∙◌, arith, length}
 use Rattle.c_parser.proofs.TextExits.{through_of, hands, hands_of, sinks_on}
-use Rattle.c_parser.proofs.TextLoops.{more_variables, variable_behind, variables_end, variables_deep, variables_next, variables_shift}
+use Rattle.c_parser.proofs.TextLoops.{variable_behind, variables_end, variables_deep, variables_next, variables_shift}
 use Rattle.c_parser.proofs.declaration.declaration.Goals as goal
 
 pub returns-in_err-first-clause-reads : goal.returns-in_err-first-clause-reads

@@ -1,4 +1,4 @@
-use Rattle.std.proofs.Common.{◌≡◌, Some, None, refl, sym, ap, ◌∙◌}
+use Rattle.std.proofs.Common.{Some, None, refl, sym, ap, ◌∙◌}
 use Rattle.std.specs.Prelude.{codes}
 use Rattle.c_lexer.specs.declared.token.TokenKind.TheVariants.{Mark}
 use Rattle.c_expr_parser.specs.Tables.{is}

@@ -1,13 +1,13 @@
-use Rattle.std.proofs.Common.{◌≡◌, ◌∷◌, ◌++◌, ◌+◌, ℕ, suc, [], List, Option, Some, None, refl, sym, ap, subst, ◌∙◌, arith, add-one, length}
+use Rattle.std.proofs.Common.{Some, None, refl, ap, ◌∙◌, arith}
 use Rattle.std.specs.Prelude.{codes}
-use Rattle.c_lexer.specs.declared.token.TokenKind.TheVariants.{Mark, Keyword, Identifier}
-use Rattle.c_expr_parser.specs.Tables.{is, is_kind}
+use Rattle.c_lexer.specs.declared.token.TokenKind.TheVariants.{Mark}
+use Rattle.c_expr_parser.specs.Tables.{is}
 use Rattle.c_parser.specs.TextWalk.{Give, ArrayInitial, listed, text_parsed}
 use Rattle.c_parser.specs.Parts.{values_then}
-use Rattle.c_parser.proofs.TextParsing.{parsed_give, dead_end, dead_first, takes_first, sinks_first}
-use Rattle.c_parser.proofs.TextForms.{sign_none, sign_some, sign_deep, then_star, shifted}
+use Rattle.c_parser.proofs.TextParsing.{parsed_give}
+use Rattle.c_parser.proofs.TextForms.{sign_none, sign_some}
 use Rattle.c_parser.proofs.TextOpenings.{then_give}
-use Rattle.c_parser.proofs.TextExits.{through, through_of, through_expr, through_conditional, hands, hands_of, hands_want, hands_expr, hands_conditional, sinks_on, tail_call, gives_tail}
+use Rattle.c_parser.proofs.TextExits.{hands}
 use Rattle.c_parser.proofs.global.array_initial.Goals as goal
 
 pub returns-in_default-clause-reads : goal.returns-in_default-clause-reads

@@ -1,10 +1,9 @@
-use Rattle.std.proofs.Common.{◌≡◌, ◌∷◌, ◌++◌, ◌+◌, ℕ, suc, [], List, Option, Some, None, refl, sym, ap, subst, ◌∙◌, arith, add-one, length}
-use Rattle.std.specs.Prelude.{codes}
+use Rattle.std.proofs.Common.{Some, None, sym, ap, ◌∙◌}
 use Rattle.c_tree.specs.declared.def.DefKind.TheVariants as kind
-use Rattle.c_parser.specs.TextWalk.{Give, global, found, text_parsed}
-use Rattle.c_parser.proofs.TextParsing.{parsed_give, dead_end, dead_first, takes_first, sinks_first}
+use Rattle.c_parser.specs.TextWalk.{Give, global, found}
+use Rattle.c_parser.proofs.TextParsing.{parsed_give}
 use Rattle.c_parser.proofs.TextLists.{global_value, global_array, global_plain}
-use Rattle.c_parser.proofs.TextExits.{through, through_of, through_expr, through_conditional, hands, hands_of, hands_want, hands_expr, hands_conditional, sinks_on, tail_call, gives_tail}
+use Rattle.c_parser.proofs.TextExits.{through, through_of, through_conditional, hands_of, hands_want, hands_conditional}
 use Rattle.c_parser.proofs.global.global.Goals as goal
 
 pub returns-in_err-value-clause-reads : goal.returns-in_err-value-clause-reads

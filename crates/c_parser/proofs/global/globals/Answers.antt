@@ -1,14 +1,14 @@
-use Rattle.std.proofs.Common.{◌≡◌, ◌∷◌, ◌++◌, ◌+◌, ℕ, suc, [], List, Option, Some, None, refl, sym, ap, subst, ◌∙◌, arith, add-one, length, append-nil}
+use Rattle.std.proofs.Common.{◌≡◌, ◌∷◌, ◌++◌, [], refl, ap, ◌∙◌, arith, length, append-nil}
 use Rattle.std.specs.Prelude.{codes}
-use Rattle.c_lexer.specs.declared.token.TokenKind.TheVariants.{Mark, Keyword, Identifier}
-use Rattle.c_expr_parser.specs.Tables.{is, is_kind}
+use Rattle.c_lexer.specs.declared.token.TokenKind.TheVariants.{Mark}
+use Rattle.c_expr_parser.specs.Tables.{is}
 use Rattle.c_expr_parser.specs.Definitions.{defs}
 use Rattle.c_parser.specs.TextWalk.{Give, Want, Global as GlobalWanted, MoreGlobals, globals, made, as_global, as_globals, mark, name_then, star_then, then_text, text_parsed}
 use Rattle.c_parser.specs.Parts.{globals_plan}
-use Rattle.c_parser.proofs.TextParsing.{parsed_give, dead_end, dead_first, takes_first, sinks_first}
-use Rattle.c_parser.proofs.TextForms.{sign_none, sign_some, sign_deep, then_star, shifted}
+use Rattle.c_parser.proofs.TextParsing.{parsed_give}
+use Rattle.c_parser.proofs.TextForms.{sign_none, sign_some, then_star, shifted}
 use Rattle.c_parser.proofs.TextLists.{defs_more}
-use Rattle.c_parser.proofs.TextExits.{through, through_of, through_expr, through_conditional, hands, hands_of, hands_want, hands_expr, hands_conditional, sinks_on, tail_call, gives_tail}
+use Rattle.c_parser.proofs.TextExits.{through, through_of, hands, hands_of, hands_want}
 use Rattle.c_parser.proofs.global.globals.Goals as goal
 
 pub returns-in_err-kind-clause-reads : goal.returns-in_err-kind-clause-reads

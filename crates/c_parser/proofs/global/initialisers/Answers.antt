@@ -1,13 +1,13 @@
-use Rattle.std.proofs.Common.{◌≡◌, ◌∷◌, ◌++◌, ◌+◌, ℕ, suc, [], List, Option, Some, None, refl, sym, ap, subst, ◌∙◌, arith, add-one, length, append-nil}
+use Rattle.std.proofs.Common.{◌≡◌, ◌∷◌, ◌++◌, [], refl, sym, ap, ◌∙◌, arith, length, append-nil}
 use Rattle.std.specs.Prelude.{codes}
-use Rattle.c_lexer.specs.declared.token.TokenKind.TheVariants.{Mark, Keyword, Identifier}
-use Rattle.c_expr_parser.specs.Tables.{is, is_kind}
+use Rattle.c_lexer.specs.declared.token.TokenKind.TheVariants.{Mark}
+use Rattle.c_expr_parser.specs.Tables.{is}
 use Rattle.c_parser.specs.TextWalk.{Give, Want, MoreValues, AfterComma, values, as_values, mark, text_parsed}
 use Rattle.c_parser.specs.Parts.{values_then}
-use Rattle.c_parser.proofs.TextForms.{sign_none, sign_some, sign_deep, then_star, shifted}
-use Rattle.c_parser.proofs.TextLoops.{more_parameters, more_types, more_members, more_names, more_globals, more_values, more_updates}
+use Rattle.c_parser.proofs.TextForms.{sign_none, shifted}
+use Rattle.c_parser.proofs.TextLoops.{more_values}
 use Rattle.c_parser.proofs.TextLists.{values_last, values_next}
-use Rattle.c_parser.proofs.TextExits.{through, through_of, through_expr, through_conditional, hands, hands_of, hands_want, hands_expr, hands_conditional, sinks_on, tail_call, gives_tail}
+use Rattle.c_parser.proofs.TextExits.{through_of, through_conditional, hands_of, hands_conditional}
 use Rattle.c_parser.proofs.global.initialisers.Goals as goal
 
 pub returns-in_err-rest-clause-reads : goal.returns-in_err-rest-clause-reads

@@ -1,7 +1,7 @@
-use Rattle.std.proofs.Common.{◌≡◌, ◌∷◌, ◌++◌, ◌+◌, ℕ, suc, [], List, Option, Some, None, refl, sym, ap, subst, ◌∙◌, arith, add-one, length}
+use Rattle.std.proofs.Common.{◌≡◌, ◌++◌, refl}
 use Rattle.c_parser.specs.TextWalk.{text_parsed}
 use Rattle.c_parser.specs.Parts.{member_line_then}
-use Rattle.c_parser.proofs.TextExits.{through, through_of, through_expr, through_conditional, hands, hands_of, hands_want, hands_expr, hands_conditional, sinks_on, tail_call, gives_tail}
+use Rattle.c_parser.proofs.TextExits.{through_of, hands_of, tail_call}
 use Rattle.c_parser.proofs.members.member_line.Goals as goal
 
 pub returns-in_err-declared-clause-reads : goal.returns-in_err-declared-clause-reads

@@ -1,11 +1,11 @@
-use Rattle.std.proofs.Common.{◌≡◌, ◌∷◌, ◌++◌, ◌+◌, ℕ, suc, [], List, Option, Some, None, refl, sym, ap, subst, ◌∙◌, arith, add-one, length, append-nil}
+use Rattle.std.proofs.Common.{◌≡◌, ◌∷◌, ◌++◌, [], refl, ap, ◌∙◌, arith, length, append-nil}
 use Rattle.std.specs.Prelude.{codes}
-use Rattle.c_lexer.specs.declared.token.TokenKind.TheVariants.{Mark, Keyword, Identifier}
-use Rattle.c_expr_parser.specs.Tables.{is, is_kind}
-use Rattle.c_parser.specs.TextWalk.{Give, Want, MoreNames, bindings, as_bindings, mark, names, star_then, then_text, text_parsed}
+use Rattle.c_lexer.specs.declared.token.TokenKind.TheVariants.{Mark}
+use Rattle.c_expr_parser.specs.Tables.{is}
+use Rattle.c_parser.specs.TextWalk.{Give, MoreNames, bindings, as_bindings, mark, names, star_then, then_text, text_parsed}
 use Rattle.c_parser.specs.Parts.{names_then}
 use Rattle.c_parser.proofs.TextForms.{sign_none, sign_some, sign_deep, then_star, shifted}
-use Rattle.c_parser.proofs.TextExits.{through, through_of, through_expr, through_conditional, hands, hands_of, hands_want, hands_expr, hands_conditional, sinks_on, tail_call, gives_tail}
+use Rattle.c_parser.proofs.TextExits.{through_of, hands, hands_of, sinks_on}
 use Rattle.c_parser.proofs.members.member_names.Goals as goal
 
 pub returns-in_err-first-clause-reads : goal.returns-in_err-first-clause-reads

@@ -1,9 +1,9 @@
-use Rattle.std.proofs.Common.{◌≡◌, ◌∷◌, ◌++◌, ◌+◌, ℕ, suc, [], List, Option, Some, None, refl, sym, ap, subst, ◌∙◌, arith, add-one, length}
+use Rattle.std.proofs.Common.{◌++◌, sym, ap, ◌∙◌, arith}
 use Rattle.c_parser.specs.TextWalk.{text_parsed}
 use Rattle.c_parser.specs.Parts.{member_line_then}
-use Rattle.c_parser.proofs.TextLoops.{more_parameters, more_types, more_members, more_names, more_globals, more_values, more_updates}
+use Rattle.c_parser.proofs.TextLoops.{more_members}
 use Rattle.c_parser.proofs.TextLists.{members_next, members_end}
-use Rattle.c_parser.proofs.TextExits.{through, through_of, through_expr, through_conditional, hands, hands_of, hands_want, hands_expr, hands_conditional, sinks_on, tail_call, gives_tail}
+use Rattle.c_parser.proofs.TextExits.{hands}
 use Rattle.c_parser.proofs.members.members.Goals as goal
 
 pub returns-in_err-first-clause-reads : goal.returns-in_err-first-clause-reads

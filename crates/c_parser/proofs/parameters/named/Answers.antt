@@ -1,14 +1,14 @@
-use Rattle.std.proofs.Common.{◌≡◌, ◌∷◌, ◌++◌, ◌+◌, ℕ, suc, [], List, Option, Some, None, refl, sym, ap, subst, ◌∙◌, arith, add-one, length, append-nil}
+use Rattle.std.proofs.Common.{◌≡◌, ◌∷◌, ◌++◌, [], refl, sym, ap, ◌∙◌, arith, length, append-nil}
 use Rattle.std.specs.Prelude.{codes}
-use Rattle.c_lexer.specs.declared.token.TokenKind.TheVariants.{Mark, Keyword, Identifier}
+use Rattle.c_lexer.specs.declared.token.TokenKind.TheVariants.{Mark}
 use Rattle.c_tree.specs.declared.def.Parameters.TheVariants.{Named}
-use Rattle.c_expr_parser.specs.Tables.{is, is_kind}
+use Rattle.c_expr_parser.specs.Tables.{is}
 use Rattle.c_parser.specs.TextWalk.{Give, Want, MoreParameters, parameters, bindings, as_bindings, type_then, name_then, found, text_parsed}
 use Rattle.c_parser.specs.Parts.{named_plan}
-use Rattle.c_parser.proofs.TextParsing.{parsed_give, dead_end, dead_first, takes_first, sinks_first}
-use Rattle.c_parser.proofs.TextForms.{sign_none, sign_some, sign_deep, then_star, shifted}
-use Rattle.c_parser.proofs.TextLoops.{more_parameters, more_types, more_members, more_names, more_globals, more_values, more_updates}
-use Rattle.c_parser.proofs.TextExits.{through, through_of, through_expr, through_conditional, hands, hands_of, hands_want, hands_expr, hands_conditional, sinks_on, tail_call, gives_tail}
+use Rattle.c_parser.proofs.TextParsing.{parsed_give}
+use Rattle.c_parser.proofs.TextForms.{sign_none, sign_some, sign_deep, shifted}
+use Rattle.c_parser.proofs.TextLoops.{more_parameters}
+use Rattle.c_parser.proofs.TextExits.{through_of, hands_of, sinks_on}
 use Rattle.c_parser.proofs.parameters.named.Goals as goal
 
 pub returns-in_err-first-clause-reads : goal.returns-in_err-first-clause-reads

@@ -1,10 +1,9 @@
-use Rattle.std.proofs.Common.{◌≡◌, ◌∷◌, ◌++◌, ◌+◌, ℕ, suc, [], List, Option, Some, None, refl, sym, ap, subst, ◌∙◌, arith, add-one, length}
-use Rattle.std.specs.Prelude.{codes}
+use Rattle.std.proofs.Common.{sym, ap, ◌∙◌}
 use Rattle.c_tree.specs.declared.def.Parameters.TheVariants.{Named}
-use Rattle.c_parser.specs.TextWalk.{parameters, found, text_parsed}
-use Rattle.c_parser.proofs.TextParsing.{parsed_give, dead_end, dead_first, takes_first, sinks_first}
+use Rattle.c_parser.specs.TextWalk.{parameters, found}
+use Rattle.c_parser.proofs.TextParsing.{parsed_give}
 use Rattle.c_parser.proofs.TextLists.{list_void, list_deep, list_none, list_type, list_named, list_unnamed}
-use Rattle.c_parser.proofs.TextExits.{through, through_of, through_expr, through_conditional, hands, hands_of, hands_want, hands_expr, hands_conditional, sinks_on, tail_call, gives_tail}
+use Rattle.c_parser.proofs.TextExits.{through_of, hands_of, sinks_on, tail_call}
 use Rattle.c_parser.proofs.parameters.parameters.Goals as goal
 
 pub returns-in_err-shallow-clause-reads : goal.returns-in_err-shallow-clause-reads

@@ -1,9 +1,9 @@
-use Rattle.std.proofs.Common.{◌≡◌, ◌∷◌, ◌++◌, ℕ, suc, [], List, Option, Some, None, refl, sym, ap, ◌∙◌, arith, add-one, length}
+use Rattle.std.proofs.Common.{refl, sym, ap, ◌∙◌}
 use Rattle.std.specs.Prelude.{codes}
 use Rattle.c_tree.specs.declared.stmt.StmtNode.TheVariants.{Evaluate}
 use Rattle.c_expr_parser.specs.Statements.{stmt}
 use Rattle.c_parser.specs.TextWalk.{mark, text_parsed}
-use Rattle.c_parser.proofs.TextExits.{through, through_of, through_expr, hands, hands_of, hands_want, hands_expr, sinks_on, tail_call}
+use Rattle.c_parser.proofs.TextExits.{through_of, through_expr, hands_of, hands_expr}
 use Rattle.c_parser.proofs.simple.evaluate.Goals as goal
 
 pub returns-in_err-value-clause-reads : goal.returns-in_err-value-clause-reads

@@ -1,9 +1,8 @@
-use Rattle.std.proofs.Common.{◌≡◌, ◌∷◌, ◌++◌, ℕ, suc, [], List, Option, Some, None, refl, sym, ap, ◌∙◌, arith, add-one, length}
-use Rattle.std.specs.Prelude.{codes}
+use Rattle.std.proofs.Common.{◌≡◌, Some, None, sym, ◌∙◌}
 use Rattle.c_parser.specs.TextWalk.{expr_then, mark, text_parsed}
 use Rattle.c_parser.specs.Parts.{optional_then}
 use Rattle.c_parser.proofs.TextOpenings.{optional_absent, optional_present}
-use Rattle.c_parser.proofs.TextExits.{through, through_of, through_expr, hands, hands_of, hands_want, hands_expr, sinks_on, tail_call}
+use Rattle.c_parser.proofs.TextExits.{through_of, through_expr, hands_of, hands_expr}
 use Rattle.c_parser.proofs.simple.optional.Goals as goal
 
 pub returns-in_err-rest-clause-reads : goal.returns-in_err-rest-clause-reads

@@ -1,8 +1,8 @@
-use Rattle.std.proofs.Common.{◌≡◌, ◌∷◌, ◌++◌, ℕ, suc, [], List, Option, Some, None, refl, sym, ap, ◌∙◌, arith, add-one, length}
+use Rattle.std.proofs.Common.{refl, sym, ap, ◌∙◌}
 use Rattle.c_expr_parser.specs.Statements.{stmt}
-use Rattle.c_parser.specs.TextWalk.{Give, returned, statement, found, text_parsed}
+use Rattle.c_parser.specs.TextWalk.{Give, returned, statement, found}
 use Rattle.c_parser.proofs.TextParsing.{parsed_give}
-use Rattle.c_parser.proofs.TextExits.{through, through_of, through_expr, hands, hands_of, hands_want, hands_expr, sinks_on, tail_call}
+use Rattle.c_parser.proofs.TextExits.{hands}
 use Rattle.c_parser.proofs.simple.return_statement.Goals as goal
 
 pub returns-in_err-value-clause-reads : goal.returns-in_err-value-clause-reads

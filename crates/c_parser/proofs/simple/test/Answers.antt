@@ -1,7 +1,7 @@
-use Rattle.std.proofs.Common.{◌≡◌, ◌∷◌, ◌++◌, ℕ, suc, [], List, Option, Some, None, refl, sym, ap, ◌∙◌, arith, add-one, length}
+use Rattle.std.proofs.Common.{◌≡◌, suc, refl, add-one}
 use Rattle.std.specs.Prelude.{codes}
 use Rattle.c_parser.specs.TextWalk.{test_then, mark, text_parsed}
-use Rattle.c_parser.proofs.TextExits.{through, through_of, through_expr, hands, hands_of, hands_want, hands_expr, sinks_on, tail_call}
+use Rattle.c_parser.proofs.TextExits.{through_of, through_expr, hands_of, hands_expr}
 use Rattle.c_parser.proofs.simple.test.Goals as goal
 
 pub returns-in_err-rest-clause-reads : goal.returns-in_err-rest-clause-reads

@@ -1,6 +1,6 @@
-use Rattle.std.proofs.Common.{◌≡◌, ◌∷◌, ◌++◌, ℕ, suc, [], List, Option, Some, None, refl, sym, ap, ◌∙◌, arith, add-one, length}
+use Rattle.std.proofs.Common.{◌≡◌, refl}
 use Rattle.c_parser.specs.TextWalk.{update_statement, text_parsed}
-use Rattle.c_parser.proofs.TextExits.{through, through_of, through_expr, hands, hands_of, hands_want, hands_expr, sinks_on, tail_call}
+use Rattle.c_parser.proofs.TextExits.{through_of, hands_of, tail_call}
 use Rattle.c_parser.proofs.simple.update.Goals as goal
 
 pub returns-in_err-rest-clause-reads : goal.returns-in_err-rest-clause-reads

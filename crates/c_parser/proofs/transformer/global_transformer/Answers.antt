@@ -1,11 +1,11 @@
-use Rattle.std.proofs.Common.{◌≡◌, ◌∷◌, ◌++◌, ◌+◌, ℕ, suc, [], List, Option, Some, None, refl, sym, ap, subst, ◌∙◌, arith, add-one, length}
+use Rattle.std.proofs.Common.{◌≡◌, ◌∷◌, [], refl, sym, ap, ◌∙◌}
 use Rattle.std.specs.Prelude.{codes}
 use Rattle.c_tree.specs.declared.def.DefKind.TheVariants as kind
 use Rattle.c_expr_parser.specs.Definitions.{def}
 use Rattle.c_parser.specs.TextWalk.{Give, made, mark, found, text_parsed}
 use Rattle.c_parser.specs.Parts.{global_transformer_plan}
-use Rattle.c_parser.proofs.TextParsing.{parsed_give, dead_end, dead_first, takes_first, sinks_first}
-use Rattle.c_parser.proofs.TextExits.{through, through_of, through_expr, through_conditional, hands, hands_of, hands_want, hands_expr, hands_conditional, sinks_on, tail_call, gives_tail}
+use Rattle.c_parser.proofs.TextParsing.{parsed_give}
+use Rattle.c_parser.proofs.TextExits.{through_of, through_conditional, hands_of, hands_conditional}
 use Rattle.c_parser.proofs.transformer.global_transformer.Goals as goal
 
 pub returns-in_err-global-clause-reads : goal.returns-in_err-global-clause-reads

@@ -1,11 +1,11 @@
-use Rattle.std.proofs.Common.{◌≡◌, ◌∷◌, ◌++◌, ◌+◌, ℕ, suc, [], List, Option, Some, None, refl, sym, ap, subst, ◌∙◌, arith, add-one, length}
+use Rattle.std.proofs.Common.{◌∷◌, [], ◌∙◌}
 use Rattle.std.specs.Prelude.{codes}
 use Rattle.c_tree.specs.declared.def.DefKind.TheVariants as kind
 use Rattle.c_expr_parser.specs.Definitions.{def}
-use Rattle.c_parser.specs.TextWalk.{Give, Want, Updates, made, as_updates, mark, name_then, text_parsed}
-use Rattle.c_parser.proofs.TextParsing.{parsed_give, dead_end, dead_first, takes_first, sinks_first}
+use Rattle.c_parser.specs.TextWalk.{Give, made, mark}
+use Rattle.c_parser.proofs.TextParsing.{parsed_give}
 use Rattle.c_parser.proofs.TextItemForms.{transformed_struct, transformed_global}
-use Rattle.c_parser.proofs.TextExits.{through, through_of, through_expr, through_conditional, hands, hands_of, hands_want, hands_expr, hands_conditional, sinks_on, tail_call, gives_tail}
+use Rattle.c_parser.proofs.TextExits.{through_of, hands, hands_of, tail_call}
 use Rattle.c_parser.proofs.transformer.transformer.Goals as goal
 
 pub returns-in_default-clause-reads : goal.returns-in_default-clause-reads

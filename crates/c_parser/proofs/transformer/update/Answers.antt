@@ -1,8 +1,8 @@
-use Rattle.std.proofs.Common.{◌≡◌, ◌∷◌, ◌++◌, ◌+◌, ℕ, suc, [], List, Option, Some, None, refl, sym, ap, subst, ◌∙◌, arith, add-one, length}
+use Rattle.std.proofs.Common.{◌≡◌, refl, sym, ap, ◌∙◌}
 use Rattle.std.specs.Prelude.{codes}
 use Rattle.c_parser.specs.TextWalk.{mark, text_parsed}
 use Rattle.c_parser.specs.Parts.{update_then}
-use Rattle.c_parser.proofs.TextExits.{through, through_of, through_expr, through_conditional, hands, hands_of, hands_want, hands_expr, hands_conditional, sinks_on, tail_call, gives_tail}
+use Rattle.c_parser.proofs.TextExits.{through_of, through_conditional, hands_of, hands_conditional}
 use Rattle.c_parser.proofs.transformer.update.Goals as goal
 
 pub returns-in_err-field-clause-reads : goal.returns-in_err-field-clause-reads

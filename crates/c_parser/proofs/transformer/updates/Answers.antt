@@ -1,9 +1,9 @@
-use Rattle.std.proofs.Common.{◌≡◌, ◌∷◌, ◌++◌, ◌+◌, ℕ, suc, [], List, Option, Some, None, refl, sym, ap, subst, ◌∙◌, arith, add-one, length}
-use Rattle.c_parser.specs.TextWalk.{Want, Updates, updates, as_updates, text_parsed}
-use Rattle.c_parser.proofs.TextForms.{sign_none, sign_some, sign_deep, then_star, shifted}
-use Rattle.c_parser.proofs.TextLoops.{more_parameters, more_types, more_members, more_names, more_globals, more_values, more_updates}
+use Rattle.std.proofs.Common.{◌∷◌, ◌++◌, sym, ap, ◌∙◌, arith}
+use Rattle.c_parser.specs.TextWalk.{Want, Updates, as_updates, text_parsed}
+use Rattle.c_parser.proofs.TextForms.{shifted}
+use Rattle.c_parser.proofs.TextLoops.{more_updates}
 use Rattle.c_parser.proofs.TextLists.{updates_next, updates_end}
-use Rattle.c_parser.proofs.TextExits.{through, through_of, through_expr, through_conditional, hands, hands_of, hands_want, hands_expr, hands_conditional, sinks_on, tail_call, gives_tail}
+use Rattle.c_parser.proofs.TextExits.{hands}
 use Rattle.c_parser.proofs.transformer.updates.Goals as goal
 
 pub loop-alloc-init : goal.loop-alloc-init
