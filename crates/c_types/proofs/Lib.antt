@@ -5,6 +5,7 @@ pub mod Firsts
 pub mod GivenFields
 pub mod InTurn
 pub mod Index
+pub mod Looks
 pub mod Measures
 pub mod Needs
 pub mod Samples

@@ -8,7 +8,7 @@ ghost use Rattle.c_types.specs.Views.{names_seen};
 
 use crate::expression::{
     called, element, field, field_of, fits, is_assigned, is_equality, is_operand, is_safe,
-    is_thread_argument, is_unary_operand, meeting, named, number, on_mutex, passed, printed,
+    is_thread_argument, is_unary_operand, meeting, named, on_mutex, passed, printed,
     spawned, thread_parameter, type_of, unknown_tag, unless_wrong, value_of_type, where_allowed,
     wrong,
 };
@@ -17,49 +17,9 @@ use crate::format::fits_format;
 use crate::found::{Found, Part};
 use crate::lookup::Names;
 use c_ints::{BinOp, Int, Kind, UnOp, common};
-use c_tree::{CType, ExprNode as Node, Name, StepOp};
-use dsu_io::{List, Text};
+use c_tree::{CType, Name, StepOp};
+use dsu_io::Text;
 use std::alloc::AllocError;
-
-/// What an expression at a place is, by its parts.
-pub(crate) fn of_parts(names: &Names, at: usize, node: &Node<Part>) -> Result<Found, AllocError>
-    ensures { IfOk result (λ found. found ≡ (part (names_seen names.now) at node.now).found) }
-{
-    match node {
-        Node::Number(n) => Ok(settled(names, at, None, true, number(*n))),
-        Node::Character(n) => Ok(character(names, at, *n)),
-        Node::Null => Ok(settled(names, at, None, true, Found::Null)),
-        Node::Success => Ok(status(names, at)),
-        Node::Error => Ok(status(names, at)),
-        Node::Variable(name) => variable(names, at, name),
-        Node::Unary(op, a) => Ok(unary(names, at, *op, a.get())),
-        Node::Step(op, a) => step(names, at, *op, a.get()),
-        Node::Cast(to, a) => cast(names, at, to, a.get()),
-        Node::Binary(op, a, b) => binary(names, at, *op, a.get(), b.get()),
-        Node::And(a, b) => Ok(junction(names, at, a.get(), b.get())),
-        Node::Or(a, b) => Ok(junction(names, at, a.get(), b.get())),
-        Node::Choice(a, b, c) => choice(names, at, a.get(), b.get(), c.get()),
-        Node::Assign(a, b) => assign(names, at, a.get(), b.get()),
-        Node::Update(op, a, b) => update(names, at, *op, a.get(), b.get()),
-        Node::Call(name, list) => call(names, at, name, list),
-        Node::Element(name, a) => indexed(names, at, name, a.get()),
-        Node::Arrow(a, name) => arrow(names, at, a.get(), name),
-        Node::Dot(a, name) => Ok(dot(names, at, a.get(), name)),
-        Node::Print {
-            place,
-            format,
-            arguments,
-        } => Ok(print(names, at, *place, format, arguments)),
-        Node::Calloc(tag) => calloc(names, at, tag),
-        Node::Free(a) => Ok(free(names, at, a.get())),
-        Node::Create(a, name, b) => Ok(create(names, at, a.get(), name, b.get())),
-        Node::Join(a) => Ok(join(names, at, a.get())),
-        Node::JoinInto(a, b) => Ok(join_into(names, at, a.get(), b.get())),
-        Node::InitMutex(name) => Ok(mutex(names, at, name)),
-        Node::Lock(name) => Ok(mutex(names, at, name)),
-        Node::Unlock(name) => Ok(mutex(names, at, name)),
-    }
-}
 
 /// The kind that the integer promotions make of a kind.
 pub(crate) fn promoted(kind: Kind) -> Kind
@@ -365,13 +325,13 @@ pub(crate) fn call(
     names: &Names,
     at: usize,
     name: &Text,
-    arguments: &List<Part>,
+    arguments: &[Part],
 ) -> Result<Found, AllocError>
     ensures { IfOk result (λ found. found ≡ (part (names_seen names.now) at (Call name.now arguments.now)).found) }
 {
     let meaning = names.meaning_of(name.as_str());
-    let fault = passed(&meaning, arguments.as_slice());
-    let own = called(&meaning, at, arguments.as_slice().len())?;
+    let fault = passed(&meaning, arguments);
+    let own = called(&meaning, at, arguments.len())?;
     Ok(settled(names, at, fault, false, own))
 }
 
@@ -381,12 +341,12 @@ pub(crate) fn print(
     at: usize,
     place: usize,
     format: &Text,
-    arguments: &List<Part>,
+    arguments: &[Part],
 ) -> Found
     ensures { result ≡ (part (names_seen names.now) at (Print place format.now arguments.now)).found }
 {
-    let fault = printed(arguments.as_slice());
-    let own = if fits_format(format.as_str().as_bytes(), arguments.as_slice()) {
+    let fault = printed(arguments);
+    let own = if fits_format(format.as_str().as_bytes(), arguments) {
         Found::Nothing
     } else {
         wrong(TypeKind::BadFormat, place)
