@@ -13,8 +13,8 @@ use dsu_io::{List, Text};
 use std::alloc::{AllocError, Global};
 use std::marker::Model;
 
-/// The definitions of a text, with tables of their names. Contracts see the list of the definitions; a name is found
-/// by one look into a table, however long the text is.
+/// The definitions of a text, with tables of their names. Contracts see the list of the definitions. The tables are built
+/// once, in time linear in the text; then each definition is found by one look into a table, however long the text is.
 #[derive(Drop)]
 pub struct Known<'a> {
     definitions: &'a [Def],
@@ -97,8 +97,8 @@ fn own_members(kind: &DefKind) -> &[Binding]
 }
 
 impl<'a> Known<'a> {
-    /// Of a text's definitions.
-    pub(crate) fn of(alloc: Global, definitions: &'a [Def]) -> Result<Known<'a>, AllocError>
+    /// Builds the tables of a text's definitions, in time linear in the text. It fails for want of memory alone.
+    pub fn of(alloc: Global, definitions: &'a [Def]) -> Result<Known<'a>, AllocError>
         ensures { IfOk result (λ known. known ≡ definitions.now) }
     {
         Ok(Known {
@@ -164,9 +164,10 @@ impl<'a> Known<'a> {
         stands_before(self.place_of(by, name), place)
     }
 
-    /// The first definition that declares a name.
+    /// The first definition that declares a name: a function, a global, an array or a mutex; a struct's tag and a
+    /// prototype declare none. One look into a table.
     #[tactic(auto, using(crate::proofs::Index::named_found))]
-    pub(crate) fn definition_of(&self, name: &str) -> Option<&'a Def>
+    pub fn definition_of(&self, name: &str) -> Option<&'a Def>
         ensures { option_copied result ≡ definition_of self.now name.now }
     {
         self.found(Key::Name, name)
@@ -191,9 +192,9 @@ impl<'a> Known<'a> {
         }
     }
 
-    /// The first definition of a tag's struct.
+    /// The first definition of a tag's struct; `struct T;` is none. One look into a table.
     #[tactic(auto, using(crate::proofs::Index::struct_found))]
-    fn struct_of(&self, tag: &str) -> Option<&'a Def>
+    pub fn struct_of(&self, tag: &str) -> Option<&'a Def>
         ensures { option_copied result ≡ struct_of self.now tag.now }
     {
         self.found(Key::Struct, tag)

@@ -40,4 +40,5 @@ mod walk;
 mod whole;
 
 pub use fault::{TypeFault, TypeKind};
+pub use known::Known;
 pub use whole::{Typed, check};
