@@ -39,6 +39,10 @@ impl Model for Typed {
     ghost invariant = { λ t. Types t.program };
 }
 
+unsafe impl Send for Typed {}
+
+unsafe impl Sync for Typed {}
+
 impl Typed {
     /// The tree.
     pub fn program(&self) -> &Program
