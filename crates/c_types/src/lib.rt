@@ -2,7 +2,7 @@
 //!
 //! `specs/` has the rules of the whole language: the faults of each node given its parts, and the fault of a text that is
 //! told. [`check`] takes a text's tree and gives a [`Typed`], which is seen as the tree and whose type keeps that it has no
-//! fault, or else tells exactly its first fault.
+//! fault, or else tells exactly its first fault. [`Known`] finds the definitions of a text by their names.
 //!
 //! Read in this order: `fault` (what may be wrong with a text that was read, and which of two faults is told), `found` (what
 //! an expression may be, and what may be required of it), `key` and `known` (the definitions of a text, found by their names),

@@ -8,9 +8,8 @@ ghost use Rattle.c_types.specs.Views.{names_seen};
 
 use crate::expression::{
     called, element, field, field_of, fits, is_assigned, is_equality, is_operand, is_safe,
-    is_thread_argument, is_unary_operand, meeting, named, on_mutex, passed, printed,
-    spawned, thread_parameter, type_of, unknown_tag, unless_wrong, value_of_type, where_allowed,
-    wrong,
+    is_thread_argument, is_unary_operand, meeting, named, on_mutex, passed, printed, spawned,
+    thread_parameter, type_of, unknown_tag, unless_wrong, value_of_type, where_allowed, wrong,
 };
 use crate::fault::{Fault, TypeKind, sooner};
 use crate::format::fits_format;
