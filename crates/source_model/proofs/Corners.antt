@@ -8,7 +8,7 @@ use Rattle.c_tree.specs.BareDef.{BareDef}
 use Rattle.c_types.specs.Threads.{Use}
 use Rattle.c_types.specs.Changes.{changed, interface}
 use Rattle.source_model.specs.Runs.{SourceMove, Move, Install, State, Finished, Trapped, Stuck, source_run}
-use Rattle.source_model.proofs.Runs.{seen, alone, seen_at_the_end}
+use Rattle.source_model.proofs.Runs.{seen, alone, seen_at_the_end, with_objects}
 use Rattle.source_model.proofs.Texts.{connection, connection_2}
 use Rattle.source_model.proofs.CornerTexts.{operating, null_handle, freeing_twice, locking_twice, unlocking, initialising, handing_over, unlocking_anothers, joining_none, joining_twice, joining_itself, nesting, ordering, calling_deep, nothing_else, coming_back, array_of_two, array_of_two_unsigned, array_of_three}
 
@@ -65,8 +65,9 @@ join_itself = refl
 abbrev use_of : List ℕ → Use
 use_of name = record { name = name; entry = 0 }
 
-nested : option_map (λ r. r.closed) (source_run (nesting ∷ []) 4096 (alone 19))
-    ≡ Some ((use_of (codes "g") ∷ use_of (codes "h") ∷ use_of (codes "g") ∷ []) ∷ (use_of (codes "h") ∷ []) ∷ [])
+nested : option_map (λ r. r.closed) (source_run (nesting ∷ []) (with_objects 4096) (alone 19))
+    ≡ Some (record { slot = 0; uses = use_of (codes "g") ∷ use_of (codes "h") ∷ use_of (codes "g") ∷ [] }
+    ∷ record { slot = 0; uses = use_of (codes "h") ∷ [] } ∷ [])
 nested = refl
 
 -- a place before its value, the read of `x += ..` before its right side, arguments from left to right
@@ -81,7 +82,7 @@ depth = refl
 -- main of version 1 still uses a struct whose layout version 2 changed: the read of the global is right, the write of
 -- the field behind it is a misuse, and nothing moves any more
 abbrev misused_by : List SourceMove → Option Bool
-misused_by moves = option_map (λ r. r.misused) (source_run (connection ∷ connection_2 ∷ []) 4096 (alone 3 ++ Install 1 ∷ moves))
+misused_by moves = option_map (λ r. r.misused) (source_run (connection ∷ connection_2 ∷ []) (with_objects 4096) (alone 3 ++ Install 1 ∷ moves))
 
 right : misused_by (alone 1) ≡ Some false
 right = refl

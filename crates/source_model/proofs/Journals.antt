@@ -20,6 +20,7 @@ use Rattle.source_model.specs.Answers.{Answer, Installed, RefusedFor, NoPatch, W
 use Rattle.source_model.specs.Patches.{not_patch}
 use Rattle.source_model.specs.Guards.{Guard, Setup, Rules, Mark, NoThread, CheckInOf, first_guard}
 use Rattle.source_model.specs.Journals.{happens, guard_behind, answers, moves, ending, due, slots_behind, solo_next, acted_by, is_prompt}
+use Rattle.source_model.proofs.Runs.{with_objects}
 use Rattle.source_model.proofs.Texts.{text_with, counting, locking, calling, calling_2, other_kind_of}
 use Rattle.source_model.proofs.CornerTexts.{joining_itself}
 use Rattle.source_model.proofs.ServerText.{serving, serving_2}
@@ -32,10 +33,10 @@ abbrev text : List BareDef → Text
 text definitions = text_with definitions []
 
 abbrev alone : List BareDef → Setup
-alone definitions = record { first = text definitions; offers = []; capacity = 4096 }
+alone definitions = record { first = text definitions; offers = []; limits = with_objects 4096 }
 
 abbrev offered : List BareDef → List BareDef → ℕ → Setup
-offered first second lines = record { first = text first; offers = record { text = text second; lines = lines } ∷ []; capacity = 4096 }
+offered first second lines = record { first = text first; offers = record { text = text second; lines = lines } ∷ []; limits = with_objects 4096 }
 
 -- the first n events of the solo schedule
 abbrev further : Setup → (Guard → Option ℕ → List Event) → Option Event → Option Guard → Option ℕ → List Event
@@ -210,7 +211,7 @@ abbrev two_offers : Setup
 two_offers = record {
   first = text calling;
   offers = record { text = text calling_2; lines = 0 } ∷ record { text = text calling; lines = 0 } ∷ [];
-  capacity = 4096;
+  limits = with_objects 4096;
 }
 
 abbrev due_behind : List Event → Option ℕ
@@ -236,7 +237,7 @@ no_way_back : told two_offers (Offer 2 ∷ Decide 2 ∷ Offer 1 ∷ []) ≡ None
 no_way_back = refl
 
 -- the slots in their order behind slot 13
-in_turn : slots_behind (Some 13) ≡ 14 ∷ 15 ∷ 0 ∷ 1 ∷ 2 ∷ 3 ∷ 4 ∷ 5 ∷ 6 ∷ 7 ∷ 8 ∷ 9 ∷ 10 ∷ 11 ∷ 12 ∷ 13 ∷ []
+in_turn : slots_behind 16 (Some 13) ≡ 14 ∷ 15 ∷ 0 ∷ 1 ∷ 2 ∷ 3 ∷ 4 ∷ 5 ∷ 6 ∷ 7 ∷ 8 ∷ 9 ∷ 10 ∷ 11 ∷ 12 ∷ 13 ∷ []
 in_turn = refl
 
 -- the causes for which a text isn't a patch: the earlier one is told

@@ -4,7 +4,7 @@ use Rattle.std.specs.Prelude.{IsTrue, if◌then◌else◌}
 use Rattle.std.specs.Option.{option_and_then}
 use Rattle.std.proofs.lemmas.List.{append-nil, append_assoc}
 use Rattle.c_tree.specs.BareDef.{BareDef}
-use Rattle.source_model.specs.Worlds.{World, in_slot, is_over}
+use Rattle.source_model.specs.Worlds.{World, Limits, in_slot, is_over}
 use Rattle.source_model.specs.Moves.{move, move_of}
 use Rattle.source_model.specs.Installs.{installed}
 use Rattle.source_model.specs.Runs.{SourceMove, Move, Install, install, step, run, start}
@@ -126,11 +126,11 @@ run_apart texts [] w apart = apart
 run_apart texts (m ∷ ms) w apart =
     and_then_apart (run texts ms) (step texts m w) (step_apart texts m w apart) (λ mid h. run_apart texts ms mid h)
 
-start_apart : (texts : List (List BareDef)) (capacity : ℕ) → AllOf (λ w. AllApart w.table) (start texts capacity)
-start_apart [] capacity = tt
-start_apart (text ∷ texts) capacity = first_table_apart text
+start_apart : (texts : List (List BareDef)) (limits : Limits) → AllOf (λ w. AllApart w.table) (start texts limits)
+start_apart [] limits = tt
+start_apart (text ∷ texts) limits = first_table_apart text
 
 pub entries_apart : EntriesApart
-entries_apart texts capacity ms w after started ran =
+entries_apart texts limits ms w after started ran =
     of_outcome (λ x. AllApart x.table) (run texts ms w) after ran
-    (run_apart texts ms w (of_outcome (λ x. AllApart x.table) (start texts capacity) w started (start_apart texts capacity)))
+    (run_apart texts ms w (of_outcome (λ x. AllApart x.table) (start texts limits) w started (start_apart texts limits)))

@@ -4,9 +4,10 @@ use Rattle.std.specs.Prelude.{codes, option_map, replicate, ◌++◌}
 use Rattle.std.specs.Fmt.{digits}
 use Rattle.bytecode.specs.declared.trap.TrapKind.TheVariants.{Overflow, Stale, Index}
 use Rattle.c_tree.specs.BareDef.{BareDef}
-use Rattle.source_model.specs.Worlds.{World, first_world}
+use Rattle.source_model.specs.Worlds.{World, Limits, first_world}
 use Rattle.source_model.specs.Moves.{move}
 use Rattle.source_model.specs.Runs.{result, SourceMove, Move, Install, State, Finished, Trapped, Stuck, Going, Result, source_run}
+use Rattle.source_model.specs.Spans.{Span, spans}
 use Rattle.source_model.proofs.Texts.{overflowing, dividing, ending_objects, counting, locking, calling, calling_2, connection, connection_2, connection_3, indexing, starting, joining, constants, mixing}
 
 -- what a run printed, and how it stands
@@ -17,8 +18,12 @@ pub record Seen : Type 0 where
 abbrev pub seen_of : Result → Seen
 seen_of r = record { output = r.output; state = r.state }
 
+-- 16 slots, and so many objects
+abbrev pub with_objects : ℕ → Limits
+with_objects n = record { objects = n; slots = 16 }
+
 abbrev pub seen : List (List BareDef) → ℕ → List SourceMove → Option Seen
-seen texts capacity moves = option_map seen_of (source_run texts capacity moves)
+seen texts capacity moves = option_map seen_of (source_run texts (with_objects capacity) moves)
 
 -- n moves of thread 0
 abbrev pub alone : ℕ → List SourceMove
@@ -59,14 +64,32 @@ unfolding digits
 replaced = refl
 
 -- its record has the calls in the transaction, each with the definition that was current, and not the enter of main
-recorded : option_map (λ r. r.closed) (source_run (calling ∷ calling_2 ∷ []) 4096 (alone 3 ++ Install 1 ∷ alone 16))
-    ≡ Some ((record { name = codes "h"; entry = 0 } ∷ record { name = codes "g"; entry = 1 } ∷ record { name = codes "f"; entry = 0 }
-    ∷ record { name = codes "g"; entry = 1 } ∷ []) ∷ [])
+recorded : option_map (λ r. r.closed) (source_run (calling ∷ calling_2 ∷ []) (with_objects 4096) (alone 3 ++ Install 1 ∷ alone 16))
+    ≡ Some (record {
+      slot = 0;
+      uses = record { name = codes "h"; entry = 0 } ∷ record { name = codes "g"; entry = 1 } ∷ record { name = codes "f"; entry = 0 }
+          ∷ record { name = codes "g"; entry = 1 } ∷ [];
+    } ∷ [])
 unfolding digits
 recorded = refl
 
+-- all that it used belongs to version 2; without the install to version 1
+abbrev spans_of : List (List BareDef) → List SourceMove → Option (List Span)
+spans_of texts moves = option_map (λ r. spans r.world) (source_run texts (with_objects 4096) moves)
+
+shares : spans_of (calling ∷ calling_2 ∷ []) (alone 3 ++ Install 1 ∷ alone 16)
+    ≡ Some (record { slot = 0; first = 2; last = 2 } ∷ [])
+shares = refl
+
+shares_1 : spans_of (calling ∷ calling_2 ∷ []) (alone 19) ≡ Some (record { slot = 0; first = 1; last = 1 } ∷ [])
+shares_1 = refl
+
+-- behind its begin a record has no entry yet, and shares all versions
+shares_all : spans_of (calling ∷ calling_2 ∷ []) (alone 2 ++ Install 1 ∷ []) ≡ Some (record { slot = 0; first = 1; last = 2 } ∷ [])
+shares_all = refl
+
 -- what is used outside a transaction isn't recorded
-unrecorded : option_map (λ r. r.open_records) (source_run (calling ∷ []) 4096 (alone 1)) ≡ Some []
+unrecorded : option_map (λ r. r.open_records) (source_run (calling ∷ []) (with_objects 4096) (alone 1)) ≡ Some []
 unrecorded = refl
 
 -- objects are brought from layout to layout
@@ -106,7 +129,7 @@ to_the_end zero w = w
 to_the_end (suc n) w = moved_on (to_the_end n) w (move w 0)
 
 abbrev pub seen_at_the_end : ℕ → List BareDef → ℕ → Seen
-seen_at_the_end n text capacity = seen_of (result (to_the_end n (first_world text capacity)))
+seen_at_the_end n text capacity = seen_of (result (to_the_end n (first_world text (with_objects capacity))))
 
 -- loops, jumps, scopes, objects, arrays and narrow kinds
 mixed : seen_at_the_end 300 mixing 4096

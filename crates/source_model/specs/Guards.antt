@@ -1,6 +1,6 @@
 -- What is kept beside the source machine while its moves, check-ins and offers are made, and when each event can happen.
 -- The rows of check-ins and the admission test over them are parameters here.
-use Rattle.std.specs.Prelude.{ℕ, zero, suc, ◌==◌, nat_lt, nat_le, Bool, true, false, ◌&&◌, ◌||◌, List, [], ◌∷◌, ◌++◌, map, length, replicate, count_by, slice_get, slice_index_or, slice_set, Option, Some, None, option_map, codes, if◌then◌else◌}
+use Rattle.std.specs.Prelude.{ℕ, zero, suc, ◌-◌, ◌==◌, nat_lt, nat_le, Bool, true, false, ◌&&◌, ◌||◌, List, [], ◌∷◌, ◌++◌, map, length, replicate, count_by, slice_get, slice_index_or, slice_set, Option, Some, None, option_map, codes, if◌then◌else◌}
 use Rattle.std.specs.Option.{is_some, is_none, option_map_or}
 use Rattle.c_tree.specs.BareExpr.{Bytes}
 use Rattle.c_tree.specs.BareDef.{BareDef}
@@ -10,7 +10,7 @@ use Rattle.c_types.specs.Pieces.{Halt, Stopped}
 use Rattle.c_types.specs.Threads.{Frame, Enter, next_of}
 use Rattle.con_freeness.specs.Verdicts.{Verdict, Admitted, Refused}
 use Rattle.source_model.specs.declared.patch.NotPatch.{NotPatch}
-use Rattle.source_model.specs.Worlds.{World, Slot, Free, Live, Over, in_slot, first_world}
+use Rattle.source_model.specs.Worlds.{World, Slot, Free, Live, Over, Limits, in_slot, first_world}
 use Rattle.source_model.specs.Runs.{install, is_live}
 use Rattle.source_model.specs.Texts.{Text}
 use Rattle.source_model.specs.Store.{Body, store, generation_by, body_in, check_in_number}
@@ -51,11 +51,11 @@ pub record Offer : Type 0 where
   pub text : Text
   pub lines : ℕ
 
--- what a run is given: the first text, the offers, and how many objects may live at once
+-- what a run is given: the first text, the offers, and its limits
 pub record Setup : Type 0 where
   pub first : Text
   pub offers : List Offer
-  pub capacity : ℕ
+  pub limits : Limits
 
 -- the admission test, over the texts of the versions so far: whether the rows of the marks admit a patch with that
 -- changed set and that interface set, where some threads are pinned; whether the prior set of a mark's row meets a
@@ -76,8 +76,8 @@ started_seat function = record { mark = Start function; at_check_in = false; pin
 -- the start of a run
 abbrev pub first_guard : Setup → Guard
 first_guard s = record {
-  world = first_world s.first.definitions s.capacity;
-  seats = started_seat (codes "main") ∷ replicate 15 empty_seat;
+  world = first_world s.first.definitions s.limits;
+  seats = started_seat (codes "main") ∷ replicate (s.limits.slots - 1) empty_seat;
   versions = s.first ∷ [];
   open_offer = None;
   greatest = 0;

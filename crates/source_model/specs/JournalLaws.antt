@@ -16,4 +16,4 @@ abbrev pub JournalIsARun : Type 0
 JournalIsARun =
     (rules : Rules) (setup : Setup) (events : List Event) (g : Guard)
     → guard_behind rules setup events ≡ Some g
-    → run (texts_of setup) (moves g.answers events) (first_world setup.first.definitions setup.capacity) ≡ Some g.world
+    → run (texts_of setup) (moves g.answers events) (first_world setup.first.definitions setup.limits) ≡ Some g.world

@@ -6,7 +6,6 @@ use Rattle.bytecode.specs.declared.run.Event.{Event}
 use Rattle.bytecode.specs.declared.run.Event.TheVariants.{Move, CheckIn, Offer, Decide, Withdraw}
 use Rattle.bytecode.specs.declared.run.Ending.{Ending}
 use Rattle.bytecode.specs.declared.run.Ending.TheVariants.{Finished, Trap, Deadlock, Cut}
-use Rattle.source_model.specs.Worlds.{slot_count}
 use Rattle.source_model.specs.Moves.{move}
 use Rattle.source_model.specs.Runs.{SourceMove, State, Stuck, Going, state, is_live, can_move}
 use Rattle.source_model.specs.Runs as source
@@ -113,9 +112,9 @@ acted_by (Decide k) = None
 acted_by (Withdraw k) = None
 
 -- the slots in cyclic order behind the one that acted last; slot 0 is the first at the start
-abbrev pub slots_behind : Option ℕ → List ℕ
-slots_behind None = range_with_len 0 slot_count
-slots_behind (Some t) = range_with_len (suc t) (slot_count - suc t) ++ range_with_len 0 (suc t)
+abbrev pub slots_behind : ℕ → Option ℕ → List ℕ
+slots_behind count None = range_with_len 0 count
+slots_behind count (Some t) = range_with_len (suc t) (count - suc t) ++ range_with_len 0 (suc t)
 
 -- the event that the thread in slot t can do: a check-in where it stands at one, else a move
 abbrev pub act_of : Guard → ℕ → Option Event
@@ -131,4 +130,4 @@ abbrev pub solo_next : Setup → Guard → Option ℕ → Option Event
 solo_next setup g last =
     if has_ended g
     then None
-    else option_or (option_map Decide g.open_offer) (option_or (option_map Offer (due setup g)) (first_act g (slots_behind last)))
+    else option_or (option_map Decide g.open_offer) (option_or (option_map Offer (due setup g)) (first_act g (slots_behind (length g.seats) last)))

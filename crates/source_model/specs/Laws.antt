@@ -4,7 +4,7 @@ use Rattle.std.specs.Option.{option_and_then}
 use Rattle.c_tree.specs.BareDef.{BareDef}
 use Rattle.c_types.specs.Threads.{Thread}
 use Rattle.source_model.specs.Versions.{Entry, Versioned, Table, AllApart, current}
-use Rattle.source_model.specs.Worlds.{World, Live, in_slot}
+use Rattle.source_model.specs.Worlds.{World, Limits, Live, in_slot}
 use Rattle.source_model.specs.Moves.{move}
 use Rattle.source_model.specs.Installs.{installed}
 use Rattle.source_model.specs.Runs.{SourceMove, step, run, start}
@@ -49,5 +49,5 @@ CurrentIsGreatest =
 -- in each world that a run comes to, the entries of a name have no version in common
 abbrev pub EntriesApart : Type 0
 EntriesApart =
-    (texts : List (List BareDef)) (capacity : ℕ) (ms : List SourceMove) (w after : World)
-    → start texts capacity ≡ Some w → run texts ms w ≡ Some after → AllApart after.table
+    (texts : List (List BareDef)) (limits : Limits) (ms : List SourceMove) (w after : World)
+    → start texts limits ≡ Some w → run texts ms w ≡ Some after → AllApart after.table

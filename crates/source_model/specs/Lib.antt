@@ -5,6 +5,7 @@ pub mod Uses
 pub mod Moves
 pub mod Installs
 pub mod Runs
+pub mod Spans
 pub mod Texts
 pub mod Store
 pub mod Answers

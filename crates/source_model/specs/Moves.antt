@@ -199,7 +199,7 @@ begin_at s (suc depth) th = Some (with_thread s.slot (record th { depth = suc (s
 abbrev pub end_at : Standing → ℕ → Thread → Option World
 end_at s zero th = None
 end_at s (suc zero) th =
-    Some (with_thread s.slot (record th { depth = 0; uses = [] }) (record s.world { closed = s.world.closed ++ th.uses ∷ [] }))
+    Some (with_thread s.slot (record th { depth = 0; uses = [] }) (record s.world { closed = s.world.closed ++ record { slot = s.slot; uses = th.uses } ∷ [] }))
 end_at s (suc (suc depth)) th = Some (with_thread s.slot (record th { depth = suc depth }) s.world)
 
 -- a write of a global leaves the value

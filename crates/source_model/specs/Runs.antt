@@ -1,11 +1,11 @@
 -- Whole runs of the source machine over a list of moves.
-use Rattle.std.specs.Prelude.{ℕ, zero, suc, Bool, true, false, not, ◌&&◌, ℤ, List, [], ◌∷◌, filter_map, slice_get, Option, Some, None, option_map, if◌then◌else◌}
+use Rattle.std.specs.Prelude.{ℕ, zero, suc, Bool, true, false, not, ◌&&◌, ℤ, List, [], ◌∷◌, length, filter_map, slice_get, Option, Some, None, option_map, if◌then◌else◌}
 use Rattle.std.specs.Option.{is_some, option_and_then}
 use Rattle.std.specs.List.{list_any, range_with_len}
 use Rattle.bytecode.specs.declared.trap.TrapKind.{TrapKind}
 use Rattle.c_tree.specs.BareDef.{BareDef}
 use Rattle.c_types.specs.Threads.{Record, Thread}
-use Rattle.source_model.specs.Worlds.{World, Slot, Live, Free, Over, Finish, is_over, slot_count, first_world}
+use Rattle.source_model.specs.Worlds.{World, Slot, Live, Free, Over, Finish, Closed, Limits, is_over, first_world}
 use Rattle.source_model.specs.Worlds as world
 use Rattle.source_model.specs.Moves.{move}
 use Rattle.source_model.specs.Installs.{installed}
@@ -54,12 +54,12 @@ some_lives w = list_any is_live w.slots
 abbrev pub can_move : World → ℕ → Bool
 can_move w t = is_some (move w t)
 
--- the slots
-abbrev pub all_slots : List ℕ
-all_slots = range_with_len 0 slot_count
+-- the numbers of the slots
+abbrev pub all_slots : World → List ℕ
+all_slots w = range_with_len 0 (length w.slots)
 
 abbrev pub some_can_move : World → Bool
-some_can_move w = list_any (can_move w) all_slots
+some_can_move w = list_any (can_move w) (all_slots w)
 
 -- how a world stands
 abbrev pub unfinished : World → State
@@ -89,7 +89,7 @@ pub record Result : Type 0 where
   pub world : World
   pub output : List ℕ
   pub misused : Bool
-  pub closed : List Record
+  pub closed : List Closed
   pub open_records : List Record
   pub state : State
 
@@ -103,10 +103,10 @@ result w = record {
   state = state w;
 }
 
--- the run of the first of some texts over a list of moves, where so many objects may live; none where a move can't be made
-abbrev pub start : List (List BareDef) → ℕ → Option World
-start [] capacity = None
-start (text ∷ texts) capacity = Some (first_world text capacity)
+-- the run of the first of some texts over a list of moves, within limits; none where a move can't be made
+abbrev pub start : List (List BareDef) → Limits → Option World
+start [] limits = None
+start (text ∷ texts) limits = Some (first_world text limits)
 
-abbrev pub source_run : List (List BareDef) → ℕ → List SourceMove → Option Result
-source_run texts capacity moves = option_map result (option_and_then (run texts moves) (start texts capacity))
+abbrev pub source_run : List (List BareDef) → Limits → List SourceMove → Option Result
+source_run texts limits moves = option_map result (option_and_then (run texts moves) (start texts limits))

@@ -1,5 +1,5 @@
 -- The state of the source machine.
-use Rattle.std.specs.Prelude.{ℕ, Bool, false, not, ◌||◌, ℤ, List, [], ◌∷◌, map, filter, filter_map, find, replicate, count_by, Option, Some, None, option_map, bytes_eq, codes, slice_index_or, slice_set, if◌then◌else◌}
+use Rattle.std.specs.Prelude.{ℕ, ◌-◌, Bool, false, not, ◌||◌, ℤ, List, [], ◌∷◌, map, filter, filter_map, find, replicate, count_by, Option, Some, None, option_map, bytes_eq, codes, slice_index_or, slice_set, if◌then◌else◌}
 use Rattle.std.specs.Option.{option_map_or, is_some}
 use Rattle.bytecode.specs.declared.trap.TrapKind.{TrapKind}
 use Rattle.c_tree.specs.BareExpr.{Bytes}
@@ -33,6 +33,11 @@ pub data Slot : Type 0 where
   Live : Thread → Slot
   Over : (serial : ℕ) → Value → Slot
 
+-- the record of a transaction that was closed, with the slot of its thread
+pub record Closed : Type 0 where
+  pub slot : ℕ
+  pub uses : Record
+
 -- how a run has ended
 pub data Finish : Type 0 where
   -- the first call of main returned
@@ -55,12 +60,13 @@ pub record World : Type 0 where
   pub threads : ℕ
   pub output : List ℕ
   pub misused : Bool
-  pub closed : List Record
+  pub closed : List Closed
   pub finish : Option Finish
 
--- how many slots there are
-abbrev pub slot_count : ℕ
-slot_count = 16
+-- what bounds a run: how many objects may live at once, and how many threads, each in a slot
+pub record Limits : Type 0 where
+  pub objects : ℕ
+  pub slots : ℕ
 
 -- the definitions now
 abbrev pub now : World → Definitions
@@ -87,11 +93,13 @@ abbrev pub cells_of : World → Bytes → List Value
 cells_of w name = option_map_or (λ g. g.cells) (find (λ g. bytes_eq name g.name) w.globals) []
 
 -- the cells of a global changed
-abbrev pub replaced : Bytes → List Value → Cells → Cells
-replaced name cells g = if bytes_eq name g.name then record g { cells = cells } else g
+abbrev pub with_cells_in : Bytes → List Value → List Cells → List Cells
+with_cells_in name cells [] = []
+with_cells_in name cells (g ∷ gs) =
+    if bytes_eq name g.name then record g { cells = cells } ∷ gs else g ∷ with_cells_in name cells gs
 
 abbrev pub with_cells : Bytes → List Value → World → World
-with_cells name cells w = record w { globals = map (replaced name cells) w.globals }
+with_cells name cells w = record w { globals = with_cells_in name cells w.globals }
 
 -- the holder of a mutex
 abbrev pub holder_of : World → Bytes → Option ℕ
@@ -118,16 +126,16 @@ cells_at_first _ = None
 abbrev pub main_enter : Enter
 main_enter = record { function = codes "main"; arguments = []; version = 1 }
 
--- the world at the start of a text's run
-abbrev pub first_world : List BareDef → ℕ → World
-first_world text capacity = record {
+-- the world at the start of a text's run; main's thread always has a slot
+abbrev pub first_world : List BareDef → Limits → World
+first_world text limits = record {
   table = first_table text;
   text = text;
   globals = filter_map cells_at_first text;
   objects = [];
-  capacity = capacity;
+  capacity = limits.objects;
   holders = [];
-  slots = Live (started 0 main_enter) ∷ replicate 15 Free;
+  slots = Live (started 0 main_enter) ∷ replicate (limits.slots - 1) Free;
   threads = 1;
   output = [];
   misused = false;
