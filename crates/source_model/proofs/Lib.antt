@@ -4,7 +4,7 @@ mod ServerText
 mod Runs
 mod Corners
 mod Changes
-mod Moved
+pub mod Moved
 mod Greatest
 mod Apart
 mod Sets

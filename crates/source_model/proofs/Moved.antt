@@ -1,7 +1,7 @@
 -- What a move leaves as it was.
 use Rattle.std.proofs.Common.{◌≡◌, ℕ, zero, suc, Bool, true, false, List, [], ◌∷◌, ◌++◌, Option, Some, None, refl, sym, ◌∙◌, ap, subst}
 use Rattle.std.specs.Prelude.{◌≢◌, ◌==◌, length, position, slice_get, slice_index_or, slice_set, unwrap_or, unsigned_abs, if◌then◌else◌}
-use Rattle.std.proofs.lemmas.List.{get_or-set_other, append-nil}
+use Rattle.std.proofs.lemmas.List.{get_or-set_other, length-set, append-nil}
 use Rattle.std.proofs.lemmas.List.Quantifiers.{position-Some}
 use Rattle.bytecode.specs.declared.trap.TrapKind.{TrapKind}
 use Rattle.bytecode.specs.declared.trap.TrapKind.TheVariants.{Null, Stale, Index, Depth, Relock, Unlock as NotHeld, MutexHeld, Join as NotJoined}
@@ -11,16 +11,23 @@ use Rattle.c_types.specs.Values.{Value, Number, Reference, Started, ThreadRef, i
 use Rattle.c_types.specs.Stops.{Stop, ReadGlobal, WriteGlobal, ReadElement, WriteElement, ReadField, WriteField, New, Free, Print, InitMutex, Lock, Unlock, Spawn, Join, Call, Return, Back, Begin, End, Update}
 use Rattle.c_types.specs.Pieces.{Halt, Stopped, Trapped, Nothing}
 use Rattle.c_types.specs.Threads.{Frame, Enter, Thread}
-use Rattle.source_model.specs.Worlds.{World, Object, Slot, Live, Over, in_slot, with_slot, with_thread, is_over, cells_of, with_cells, live_objects, released}
+use Rattle.source_model.specs.Worlds.{World, Object, Slot, Live, Over, Closed, in_slot, with_slot, with_thread, is_over, cells_of, with_cells, live_objects, released}
 use Rattle.source_model.specs.Worlds as world
 use Rattle.source_model.specs.Uses.{using, use_at, is_right, recorded, marked}
 use Rattle.source_model.specs.Moves.{Standing, on_live, on_object, read_element, write_element, read_field, write_field, allocate, release, initialise, lock, unlock, start_in, spawn, join_slot, join, finish_thread, return_to, return, begin_at, end_at, write_global, print, call, perform, with_use, behind, enter, enter_with, in_frames, thread_move, move_of, move, goes_on, traps, is_free, in_bounds, new_object, must_wait, frame_count, frame_of}
 use Rattle.source_model.specs.Laws.{Grows}
 
--- what a move of slot t does to a world: it prints more, and the definitions and the other live threads stay
+-- records are closed behind those that were
+abbrev pub Closes : List Closed → List Closed → Type 0
+Closes before after = (more : List Closed) × (after ≡ before ++ more)
+
+-- what a move of slot t does to a world: it prints more, and the definitions, the records that were closed, the
+-- number of slots and the other live threads stay
 pub record Keeps (t : ℕ) (w after : World) : Type 0 where
   pub grows : Grows w after
   pub same_table : after.table ≡ w.table
+  pub closes : Closes w.closed after.closed
+  pub count : length after.slots ≡ length w.slots
   pub others : (k : ℕ) (th : Thread) → k ≢ t → in_slot w k ≡ Live th → in_slot after k ≡ Live th
 
 -- a world that is there satisfies P
@@ -28,29 +35,41 @@ abbrev pub AllOf : (World → Type 0) → Option World → Type 0
 AllOf P None = Unit {0}
 AllOf P (Some w) = P w
 
+-- no record is closed
+none_closed : (before after : List Closed) → after ≡ before → Closes before after
+none_closed before after e = ([], e ∙ sym (append-nil before))
+
 -- nothing more is printed
 quiet : (w after : World) → after.output ≡ w.output → Grows w after
 quiet w after e = ([], e ∙ sym (append-nil w.output))
 
 -- only slot t is another
 abbrev one_slot : (t : ℕ) (w after : World) (s : Slot) → after.slots ≡ slice_set w.slots t s → Grows w after
-    → after.table ≡ w.table → Keeps t w after
-one_slot t w after s e g d = record {
+    → after.table ≡ w.table → Closes w.closed after.closed → Keeps t w after
+one_slot t w after s e g d c = record {
   grows = g;
   same_table = d;
+  closes = c;
+  count = ap length e ∙ length-set w.slots t s;
   others = λ k th other is.
       ap (λ slots. slice_index_or slots k world.Free) e ∙ get_or-set_other w.slots t k s world.Free other ∙ is;
 }
 
 -- and nothing more is printed
 one_slot_quiet : (t : ℕ) (w after : World) (s : Slot) → after.slots ≡ slice_set w.slots t s → after.output ≡ w.output
-    → after.table ≡ w.table → Keeps t w after
-one_slot_quiet t w after s e o d = one_slot t w after s e (quiet w after o) d
+    → after.table ≡ w.table → Closes w.closed after.closed → Keeps t w after
+one_slot_quiet t w after s e o d c = one_slot t w after s e (quiet w after o) d c
 
 -- no slot is another
-no_slot : (t : ℕ) (w after : World) → after.slots ≡ w.slots → after.output ≡ w.output → after.table ≡ w.table → Keeps t w after
-no_slot t w after e o d =
-    record { grows = quiet w after o; same_table = d; others = λ k th other is. ap (λ slots. slice_index_or slots k world.Free) e ∙ is }
+no_slot : (t : ℕ) (w after : World) → after.slots ≡ w.slots → after.output ≡ w.output → after.table ≡ w.table
+    → after.closed ≡ w.closed → Keeps t w after
+no_slot t w after e o d c = record {
+  grows = quiet w after o;
+  same_table = d;
+  closes = none_closed w.closed after.closed c;
+  count = ap length e;
+  others = λ k th other is. ap (λ slots. slice_index_or slots k world.Free) e ∙ is;
+}
 
 -- one of two outcomes
 either_way : (t : ℕ) (w : World) (b : Bool) (x y : Option World)
@@ -64,28 +83,30 @@ Kept s = AllOf (Keeps s.slot s.world)
 
 -- the thread in its slot again, in a world whose slots are the same
 in_place : (t : ℕ) (w mid : World) (th : Thread) → mid.slots ≡ w.slots → Grows w mid
-    → mid.table ≡ w.table → Keeps t w (with_slot t (Live th) mid)
-in_place t w mid th e g d = one_slot t w (with_slot t (Live th) mid) (Live th) (ap (λ slots. slice_set slots t (Live th)) e) g d
+    → mid.table ≡ w.table → mid.closed ≡ w.closed → Keeps t w (with_slot t (Live th) mid)
+in_place t w mid th e g d c =
+    one_slot t w (with_slot t (Live th) mid) (Live th) (ap (λ slots. slice_set slots t (Live th)) e) g d
+    (none_closed w.closed mid.closed c)
 
 goes : (s : Standing) (w : World) (values : List Value) → w.slots ≡ s.world.slots → Grows s.world w
-    → w.table ≡ s.world.table → Kept s (goes_on s w values)
-goes s w values e g d = in_place s.slot s.world w _ e g d
+    → w.table ≡ s.world.table → w.closed ≡ s.world.closed → Kept s (goes_on s w values)
+goes s w values e g d c = in_place s.slot s.world w _ e g d c
 
 -- in the same world
 goes_same : (s : Standing) (values : List Value) → Kept s (goes_on s s.world values)
-goes_same s values = goes s s.world values refl (quiet s.world s.world refl) refl
+goes_same s values = goes s s.world values refl (quiet s.world s.world refl) refl refl
 
 -- in a world that printed nothing
 goes_quiet : (s : Standing) (w : World) (values : List Value) → w.slots ≡ s.world.slots → w.output ≡ s.world.output
-    → w.table ≡ s.world.table → Kept s (goes_on s w values)
-goes_quiet s w values e o d = goes s w values e (quiet s.world w o) d
+    → w.table ≡ s.world.table → w.closed ≡ s.world.closed → Kept s (goes_on s w values)
+goes_quiet s w values e o d c = goes s w values e (quiet s.world w o) d c
 
 trapped : (s : Standing) (kind : TrapKind) → Kept s (traps s kind)
-trapped s kind = one_slot_quiet s.slot s.world _ _ refl refl refl
+trapped s kind = one_slot_quiet s.slot s.world _ _ refl refl refl (none_closed _ _ refl)
 
 write_global_keeps : (s : Standing) (name : Bytes) (values : List Value) → Kept s (write_global s name values)
 write_global_keeps s name [] = tt
-write_global_keeps s name (v ∷ values) = goes_quiet s _ _ refl refl refl
+write_global_keeps s name (v ∷ values) = goes_quiet s _ _ refl refl refl refl
 
 read_element_keeps : (s : Standing) (name : Bytes) (values : List Value) → Kept s (read_element s name values)
 read_element_keeps s name (Number i ∷ values) =
@@ -102,7 +123,7 @@ write_element_keeps s name (v ∷ Number i ∷ values) =
     let cells = cells_of s.world name in
     either_way s.slot s.world (in_bounds (value_of i) cells)
     (goes_on s (with_cells name (slice_set cells (unsigned_abs (value_of i)) v) s.world) (v ∷ values)) (traps s Index)
-    (goes_quiet s _ _ refl refl refl) (trapped s Index)
+    (goes_quiet s _ _ refl refl refl refl) (trapped s Index)
 write_element_keeps s name [] = tt
 write_element_keeps s name (v ∷ []) = tt
 write_element_keeps s name (v ∷ Reference r ∷ values) = tt
@@ -125,7 +146,7 @@ read_field_keeps s field (Number i ∷ values) = tt
 read_field_keeps s field (Started r ∷ values) = tt
 
 write_field_keeps : (s : Standing) (field : Bytes) (values : List Value) → Kept s (write_field s field values)
-write_field_keeps s field (v ∷ Reference r ∷ values) = on_object_keeps s r _ (λ n o. goes_quiet s _ _ refl refl refl)
+write_field_keeps s field (v ∷ Reference r ∷ values) = on_object_keeps s r _ (λ n o. goes_quiet s _ _ refl refl refl refl)
 write_field_keeps s field [] = tt
 write_field_keeps s field (v ∷ []) = tt
 write_field_keeps s field (v ∷ Number i ∷ values) = tt
@@ -136,11 +157,11 @@ allocate_keeps s tag values =
     let w = s.world in
     either_way s.slot w (live_objects w == w.capacity) (goes_on s w (Reference None ∷ values))
     (goes_on s (record w { objects = w.objects ++ new_object w tag ∷ [] }) (Reference (Some (length w.objects)) ∷ values))
-    (goes_same s _) (goes_quiet s _ _ refl refl refl)
+    (goes_same s _) (goes_quiet s _ _ refl refl refl refl)
 
 release_keeps : (s : Standing) (values : List Value) → Kept s (release s values)
 release_keeps s (Reference None ∷ values) = goes_same s _
-release_keeps s (Reference (Some n) ∷ values) = on_live_keeps s _ (slice_get s.world.objects n) (λ o. goes_quiet s _ _ refl refl refl)
+release_keeps s (Reference (Some n) ∷ values) = on_live_keeps s _ (slice_get s.world.objects n) (λ o. goes_quiet s _ _ refl refl refl refl)
 release_keeps s [] = tt
 release_keeps s (Number i ∷ values) = tt
 release_keeps s (Started r ∷ values) = tt
@@ -150,21 +171,23 @@ initialise_keeps s values None = goes_same s _
 initialise_keeps s values (Some slot) = trapped s MutexHeld
 
 lock_keeps : (s : Standing) (name : Bytes) (values : List Value) (holder : Option ℕ) → Kept s (lock s name values holder)
-lock_keeps s name values None = goes_quiet s _ _ refl refl refl
+lock_keeps s name values None = goes_quiet s _ _ refl refl refl refl
 lock_keeps s name values (Some slot) = trapped s Relock
 
 unlock_keeps : (s : Standing) (name : Bytes) (values : List Value) (holder : Option ℕ) → Kept s (unlock s name values holder)
 unlock_keeps s name values None = trapped s NotHeld
 unlock_keeps s name values (Some slot) =
     either_way s.slot s.world (slot == s.slot) (goes_on s (released name s.world) (int_of 0 ∷ values)) (traps s NotHeld)
-    (goes_quiet s _ _ refl refl refl) (trapped s NotHeld)
+    (goes_quiet s _ _ refl refl refl refl) (trapped s NotHeld)
 
 -- two slots are another, of which no live thread was in the second
 two_slots : (t u : ℕ) (w after : World) (a b : Slot) → after.slots ≡ slice_set (slice_set w.slots u b) t a → after.output ≡ w.output
-    → after.table ≡ w.table → ((th : Thread) → in_slot w u ≡ Live th → ⊥) → Keeps t w after
-two_slots t u w after a b e o d empty = record {
+    → after.table ≡ w.table → after.closed ≡ w.closed → ((th : Thread) → in_slot w u ≡ Live th → ⊥) → Keeps t w after
+two_slots t u w after a b e o d c empty = record {
   grows = quiet w after o;
   same_table = d;
+  closes = none_closed w.closed after.closed c;
+  count = ap length e ∙ length-set (slice_set w.slots u b) t a ∙ length-set w.slots u b;
   others = λ k th other is.
       ap (λ slots. slice_index_or slots k world.Free) e
       ∙ get_or-set_other (slice_set w.slots u b) t k a world.Free other
@@ -183,7 +206,7 @@ start_keeps : (s : Standing) (enter : Enter) (values : List Value) (place : Opti
     → Kept s (start_in s enter values place)
 start_keeps s enter values None e = goes_same s _
 start_keeps s enter values (Some t) e =
-    two_slots s.slot t s.world _ _ _ refl refl refl
+    two_slots s.slot t s.world _ _ _ refl refl refl refl
     (λ th is. free_is_empty _ th (position-Some is_free s.world.slots t world.Free e).1 is)
 
 spawn_keeps : (s : Standing) (name : Bytes) (values : List Value) → Kept s (spawn s name values)
@@ -202,7 +225,7 @@ join_slot_keeps s ref values (Live th) e =
 join_slot_keeps s ref values (Over serial result) e =
     either_way s.slot s.world (serial == ref.serial)
     (goes_on s (with_slot ref.slot world.Free s.world) (result ∷ values)) (traps s NotJoined)
-    (two_slots s.slot ref.slot s.world _ _ _ refl refl refl (λ th is. over_is_empty _ serial result th e is))
+    (two_slots s.slot ref.slot s.world _ _ _ refl refl refl refl (λ th is. over_is_empty _ serial result th e is))
     (trapped s NotJoined)
 
 join_keeps : (s : Standing) (values : List Value) → Kept s (join s values)
@@ -213,31 +236,31 @@ join_keeps s (Number i ∷ values) = tt
 join_keeps s (Reference r ∷ values) = tt
 
 finish_keeps : (s : Standing) (v : Value) (n : ℕ) → Kept s (finish_thread s v n)
-finish_keeps s v zero = no_slot s.slot s.world _ refl refl refl
-finish_keeps s v (suc n) = one_slot_quiet s.slot s.world _ _ refl refl refl
+finish_keeps s v zero = no_slot s.slot s.world _ refl refl refl refl
+finish_keeps s v (suc n) = one_slot_quiet s.slot s.world _ _ refl refl refl (none_closed _ _ refl)
 
 return_to_keeps : (s : Standing) (v : Value) (below : List Frame) → Kept s (return_to s v below)
 return_to_keeps s v [] = finish_keeps s v s.slot
-return_to_keeps s v (f ∷ fs) = one_slot_quiet s.slot s.world _ _ refl refl refl
+return_to_keeps s v (f ∷ fs) = one_slot_quiet s.slot s.world _ _ refl refl refl (none_closed _ _ refl)
 
 return_keeps : (s : Standing) (values : List Value) → Kept s (return s values)
 return_keeps s [] = tt
 return_keeps s (v ∷ values) = return_to_keeps s v s.below
 
 begin_keeps : (s : Standing) (depth : ℕ) (th : Thread) → Kept s (begin_at s depth th)
-begin_keeps s zero th = one_slot_quiet s.slot s.world _ _ refl refl refl
-begin_keeps s (suc depth) th = one_slot_quiet s.slot s.world _ _ refl refl refl
+begin_keeps s zero th = one_slot_quiet s.slot s.world _ _ refl refl refl (none_closed _ _ refl)
+begin_keeps s (suc depth) th = one_slot_quiet s.slot s.world _ _ refl refl refl (none_closed _ _ refl)
 
 end_keeps : (s : Standing) (depth : ℕ) (th : Thread) → Kept s (end_at s depth th)
 end_keeps s zero th = tt
-end_keeps s (suc zero) th = one_slot_quiet s.slot s.world _ _ refl refl refl
-end_keeps s (suc (suc depth)) th = one_slot_quiet s.slot s.world _ _ refl refl refl
+end_keeps s (suc zero) th = one_slot_quiet s.slot s.world _ _ refl refl refl (_, refl)
+end_keeps s (suc (suc depth)) th = one_slot_quiet s.slot s.world _ _ refl refl refl (none_closed _ _ refl)
 
 print_keeps : (s : Standing) (format : Bytes) (n : ℕ) (values : List Value) → Kept s (print s format n values)
-print_keeps s format n values = goes s _ _ refl (_, refl) refl
+print_keeps s format n values = goes s _ _ refl (_, refl) refl refl
 
 call_keeps : (s : Standing) (name : Bytes) (n : ℕ) (values : List Value) → Kept s (call s name n values)
-call_keeps s name n values = one_slot_quiet s.slot s.world _ _ refl refl refl
+call_keeps s name n values = one_slot_quiet s.slot s.world _ _ refl refl refl (none_closed _ _ refl)
 
 perform_keeps : (x : Stop) (s : Standing) (values : List Value) → Kept s (perform x s values)
 perform_keeps (ReadGlobal name) s values = goes_same s _
@@ -266,7 +289,7 @@ using_keeps : (t : ℕ) (w : World) (th : Thread) (n : ℕ) (name : Bytes) (f : 
     → ((user : Thread) → AllOf (Keeps t w) (f user)) → AllOf (Keeps t w) (using w th n name f)
 using_keeps t w th n name f keeps =
     either_way t w (is_right w.table n name) (f (recorded w.table name th)) (Some (marked w))
-    (keeps (recorded w.table name th)) (no_slot t w _ refl refl refl)
+    (keeps (recorded w.table name th)) (no_slot t w _ refl refl refl refl)
 
 with_use_keeps : (x : Stop) (w : World) (t : ℕ) (th : Thread) (f : Frame) (below : List Frame) (name : Option Bytes)
     → AllOf (Keeps t w) (with_use x w t th f below name)
@@ -282,7 +305,7 @@ behind_keeps : (w : World) (t : ℕ) (th : Thread) (f : Frame) (below : List Fra
 behind_keeps w t th f below (Stopped x n rest values scopes) =
     let g : Frame = record f { standing = n; pieces = rest; values = values; scopes = scopes } in
     either_way t w (must_wait x w t) None (with_use x w t th g below (use_at x)) tt (with_use_keeps x w t th g below (use_at x))
-behind_keeps w t th f below (Trapped kind) = no_slot t w _ refl refl refl
+behind_keeps w t th f below (Trapped kind) = no_slot t w _ refl refl refl refl
 behind_keeps w t th f below Nothing = tt
 
 enter_with_keeps : (w : World) (t : ℕ) (e : Enter) (th : Thread) → AllOf (Keeps t w) (enter_with w t e th)
@@ -290,7 +313,7 @@ enter_with_keeps w t e th =
     either_way t w (length th.frames == frame_count)
     (Some (record (with_thread t th w) { finish = Some (world.Trapped Depth t) }))
     (Some (with_thread t (record th { frames = frame_of w e ∷ th.frames; entering = None }) w))
-    (one_slot_quiet t w _ _ refl refl refl) (one_slot_quiet t w _ _ refl refl refl)
+    (one_slot_quiet t w _ _ refl refl refl (none_closed _ _ refl)) (one_slot_quiet t w _ _ refl refl refl (none_closed _ _ refl))
 
 frames_keep : (w : World) (t : ℕ) (th : Thread) (fs : List Frame) → AllOf (Keeps t w) (in_frames w t th fs)
 frames_keep w t th [] = tt
