@@ -1,5 +1,5 @@
 -- What a number means in a table, it means in each table that this one grows to.
-use Rattle.std.proofs.Common.{◌≡◌, ℕ, zero, suc, ◌+◌, ◌<◌, ◌≤◌, Bool, true, false, IsTrue, nat_lt, List, [], ◌∷◌, ◌++◌, length, map, take, get_or, refl, sym, ap, subst, ◌∙◌, if◌then◌else◌, rules, arith, append_assoc, length-append}
+use Rattle.std.proofs.Common.{◌≡◌, ℕ, zero, suc, ◌+◌, ◌<◌, ◌≤◌, Bool, true, false, IsTrue, List, [], ◌∷◌, ◌++◌, length, map, take, get_or, refl, sym, ap, subst, ◌∙◌, if◌then◌else◌, arith, append_assoc, length-append}
 use Rattle.std.proofs.lemmas.List.{append-nil}
 use Rattle.std.specs.Prelude.{bytes_eq, Result, Ok, Err, IfOk, OnOk}
 use Rattle.std.specs.List.{list_any}
@@ -9,8 +9,7 @@ use Rattle.c_tree.specs.BareExpr.{Bytes}
 use Rattle.source_runner.specs.declared.node.NodeId.{NodeId}
 use Rattle.source_runner.specs.declared.node.Node.{Node}
 use Rattle.source_runner.specs.declared.words.Word.{Word}
-use Rattle.source_runner.specs.Words.{text_of}
-use Rattle.source_runner.specs.Nodes.{Tree, Table, expression, zero_constant, word, tree_at, made, with_node}
+use Rattle.source_runner.specs.Nodes.{Table, expression, zero_constant, word, tree_at, made, with_node}
 use Rattle.source_runner.specs.Parts.{Named, a_word, a_node, both, below, in_node, is_within}
 use Rattle.source_runner.specs.Found.{Grows, IsIn, each_node}
 use Rattle.source_runner.proofs.Naming.{Agree, AllBelow, all_below, shown_all, below_more, left_below, right_below, both_hold, made_agrees}

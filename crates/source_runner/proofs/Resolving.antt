@@ -4,8 +4,7 @@ use Rattle.std.specs.Prelude.{slice_get, option_map}
 use Rattle.std.specs.Option.{option_map_or}
 use Rattle.std.proofs.Math.Seq.{drop-cons}
 use Rattle.std.proofs.lemmas.List.{map-append, reverse-append, drop_all}
-use Rattle.c_tree.specs.BareExpr.{Bytes, BareType, BareExpr, BareExprs}
-use Rattle.c_tree.specs.BareExpr as bare
+use Rattle.c_tree.specs.BareExpr.{Bytes, BareType, BareExpr}
 use Rattle.c_tree.specs.declared.stmt.Stmt.{Stmt}
 use Rattle.c_tree.specs.Bare.{bare_arguments, bare_stmt, bare_block}
 use Rattle.c_tree.specs.BareDef.{BareBinding}

@@ -11,7 +11,12 @@ mod known;
 mod names;
 mod operator;
 mod statement;
+#[cfg(test)]
+mod tests;
 mod types;
 
+pub(crate) use block::statements;
+pub(crate) use found::{value_type, word};
 pub use known::Known;
+pub(crate) use known::name_of_struct;
 pub use statement::resolve_body;

@@ -370,7 +370,7 @@ pub(crate) fn sum(a: u32, b: u32) -> Result<u32, AllocError>
 }
 
 /// One more, or want of memory where it's too large.
-fn later(n: usize) -> Result<usize, AllocError>
+pub(crate) fn later(n: usize) -> Result<usize, AllocError>
     ensures { IfOk result (λ m. m ≡ n + 1) }
 {
     n.checked_add(1).ok_or(AllocError)

@@ -32,7 +32,7 @@ pub(crate) fn statement(trees: &mut Trees, node: StatementNode) -> Result<NodeId
 }
 
 /// A new tree of statements.
-fn statements(trees: &mut Trees, node: StatementsNode) -> Result<NodeId, AllocError>
+pub(crate) fn statements(trees: &mut Trees, node: StatementsNode) -> Result<NodeId, AllocError>
     requires { IsIn (table trees.old) (in_statements node) }
     ensures tree { IfOk result (λ id. (u : Table) → Grows (table trees.new) u → statements_at u id ≡ statements_of u node) }
     ensures within { IfOk result (λ id. IsIn (table trees.new) (a_node id)) }

@@ -1,12 +1,11 @@
-use Rattle.std.proofs.Common.{◌≡◌, refl, sym, ap, ◌∙◌, map}
-use Rattle.c_ints.specs.Number.{kind_of}
+use Rattle.std.proofs.Common.{sym, ap, ◌∙◌, map}
 use Rattle.c_ints.specs.Arithmetic.{unary_kind}
 use Rattle.c_tree.specs.BareExpr.{Bytes, Integer, Handle}
-use Rattle.c_tree.specs.Bare.{bare_type, bare_expr, bare_arguments}
+use Rattle.c_tree.specs.Bare.{bare_type, bare_expr}
 use Rattle.c_tree.proofs.Exprs.{by_node}
-use Rattle.c_types.specs.Resolved.{Expression, Expressions, Unary, Convert, And, Or, Call, Print, New, Free, Create, Join, JoinInto, InitMutex, Lock, Unlock, Element}
-use Rattle.c_types.specs.Texts.{Definitions, int, bound, global_type, result_type, parameters_of}
-use Rattle.c_types.specs.Resolution.{Resolved, resolved, resolved_all, tree_of, value, located, variable, binary, choice, assignment, update, step, field, passed, handed, tag_of, kind}
+use Rattle.c_types.specs.Resolved.{Unary, Convert, And, Or, Call, Print, New, Free, Create, Join, JoinInto, InitMutex, Lock, Unlock, Element}
+use Rattle.c_types.specs.Texts.{int, bound, global_type, result_type, parameters_of}
+use Rattle.c_types.specs.Resolution.{Resolved, resolved, tree_of, value, located, variable, binary, choice, assignment, update, step, field, passed, handed, tag_of, kind}
 use Rattle.source_runner.specs.Nodes.{expression_at}
 use Rattle.source_runner.specs.Parts.{both}
 use Rattle.source_runner.specs.Found.{found, in_found, listed, each_node}

@@ -1,11 +1,11 @@
-use Rattle.std.proofs.Common.{◌≡◌, ◌-◌, suc, ◌<◌, length, get_or, map, refl, sym, ap, ◌∙◌, arith}
+use Rattle.std.proofs.Common.{◌≡◌, ◌-◌, suc, ◌<◌, length, get_or, map, sym, ap, ◌∙◌, arith}
 use Rattle.std.proofs.lemmas.List.{get_or-map, length-map}
 use Rattle.c_tree.specs.Bare.{bare_binding}
 use Rattle.c_types.specs.Resolved.{ExpressionThen}
 use Rattle.source_runner.specs.declared.node.NodeId.{NodeId}
 use Rattle.source_runner.specs.Nodes.{expression_at, arguments_at}
-use Rattle.source_runner.specs.Parts.{a_node, both}
-use Rattle.source_runner.specs.Found.{given, each_node}
+use Rattle.source_runner.specs.Parts.{a_node}
+use Rattle.source_runner.specs.Found.{given}
 use Rattle.source_runner.proofs.Kept.{grows_trans, in_later, both_in, each_in}
 use Rattle.source_runner.proofs.Resolving.{passed_more}
 use Rattle.source_runner.proofs.resolve.names.passed.Goals as goal

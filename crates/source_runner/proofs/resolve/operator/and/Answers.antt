@@ -1,7 +1,5 @@
-use Rattle.source_runner.specs.Nodes.{expression_at}
-use Rattle.source_runner.specs.Parts.{a_node, in_place, in_type, both}
 use Rattle.source_runner.specs.Found.{found, in_found}
-use Rattle.source_runner.proofs.Kept.{grows_trans, in_later, both_in, left_in, right_in, later_as}
+use Rattle.source_runner.proofs.Kept.{grows_trans, in_later, right_in, later_as}
 use Rattle.source_runner.proofs.resolve.operator.and.Goals as goal
 
 pub tree-requires-2 : goal.tree-requires-2

@@ -1,19 +1,17 @@
-use Rattle.std.proofs.Common.{◌≡◌, ◌+◌, refl, sym, ap, ◌∙◌, List, [], ◌∷◌, drop, map, option_map, Option, arith}
+use Rattle.std.proofs.Common.{◌+◌, sym, ap, ◌∙◌, [], ◌∷◌, drop, map, option_map}
 use Rattle.std.specs.Option.{option_map_or}
 use Rattle.std.proofs.lemmas.List.{map-append}
-use Rattle.c_tree.specs.BareDef.{BareBinding}
-use Rattle.c_tree.specs.BareExpr.{BareType}
 use Rattle.c_tree.specs.Bare.{bare_type, bare_expr, bare_stmt, bare_block}
 use Rattle.c_tree.proofs.Stmts.{by_node}
-use Rattle.c_types.specs.Resolved.{Expression, Statement, Statements, Block, Evaluate, If, IfElse, While, DoWhile, For, Return, Transaction, NoStatements, StatementThen}
+use Rattle.c_types.specs.Resolved.{Block, Evaluate, If, IfElse, While, DoWhile, For, Return, Transaction, NoStatements, StatementThen}
 use Rattle.c_types.specs.Texts.{int}
 use Rattle.c_types.specs.Resolution.{statement, statements, tree_of, declared_by_all}
 use Rattle.source_runner.specs.Nodes.{expression_at, expression_if, statement_at, statements_at}
 use Rattle.source_runner.specs.Parts.{a_node, a_node_if, both}
 use Rattle.source_runner.specs.Found.{each_node, before}
 use Rattle.source_runner.specs.Known.{known_of, locals_of}
-use Rattle.source_runner.proofs.Kept.{grows_trans, in_later, both_in, each_more, later_as, told_ok}
-use Rattle.source_runner.proofs.Resolving.{before_last, sequence_more, declared_more, sequence_end, declared_end}
+use Rattle.source_runner.proofs.Kept.{grows_trans, in_later, both_in, each_more, later_as}
+use Rattle.source_runner.proofs.Resolving.{before_last, sequence_more, declared_more, sequence_end}
 use Rattle.source_runner.proofs.resolve.statement.+resolve_statement.Goals as goal
 
 pub resolve_statement-returns-in-Empty-clause-tree : goal.resolve_statement-returns-in-Empty-clause-tree

@@ -1,0 +1,126 @@
+-- What definitions are made of, and what a list of them has by name.
+use Rattle.std.proofs.Common.{◌≡◌, ℕ, ◌+◌, ◌<◌, Bool, true, false, List, [], ◌∷◌, ◌++◌, length, get_or, map, take, find, Option, Some, None, refl, sym, ap, subst, ◌∙◌, if◌then◌else◌}
+use Rattle.std.specs.Prelude.{bytes_eq, Result, Ok, Err, IfOk}
+use Rattle.std.specs.Option.{option_map_or, option_or}
+use Rattle.std.proofs.lemmas.List.{take_more, map-append}
+use Rattle.std.proofs.lemmas.List.Folds.{find-append}
+use Rattle.c_ints.specs.declared.kind.Kind.TheVariants.{I32}
+use Rattle.c_tree.specs.BareExpr.{Bytes}
+use Rattle.c_tree.specs.BareDef.{BareBinding, BareDef, Struct}
+use Rattle.c_types.specs.Names.{struct_name}
+use Rattle.c_types.specs.Resolved.{NoStatements}
+use Rattle.c_types.specs.Texts.{Definitions, defined, defines, definition}
+use Rattle.source_runner.specs.declared.node.ValueType.TheVariants.{Integer}
+use Rattle.source_runner.specs.declared.program.Binding.{Binding}
+use Rattle.source_runner.specs.declared.program.Definition.{Definition}
+use Rattle.source_runner.specs.declared.words.Word.{Word}
+use Rattle.source_runner.specs.Nodes.{Table, word, type_of, statements_at}
+use Rattle.source_runner.specs.Found.{Grows}
+use Rattle.source_runner.specs.Definitions.{bindings_of, kept, IsDefinition, IsPlain, Defines, DefinesIf}
+
+-- ---- one definition
+
+-- what has only its name
+pub plain_ok : {E : Type 0} (now : Table) (r : Result Definition E) (name : Word) (own : Bytes) (members : List Binding)
+    → IfOk r (λ d. d.name ≡ name) → IfOk r (λ d. d.parameters.items ≡ [])
+    → IfOk r (λ d. (u : Table) → Grows now u → statements_at u d.body ≡ NoStatements) → IfOk r (λ d. d.result ≡ Integer I32)
+    → IfOk r (λ d. d.members.items ≡ members) → members ≡ [] → ((u : Table) → Grows now u → word u name ≡ own)
+    → IfOk r (λ d. (u : Table) → Grows now u → IsPlain u d own)
+plain_ok now (Ok d) name own members n p b r m none w = λ u g. record {
+  name = ap (word u) n ∙ w u g;
+  parameters = ap (bindings_of u) p;
+  members = ap (bindings_of u) (m ∙ none);
+  result = ap (type_of u) r;
+  body = b u g;
+}
+plain_ok now (Err x) name own members n p b r m none w = tt
+
+-- a struct
+pub struct_ok : {E : Type 0} (now : Table) (r : Result Definition E) (name : Word) (tag : Bytes) (members : List Binding) (own : List BareBinding)
+    → IfOk r (λ d. d.name ≡ name) → IfOk r (λ d. d.parameters.items ≡ [])
+    → IfOk r (λ d. (u : Table) → Grows now u → statements_at u d.body ≡ NoStatements) → IfOk r (λ d. d.result ≡ Integer I32)
+    → IfOk r (λ d. d.members.items ≡ members) → ((u : Table) → Grows now u → bindings_of u members ≡ own)
+    → ((u : Table) → Grows now u → word u name ≡ struct_name tag)
+    → IfOk r (λ d. (u : Table) → Grows now u → (look : Definitions) → Defines u look d (Struct tag own))
+struct_ok now (Ok d) name tag members own n p b r m fields w = λ u g look. record {
+  name = ap Some (sym (ap (word u) n ∙ w u g));
+  definition = record {
+    there = refl;
+    parameters = ap (bindings_of u) p;
+    members = ap (bindings_of u) m ∙ fields u g;
+    result = ap (type_of u) r;
+    body = b u g;
+  };
+}
+struct_ok now (Err x) name tag members own n p b r m fields w = tt
+
+-- ---- definitions by name
+
+as_definition : (t : Table) (look : Definitions) (a c : Option Definition) (b e : Option BareDef) → c ≡ a → e ≡ b → IsDefinition t look a b → IsDefinition t look c e
+as_definition t look a c b e p q h =
+    let P : Option Definition → Type 0 = λ x. IsDefinition t look x b in
+    let Q : Option BareDef → Type 0 = λ x. IsDefinition t look c x in
+    subst Q (sym q) (subst P (sym p) h)
+
+-- nothing is what a text doesn't define
+no_definition : (t : Table) (look : Definitions) → IsDefinition t look None None
+no_definition t look = record { there = refl; parameters = refl; members = refl; result = refl; body = refl }
+
+-- the first of two wins
+either_definition : (t : Table) (look : Definitions) (a c : Option Definition) (b e : Option BareDef)
+    → IsDefinition t look a b → IsDefinition t look c e → IsDefinition t look (option_or a c) (option_or b e)
+either_definition t look None c None e h k = k
+either_definition t look None c (Some y) e h k = let no : false ≡ true = h.there in absurd (cc)
+either_definition t look (Some x) c None e h k = let no : true ≡ false = h.there in absurd (cc)
+either_definition t look (Some x) c (Some y) e h k = h
+
+-- one more definition of a text that defines nothing
+pub added_none : (t : Table) (look : Definitions) (ds : List Definition) (text texts : List BareDef) (own : BareDef) → texts ≡ text ++ own ∷ []
+    → defined own ≡ None → (name : Bytes) → IsDefinition t look (kept t ds name) (definition text name) → IsDefinition t look (kept t ds name) (definition texts name)
+added_none t look ds text texts own e none name h =
+    let or_none : (o : Option BareDef) → option_or o None ≡ o = or_nothing in
+    let found : definition texts name ≡ definition text name =
+    ap (λ xs. definition xs name) e ∙ find-append (defines name) text (own ∷ [])
+    ∙ ap (λ o. option_or (definition text name) (if option_map_or (bytes_eq name) o false then Some own else None)) none
+    ∙ or_none (definition text name) in
+    as_definition t look (kept t ds name) (kept t ds name) (definition text name) (definition texts name) refl found h
+  where
+    or_nothing : (o : Option BareDef) → option_or o None ≡ o
+    or_nothing None = refl
+    or_nothing (Some d) = refl
+
+-- one more definition of a text with what it defines
+pub added_some : (t : Table) (look : Definitions) (ds more : List Definition) (text texts : List BareDef) (d : Definition) (own : BareDef)
+    → more ≡ ds ++ d ∷ [] → texts ≡ text ++ own ∷ [] → Defines t look d own
+    → (name : Bytes) → IsDefinition t look (kept t ds name) (definition text name) → IsDefinition t look (kept t more name) (definition texts name)
+added_some t look ds more text texts d own e f made name h =
+    let same : Definition → Bool = λ x. bytes_eq name (word t x.name) in
+    let here = bytes_eq name (word t d.name) in
+    let found : kept t more name ≡ option_or (kept t ds name) (if here then Some d else None) = ap (find same) e ∙ find-append same ds (d ∷ []) in
+    let told : definition texts name ≡ option_or (definition text name) (if here then Some own else None) =
+    ap (λ xs. definition xs name) f ∙ find-append (defines name) text (own ∷ [])
+    ∙ ap (λ o. option_or (definition text name) (if option_map_or (bytes_eq name) o false then Some own else None)) made.name in
+    as_definition t look (option_or (kept t ds name) (if here then Some d else None)) (kept t more name)
+    (option_or (definition text name) (if here then Some own else None)) (definition texts name) found told
+    (either_definition t look (kept t ds name) (if here then Some d else None) (definition text name) (if here then Some own else None) h (last here))
+  where
+    last : (b : Bool) → IsDefinition t look (if b then Some d else None) (if b then Some own else None)
+    last true = made.definition
+    last false = no_definition t look
+
+-- the first definitions of a text with the next one
+pub next_definition : {A B : Type 0} (f : A → B) (xs : List A) (i : ℕ) (x : A) → i < length xs → x ≡ get_or xs i x
+    → map f (take (i + 1) xs) ≡ map f (take i xs) ++ f x ∷ []
+next_definition f xs i x l is = ap (map f) (take_more xs i x l ∙ ap (λ z. take i xs ++ z ∷ []) (sym is)) ∙ map-append f (take i xs) (x ∷ [])
+
+-- ---- what a call gives
+
+pub defines_some : (t : Table) (by look : Definitions) (o : Option Definition) (d : Definition) (own : BareDef) → by ≡ look → o ≡ Some d
+    → DefinesIf t by o own → Defines t look d own
+defines_some t by look o d own e f h =
+    let P : Definitions → Type 0 = λ x. DefinesIf t x o own in
+    let Q : Option Definition → Type 0 = λ x. DefinesIf t look x own in
+    subst Q f (subst P e h)
+
+pub defines_none : (t : Table) (look : Definitions) (o : Option Definition) (own : BareDef) → o ≡ None → DefinesIf t look o own → defined own ≡ None
+defines_none t look o own f h = let Q : Option Definition → Type 0 = λ x. DefinesIf t look x own in subst Q f h

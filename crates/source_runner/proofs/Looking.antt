@@ -1,0 +1,76 @@
+-- What is seen of threads where nothing changes.
+use Rattle.std.proofs.Common.{◌≡◌, ℕ, ◌+◌, ◌<◌, ◌≤◌, Bool, true, false, ◌||◌, List, length, take, get_or, refl, sym, ap, ap₂, subst, ◌∙◌, arith}
+use Rattle.std.specs.Option.{is_some}
+use Rattle.std.specs.List.{list_any, range_with_len}
+use Rattle.std.proofs.lemmas.List.{take_all}
+use Rattle.std.proofs.lemmas.List.FromFn.{get_or-range_with_len, length-range_with_len}
+use Rattle.std.proofs.lemmas.List.Folds.{list_any_at, list_any_more}
+use Rattle.c_tree.specs.BareDef.{BareDef}
+use Rattle.c_types.specs.Threads.{Thread as SeenThread}
+use Rattle.source_model.specs.Guards.{frames_lead, move_leads}
+use Rattle.source_model.specs.Moves.{stop_made, thread_move}
+use Rattle.source_model.specs.Worlds.{World, in_slot, is_over}
+use Rattle.source_runner.specs.declared.piece.Stop.{Stop}
+use Rattle.source_runner.specs.declared.work.Halt.TheVariants.{At}
+use Rattle.source_runner.specs.declared.thread.Frame.{Frame}
+use Rattle.source_runner.specs.declared.thread.Next.{Next}
+use Rattle.source_runner.specs.declared.thread.Next.TheVariants.{Halt}
+use Rattle.source_runner.specs.declared.thread.Thread.{Thread}
+use Rattle.source_runner.specs.declared.thread.Slot.TheVariants.{Live}
+use Rattle.source_runner.specs.declared.machine.Machine.{Machine}
+use Rattle.source_runner.specs.Nodes.{Table}
+use Rattle.source_runner.specs.Frames.{frames_of}
+use Rattle.source_runner.specs.Machines.{IsThread, Stands, frame_at, slot_at}
+use Rattle.source_runner.specs.Pieces.{stop_of}
+use Rattle.source_runner.proofs.Halted.{not_over}
+use Rattle.source_runner.proofs.Stopping.{resumes_at, thread_at}
+use Rattle.source_runner.proofs.Taking.{lives}
+
+-- ---- a test of the numbers below n
+
+within : (n i : ℕ) → i < n → i < length (range_with_len 0 n)
+within n i below = subst (λ k. i < k) (sym (length-range_with_len 0 n)) below
+
+in_place : (n i : ℕ) → i < n → get_or (range_with_len 0 n) i 0 ≡ i
+in_place n i below =
+    let same : 0 + i ≡ i = omega arith in get_or-range_with_len 0 n i 0 below ∙ same
+
+-- none passes it so far
+pub none_more : (p : ℕ → Bool) (n i : ℕ) → i < n → list_any p (take i (range_with_len 0 n)) ≡ false → p i ≡ false
+    → list_any p (take (i + 1) (range_with_len 0 n)) ≡ false
+none_more p n i below none e =
+    list_any_more p (range_with_len 0 n) i 0 (within n i below) ∙ ap₂ (λ a b. a || b) none (ap p (in_place n i below) ∙ e)
+
+pub none_at_all : (p : ℕ → Bool) (n i : ℕ) → n ≤ i → list_any p (take i (range_with_len 0 n)) ≡ false
+    → false ≡ list_any p (range_with_len 0 n)
+none_at_all p n i all none =
+    sym (ap (list_any p) (sym (take_all i (range_with_len 0 n) (subst (λ k. k ≤ i) (sym (length-range_with_len 0 n)) all))) ∙ none)
+
+-- one passes it
+pub one_of_all : (p : ℕ → Bool) (n i : ℕ) → i < n → p i ≡ true → true ≡ list_any p (range_with_len 0 n)
+one_of_all p n i below e =
+    sym (list_any_at p (range_with_len 0 n) i 0 (within n i below) (ap p (in_place n i below) ∙ e))
+
+-- ---- threads
+
+-- the move of one at a stop
+pub moves_at : (text : List BareDef) (t : Table) (w : World) (slot : ℕ) (th : Thread) (f : Frame) (stop : Stop) (point : ℕ)
+    (n : Next) (own : SeenThread)
+    → n ≡ Halt f (At stop point) → IsThread text t false th n own
+    → thread_move w slot own own.entering
+    ≡ stop_made (stop_of t stop) w slot own (frame_at t f point) (frames_of t th.below.items)
+moves_at text t w slot th f stop point n own e h =
+    let next = (thread_at text t false th n (Halt f (At stop point)) own e h).does refl in
+    let frame = next.1 in
+    ap (thread_move w slot own) next.0
+    ∙ resumes_at t w slot own f stop point (frames_of t th.below.items) frame.0 frame.1 frame.2
+
+-- the one in a slot leads to a check-in where what it does next does
+pub thread_leads : (m : Machine) (w : World) (slot : ℕ) (th : Thread) (n : Next) (b : Bool)
+    → Stands m w → is_over w ≡ false → slot_at m.slots.items slot ≡ Live th n
+    → ((text : List BareDef) (t : Table) (own : SeenThread) → IsThread text t false th n own
+    → b ≡ (is_some own.entering || frames_lead own.frames))
+    → b ≡ move_leads (in_slot w slot)
+thread_leads m w slot th n b h going e leads =
+    let there = lives m w slot th n h e in
+    leads _ _ there.0 (not_over _ _ _ _ _ _ going there.2) ∙ ap move_leads (sym there.1)

@@ -1,0 +1,246 @@
+-- From what a thread stands at to the move that the definitions make of it.
+use Rattle.std.proofs.Common.{◌≡◌, ℕ, zero, suc, Bool, true, false, List, [], ◌∷◌, Option, Some, None, Result, refl, sym, ap, ap₂, subst, ◌∙◌, if◌then◌else◌, All}
+use Rattle.std.specs.Option.{option_map_or}
+use Rattle.std.specs.declared.alloc.AllocError.{AllocError}
+use Rattle.std.specs.declared.alloc.Global.{Global}
+use Rattle.std.specs.Prelude.{Vec}
+use Rattle.std.proofs.lemmas.List.Elements.{All-append, All-cons, All-nil}
+use Rattle.c_tree.specs.BareExpr.{Bytes}
+use Rattle.c_tree.specs.BareDef.{BareDef}
+use Rattle.c_types.specs.Stops.{Stop as SeenStop}
+use Rattle.c_types.specs.Pieces.{Halt as SeenHalt}
+use Rattle.c_types.specs.Threads.{Frame as SeenFrame, Record, Thread as SeenThread}
+use Rattle.source_model.specs.Versions as versions
+use Rattle.source_model.specs.Versions.{first_table}
+use Rattle.bytecode.specs.declared.trap.TrapKind.{TrapKind}
+use Rattle.source_model.specs.Worlds.{World, Trapped, holder_of, is_over, with_thread}
+use Rattle.source_model.specs.Worlds as world
+use Rattle.source_model.specs.Uses.{use_at, use_of, is_right, recorded, recorded_at, marked}
+use Rattle.source_model.specs.Moves.{behind, in_frames, is_others, must_wait, perform, stop_made, with_use}
+use Rattle.source_runner.specs.declared.words.Word.{Word}
+use Rattle.source_runner.specs.declared.piece.Stop.{Stop}
+use Rattle.source_runner.specs.declared.piece.Stop.TheVariants.{ReadGlobal, WriteGlobal, ReadElement, WriteElement, ReadField, WriteField, New, Free, Print, InitMutex, Lock, Unlock, Spawn, Join, Call, Return, Back, Begin, End, Update}
+use Rattle.source_runner.specs.declared.work.Halt.{Halt}
+use Rattle.source_runner.specs.declared.work.Halt.TheVariants.{At, Trap, Nothing}
+use Rattle.source_runner.specs.declared.thread.Frame.{Frame}
+use Rattle.source_runner.specs.declared.thread.Next.{Next}
+use Rattle.source_runner.specs.declared.thread.Next.TheVariants as next
+use Rattle.source_runner.specs.declared.thread.Thread.{Thread}
+use Rattle.source_runner.specs.declared.machine.Machine.{Machine}
+use Rattle.source_runner.specs.Nodes.{Table, word}
+use Rattle.source_runner.specs.Stores.{is_threads, with_store}
+use Rattle.source_runner.specs.Pieces.{pending, stop_of}
+use Rattle.source_runner.specs.Work.{newest, scopes_of, went}
+use Rattle.source_runner.specs.Programs.{text_of, table_of}
+use Rattle.source_runner.proofs.FirstUse.{first_use}
+use Rattle.source_runner.proofs.Halted.{with_same}
+use Rattle.source_runner.specs.Machines.{Moves, IsAtStop, IsFrame, IsOfFirst, IsThread, IsUser, StandsBut, StandsFor, frame_at, standing_at}
+use Rattle.source_runner.specs.Frames.{frames_of}
+
+-- an answer, by what the definitions make of the move
+pub moves_as : (m : Machine) (w : World) (r : Result Bool AllocError) (o other : Option World) → o ≡ other
+    → Moves m w r other → Moves m w r o
+moves_as m w r o other e h = subst (λ x. Moves m w r x) (sym e) h
+
+-- ---- a stop, its wait and its use
+
+pub waits : (s : SeenStop) (w : World) (slot : ℕ) (th : SeenThread) (f : SeenFrame) (below : List SeenFrame)
+    → must_wait s w slot ≡ true → stop_made s w slot th f below ≡ None
+waits s w slot th f below e =
+    let by : Bool → Option World = λ b. if b then None else with_use s w slot th f below (use_at s) in ap by e
+
+pub need_not_wait : (s : SeenStop) (w : World) (slot : ℕ) (th : SeenThread) (f : SeenFrame) (below : List SeenFrame)
+    → must_wait s w slot ≡ false → stop_made s w slot th f below ≡ with_use s w slot th f below (use_at s)
+need_not_wait s w slot th f below e =
+    let by : Bool → Option World = λ b. if b then None else with_use s w slot th f below (use_at s) in ap by e
+
+-- the thread behind the use of a stop
+abbrev pub user_of : World → SeenThread → Option Bytes → SeenThread
+user_of w th None = th
+user_of w th (Some name) = recorded w.table name th
+
+abbrev pub all_right : World → ℕ → Option Bytes → Bool
+all_right w n u = option_map_or (is_right w.table n) u true
+
+pub wrong_use : (s : SeenStop) (w : World) (slot : ℕ) (th : SeenThread) (f : SeenFrame) (below : List SeenFrame) (u : Option Bytes)
+    → all_right w f.version u ≡ false → with_use s w slot th f below u ≡ Some (marked w)
+wrong_use s w slot th f below None e = absurd (no e)
+  where
+    no : true ≡ false → ⊥
+    no e = cc
+wrong_use s w slot th f below (Some name) e =
+    let user = recorded w.table name th in
+    let made = perform s (record { world = w; slot = slot; thread = user; frame = f; below = below }) f.values in
+    let by : Bool → Option World = λ b. if b then made else Some (marked w) in ap by e
+
+pub right_use : (s : SeenStop) (w : World) (slot : ℕ) (th : SeenThread) (f : SeenFrame) (below : List SeenFrame) (u : Option Bytes)
+    → all_right w f.version u ≡ true
+    → with_use s w slot th f below u
+    ≡ perform s (record { world = w; slot = slot; thread = user_of w th u; frame = f; below = below }) f.values
+right_use s w slot th f below None e = refl
+right_use s w slot th f below (Some name) e =
+    let user = recorded w.table name th in
+    let made = perform s (record { world = w; slot = slot; thread = user; frame = f; below = below }) f.values in
+    let by : Bool → Option World = λ b. if b then made else Some (marked w) in ap by e
+
+-- the lock of a mutex whose holder was found
+pub lock_waits : (m : Machine) (w : World) (slot : ℕ) (stop : Stop) (t : Table) (name : Word) (holder : Option ℕ) → StandsFor m w
+    → stop ≡ Lock name → t ≡ table_of m.program → holder ≡ holder_of (with_store t m.store w) (word t name)
+    → is_others slot holder ≡ must_wait (stop_of (table_of m.program) stop) w slot
+lock_waits m w slot stop t name holder h is same found =
+    let waits_for : Option ℕ → Bool = λ o. is_others slot o in
+    let at : Table → Option ℕ = λ u. holder_of (with_store u m.store w) (word u name) in
+    let in_world : World → Option ℕ = λ v. holder_of v (word (table_of m.program) name) in
+    let at_stop : Stop → Bool = λ s. must_wait (stop_of (table_of m.program) s) w slot in
+    ap waits_for (found ∙ ap at same ∙ ap in_world (sym h.store)) ∙ ap at_stop (sym is)
+
+-- a thread that is put where it was, by the stop at which it stands
+pub thread_at : (text : List BareDef) (t : Table) (over : Bool) (th : Thread) (n other : Next) (own : SeenThread) → n ≡ other
+    → IsThread text t over th n own → IsThread text t over th other own
+thread_at text t over th n other own e h = subst (λ x. IsThread text t over th x own) e h
+
+-- a use of the first table that is right is recorded by the first entry of a name that is defined
+recorded_uses : (text : List BareDef) (n depth : ℕ) (uses : Record) (name : Bytes) → is_right (first_table text) n name ≡ true
+    → All (IsOfFirst text) uses → All (IsOfFirst text) (recorded_at depth uses (use_of (first_table text) name))
+recorded_uses text n zero uses name right h = h
+recorded_uses text n (suc depth) uses name right h = All-append (IsOfFirst text) uses (use_of (first_table text) name ∷ []) h
+    (All-cons (IsOfFirst text) (use_of (first_table text) name) [] (first_use text n name right) (All-nil (IsOfFirst text)))
+
+-- the thread behind a use that is right
+pub user_stands : (text : List BareDef) (t : Table) (w : World) (th : Thread) (n : Next) (own : SeenThread) (version : ℕ) (u : Option Bytes)
+    → w.table ≡ first_table text → own.entering ≡ None → IsThread text t false th n own → all_right w version u ≡ true
+    → IsUser text th (user_of w own u)
+user_stands text t w th n own version None table none h right =
+    record { serial = h.serial; depth = h.depth; uses = h.uses; entering = none }
+user_stands text t w th n own version (Some name) table none h right = record {
+  serial = h.serial;
+  depth = h.depth;
+  uses =
+      let of : versions.Table → Type 0 = λ tb. All (IsOfFirst text) (recorded_at own.depth own.uses (use_of tb name)) in
+      subst of (sym table)
+      (recorded_uses text version own.depth own.uses name (ap (λ tb. is_right tb version name) (sym table) ∙ right) h.uses);
+  entering = none;
+}
+
+-- a thread at a stop that needn't wait and whose use is right
+pub at_stop : (m : Machine) (slot : ℕ) (th : Thread) (f : Frame) (stop other : Stop) (point : ℕ) (w : World) (before : SeenThread)
+    → stop ≡ other → StandsBut m slot w before → is_over w ≡ false
+    → IsThread (text_of m.program) (table_of m.program) false th (next.Halt f (At stop point)) before
+    → all_right w f.version (use_at (stop_of (table_of m.program) stop)) ≡ true
+    → IsAtStop m slot th f other point w before (user_of w before (use_at (stop_of (table_of m.program) stop)))
+at_stop m slot th f stop other point w before e but going same right = record {
+  but = but;
+  going = going;
+  same = thread_at _ _ _ _ _ _ _ (ap (λ s. next.Halt f (At s point)) e) same;
+  used = user_stands _ _ w _ _ _ f.version _ but.all.table (same.does refl).0 same right;
+}
+
+-- the stop as the definitions make it
+pub stop_as : (m : Machine) (slot : ℕ) (th : Thread) (f : Frame) (stop other : Stop) (point : ℕ) (w : World) (before : SeenThread)
+    → stop ≡ other
+    → must_wait (stop_of (table_of m.program) stop) w slot ≡ false
+    → all_right w f.version (use_at (stop_of (table_of m.program) stop)) ≡ true
+    → stop_made (stop_of (table_of m.program) stop) w slot before (frame_at (table_of m.program) f point) (frames_of (table_of m.program) th.below.items)
+    ≡ perform (stop_of (table_of m.program) other)
+    (standing_at (table_of m.program) w slot th f point (user_of w before (use_at (stop_of (table_of m.program) stop))))
+    (newest f.work.values.items)
+stop_as m slot th f stop other point w before e waits_not right =
+    let t = table_of m.program in
+    let user = user_of w before (use_at (stop_of t stop)) in
+    let made : Stop → Option World = λ s. perform (stop_of t s) (standing_at t w slot th f point user) (newest f.work.values.items) in
+    need_not_wait (stop_of t stop) w slot before (frame_at t f point) (frames_of t th.below.items) waits_not
+    ∙ right_use (stop_of t stop) w slot before (frame_at t f point) (frames_of t th.below.items) (use_at (stop_of t stop)) right
+    ∙ ap made e
+
+-- ---- behind the private work
+
+pub resumes : (t : Table) (w : World) (slot : ℕ) (th : SeenThread) (f : Frame) (halt : Halt) (below : List SeenFrame) (own : SeenFrame)
+    → th.frames ≡ own ∷ below → IsFrame t f halt own
+    → in_frames w slot th th.frames
+    ≡ behind w slot th own below (went t (Some halt) (pending t f.work.pieces.items) (newest f.work.values.items) (scopes_of t f.work.scopes.items))
+resumes t w slot th f halt below own e is =
+    let frames : List SeenFrame → Option World = λ fs. in_frames w slot th fs in
+    let ends : SeenHalt → Option World = λ h. behind w slot th own below h in
+    ap frames e ∙ ap ends is.next
+
+-- at a stop the frame is the one that is kept, at the stop's point
+pub resumes_at : (t : Table) (w : World) (slot : ℕ) (th : SeenThread) (f : Frame) (stop : Stop) (point : ℕ) (below : List SeenFrame) (own : SeenFrame)
+    → th.frames ≡ own ∷ below → IsFrame t f (At stop point) own
+    → in_frames w slot th th.frames ≡ stop_made (stop_of t stop) w slot th (frame_at t f point) below
+resumes_at t w slot th f stop point below own e is =
+    let made : Bytes → ℕ → Option World =
+    λ name version. stop_made (stop_of t stop) w slot th (record (frame_at t f point) { function = name; version = version }) below
+    in
+    resumes t w slot th f (At stop point) below own e is ∙ ap₂ made is.function is.version
+
+-- what the first table says of a use, said of the world's table
+pub right_of_first : (text : List BareDef) (w : World) (n : ℕ) (u : Option Bytes) (b : Bool) → w.table ≡ first_table text
+    → option_map_or (is_right (first_table text) n) u true ≡ b → all_right w n u ≡ b
+right_of_first text w n u b e h =
+    let of : versions.Table → Bool = λ tb. option_map_or (is_right tb n) u true in ap of e ∙ h
+
+-- a stop that is none of those that change threads
+pub not_of_threads : (t : Table) (stop : Stop) → ((name : Word) → stop ≡ Spawn name → ⊥) → (stop ≡ Join → ⊥)
+    → ((name : Word) (n : ℕ) → stop ≡ Call name n → ⊥) → (stop ≡ Return → ⊥) → (stop ≡ Begin → ⊥) → (stop ≡ End → ⊥)
+    → is_threads (stop_of t stop) ≡ false
+not_of_threads t (Spawn name) a b c d e f = absurd (a name refl)
+not_of_threads t Join a b c d e f = absurd (b refl)
+not_of_threads t (Call name n) a b c d e f = absurd (c name n refl)
+not_of_threads t Return a b c d e f = absurd (d refl)
+not_of_threads t Begin a b c d e f = absurd (e refl)
+not_of_threads t End a b c d e f = absurd (f refl)
+not_of_threads t (ReadGlobal name) a b c d e f = refl
+not_of_threads t (WriteGlobal name) a b c d e f = refl
+not_of_threads t (ReadElement name) a b c d e f = refl
+not_of_threads t (WriteElement name) a b c d e f = refl
+not_of_threads t (ReadField tag name) a b c d e f = refl
+not_of_threads t (WriteField tag name) a b c d e f = refl
+not_of_threads t (New tag) a b c d e f = refl
+not_of_threads t (Free tag) a b c d e f = refl
+not_of_threads t (Print format n) a b c d e f = refl
+not_of_threads t (InitMutex name) a b c d e f = refl
+not_of_threads t (Lock name) a b c d e f = refl
+not_of_threads t (Unlock name) a b c d e f = refl
+not_of_threads t Back a b c d e f = refl
+not_of_threads t Update a b c d e f = refl
+
+-- a thread stays as it was
+pub stays_at : (t : Table) (w : World) (slot : ℕ) (th : SeenThread) (f : Frame) (halt : Halt) (below : List SeenFrame) (own : SeenFrame)
+    → th.frames ≡ own ∷ below → IsFrame t f halt own → halt ≡ Nothing → in_frames w slot th th.frames ≡ None
+stays_at t w slot th f halt below own e is nothing =
+    let ends : Halt → Option World = λ h. behind w slot th own below
+    (went t (Some h) (pending t f.work.pieces.items) (newest f.work.values.items) (scopes_of t f.work.scopes.items)) in
+    resumes t w slot th f halt below own e is ∙ ap ends nothing
+
+pub traps_at : (t : Table) (w : World) (slot : ℕ) (th : SeenThread) (f : Frame) (halt : Halt) (below : List SeenFrame) (own : SeenFrame)
+    (kind : TrapKind)
+    → th.frames ≡ own ∷ below → IsFrame t f halt own → halt ≡ Trap kind
+    → in_frames w slot th th.frames ≡ Some (record w { finish = Some (Trapped kind slot) })
+traps_at t w slot th f halt below own kind e is trap =
+    let ends : Halt → Option World = λ h. behind w slot th own below
+    (went t (Some h) (pending t f.work.pieces.items) (newest f.work.values.items) (scopes_of t f.work.scopes.items)) in
+    resumes t w slot th f halt below own e is ∙ ap ends trap
+
+-- the world of a thread that is put back where it was, and then ends the run
+pub ended_same : (m : Machine) (slot : ℕ) (w : World) (before : SeenThread) (f : world.Finish) → StandsBut m slot w before
+    → Some (record w { finish = Some f }) ≡ Some (record (with_thread slot before w) { finish = Some f })
+ended_same m slot w before f h =
+    let on : World → Option World = λ v. Some (record v { finish = Some f }) in ap on (sym (with_same m slot w before h))
+
+pub frame_with : (t : Table) (f : Frame) (halt other : Halt) (own : SeenFrame) → halt ≡ other → IsFrame t f halt own → IsFrame t f other own
+frame_with t f halt other own e h = subst (λ x. IsFrame t f x own) e h
+
+pub user_before : (text : List BareDef) (t : Table) (th : Thread) (f : Frame) (halt : Halt) (own : SeenThread)
+    → IsThread text t false th (next.Halt f halt) own → IsUser text th own
+user_before text t th f halt own h = record { serial = h.serial; depth = h.depth; uses = h.uses; entering = (h.does refl).0 }
+
+pub user_with : (text : List BareDef) (th : Thread) (below : Vec Frame Global) (own : SeenThread) → IsUser text th own
+    → IsUser text (record th { below = below }) own
+user_with text th below own h = record { serial = h.serial; depth = h.depth; uses = h.uses; entering = h.entering }
+
+-- the same of the use of an enter
+pub entering_uses : (text : List BareDef) (w : World) (own : SeenThread) (version : ℕ) (name : Bytes) → w.table ≡ first_table text
+    → is_right (first_table text) version name ≡ true → All (IsOfFirst text) own.uses → All (IsOfFirst text) (recorded w.table name own).uses
+entering_uses text w own version name table right h =
+    let of : versions.Table → Type 0 = λ tb. All (IsOfFirst text) (recorded_at own.depth own.uses (use_of tb name)) in
+    subst of (sym table) (recorded_uses text version own.depth own.uses name right h)

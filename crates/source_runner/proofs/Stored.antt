@@ -1,0 +1,132 @@
+-- A stop on what threads share, made by a machine.
+use Rattle.std.proofs.Common.{◌≡◌, ℕ, Bool, true, false, List, Option, Some, Result, Ok, Err, refl, sym, ap, subst, ◌∙◌}
+use Rattle.std.specs.Prelude.{Vec}
+use Rattle.std.specs.declared.alloc.AllocError.{AllocError}
+use Rattle.std.specs.declared.alloc.Global.{Global}
+use Rattle.c_tree.specs.BareDef.{BareDef}
+use Rattle.c_types.specs.Threads.{Frame as SeenFrame, Thread as SeenThread, next_of}
+use Rattle.source_model.specs.Worlds.{World}
+use Rattle.source_model.specs.Moves.{gone_on, perform}
+use Rattle.source_runner.specs.declared.value.Value.{Value}
+use Rattle.source_runner.specs.declared.piece.Stop.{Stop}
+use Rattle.source_runner.specs.declared.store.Store.{Store}
+use Rattle.source_runner.specs.declared.perform.Did.{Did}
+use Rattle.source_runner.specs.declared.perform.Did.TheVariants.{Nothing}
+use Rattle.source_runner.specs.declared.work.Halt.{Halt}
+use Rattle.source_runner.specs.declared.thread.Frame.{Frame}
+use Rattle.source_runner.specs.declared.thread.Next.{Next}
+use Rattle.source_runner.specs.declared.thread.Next.TheVariants as next
+use Rattle.source_runner.specs.declared.thread.Thread.{Thread}
+use Rattle.source_runner.specs.declared.program.Program.{Program}
+use Rattle.source_runner.specs.declared.machine.Machine.{Machine}
+use Rattle.source_runner.specs.Nodes.{Table}
+use Rattle.source_runner.specs.Pieces.{pending, stop_of}
+use Rattle.source_runner.specs.Work.{newest, scopes_of, went}
+use Rattle.source_runner.specs.Programs.{text_of, table_of}
+use Rattle.source_runner.specs.Stores.{Kept, Performs, came_to, standing_with, with_store}
+use Rattle.source_runner.specs.Machines.{IsFrame, IsReady, IsThread, IsUser, Moves, StandsBut, standing_at}
+use Rattle.source_runner.proofs.FirstUse.{now_first}
+use Rattle.source_runner.proofs.Halted.{true_is_not_false}
+
+-- another store
+pub stored : (m : Machine) (store : Store) (slot : ℕ) (w : World) (before : SeenThread) → StandsBut m slot w before
+    → StandsBut (record m { store = store }) slot (with_store (table_of m.program) store w) before
+stored m store slot w before h = record {
+  all = record {
+    program = h.all.program;
+    table = h.all.table;
+    store = refl;
+    threads = h.all.threads;
+    misused = h.all.misused;
+    closed = h.all.closed;
+    finish = h.all.finish;
+    count = h.all.count;
+  };
+  within = h.within;
+  others = h.others;
+  taken = h.taken;
+  own = h.own;
+}
+
+-- what the definitions make of the stop
+pub performed : (m : Machine) (slot : ℕ) (th : Thread) (f : Frame) (stop : Stop) (point : ℕ) (w : World) (before user : SeenThread)
+    (did : Did) (new : Store) (after : List Value) → StandsBut m slot w before
+    → Performs (table_of m.program) (text_of m.program) slot (stop_of (table_of m.program) stop) m.store f.work.values.items did new after
+    → perform (stop_of (table_of m.program) stop) (standing_at (table_of m.program) w slot th f point user) (newest f.work.values.items)
+    ≡ came_to did (standing_with (table_of m.program) new (standing_at (table_of m.program) w slot th f point user)) (newest after)
+performed m slot th f stop point w before user did new after h performs =
+    let t = table_of m.program in
+    let at : World → Option World = λ v. perform (stop_of t stop) (standing_at t v slot th f point user) (newest f.work.values.items) in
+    ap at h.all.store ∙ performs (standing_at t w slot th f point user) refl (now_first (text_of m.program) w h.all.table)
+
+-- by what the stop came to
+pub performed_as : (m : Machine) (slot : ℕ) (th : Thread) (f : Frame) (stop : Stop) (point : ℕ) (w : World) (before user : SeenThread)
+    (did other : Did) (new : Store) (after : List Value) → StandsBut m slot w before
+    → Performs (table_of m.program) (text_of m.program) slot (stop_of (table_of m.program) stop) m.store f.work.values.items did new after
+    → did ≡ other
+    → perform (stop_of (table_of m.program) stop) (standing_at (table_of m.program) w slot th f point user) (newest f.work.values.items)
+    ≡ came_to other (standing_with (table_of m.program) new (standing_at (table_of m.program) w slot th f point user)) (newest after)
+performed_as m slot th f stop point w before user did other new after h performs is =
+    let t = table_of m.program in
+    let by : Did → Option World = λ d. came_to d (standing_with t new (standing_at t w slot th f point user)) (newest after) in
+    performed m slot th f stop point w before user did new after h performs ∙ ap by is
+
+-- the frame with other values, at the stop's point
+abbrev pub frame_then : Frame → ℕ → Vec Value Global → Frame
+frame_then f point values = record f { standing = point; work = record f.work { values = values } }
+
+-- the thread behind it
+pub went_on : (text : List BareDef) (t : Table) (th : Thread) (f : Frame) (values : Vec Value Global) (point : ℕ) (w : World) (slot : ℕ) (user : SeenThread)
+    → IsUser text th user
+    → IsReady text t th (frame_then f point values) (gone_on (standing_at t w slot th f point user) (newest values.items))
+went_on text t th f values point w slot user h = record {
+  serial = h.serial;
+  depth = h.depth;
+  uses = h.uses;
+  entering = h.entering;
+  frames = refl;
+}
+
+-- the thread where the run ends
+pub trapped : (text : List BareDef) (t : Table) (th : Thread) (n : Next) (frames : List SeenFrame) (over : Bool) (user : SeenThread) → over ≡ true
+    → IsUser text th user → IsThread text t over th n (record user { frames = frames })
+trapped text t th n frames over user e h =
+    record { serial = h.serial; depth = h.depth; uses = h.uses; does = λ going. absurd (true_is_not_false (sym e ∙ going)) }
+
+-- a move that was made, from whatever world
+pub moves_from : (m : Machine) (w v after : World) (r : Result Bool AllocError) → Moves m w r (Some after) → Moves m v r (Some after)
+moves_from m w v after (Ok true) h = record { came = h.came }
+moves_from m w v after (Ok false) h = record { came = h.came }
+moves_from m w v after (Err e) h = record { came = h.came }
+
+-- the store and the values are those that were there
+pub same_store : (m : Machine) (store : Store) (slot : ℕ) (w : World) (before : SeenThread) → store ≡ m.store → StandsBut m slot w before
+    → StandsBut (record m { store = store }) slot w before
+same_store m store slot w before e h = subst (λ x. StandsBut (record m { store = x }) slot w before) (sym e) h
+
+pub same_values : (text : List BareDef) (t : Table) (over : Bool) (th : Thread) (f : Frame) (halt : Halt) (values : Vec Value Global) (own : SeenThread)
+    → values.items ≡ f.work.values.items → IsThread text t over th (next.Halt f halt) own
+    → IsThread text t over th (next.Halt (record f { work = record f.work { values = values } }) halt) own
+same_values text t over th f halt values own e h = record {
+  serial = h.serial;
+  depth = h.depth;
+  uses = h.uses;
+  does = λ going. let is = h.does going in (is.0, (is.1.0, is.1.1, with_values is.1.0 is.1.2));
+}
+  where
+    with_values : (x : SeenFrame) → IsFrame t f halt x → IsFrame t (record f { work = record f.work { values = values } }) halt x
+    with_values x i = record {
+      function = i.function;
+      version = i.version;
+      standing = i.standing;
+      next = subst (λ vs. next_of x ≡ went t (Some halt) (pending t f.work.pieces.items) (newest vs) (scopes_of t f.work.scopes.items)) (sym e) i.next;
+    }
+
+pub kept_as : (did : Did) (old new : Store) (values after : List Value) → did ≡ Nothing → Kept did old values new after
+    → Kept Nothing old values new after
+kept_as did old new values after e h = subst (λ d. Kept d old values new after) e h
+
+-- the same in a machine whose program is the same
+pub ready_in : (p q : Program) (th : Thread) (f : Frame) (own : SeenThread) → p ≡ q → IsReady (text_of p) (table_of p) th f own
+    → IsReady (text_of q) (table_of q) th f own
+ready_in p q th f own e h = subst (λ x. IsReady (text_of x) (table_of x) th f own) e h

@@ -1,0 +1,18 @@
+use Rattle.std.proofs.Common.{map, sym, ap, ◌∙◌}
+use Rattle.source_runner.specs.Nodes.{word}
+use Rattle.source_runner.specs.Values.{seen}
+use Rattle.source_runner.specs.Stores.{with_store, globals_of}
+use Rattle.source_runner.specs.Trees.{table}
+use Rattle.source_runner.specs.Work.{newest}
+use Rattle.source_runner.proofs.Globals.{reads_global}
+use Rattle.source_runner.proofs.Newest.{last_first}
+use Rattle.source_runner.proofs.cells.read_global.Goals as goal
+
+pub returns-clause-made : goal.returns-clause-made
+returns-clause-made c = λ text slot.
+    let t = table c.args.trees.now in
+    reads_global t text slot c.args.store.now (word t c.args.name) c.args.values.now.items c.push.new.self.items
+    (seen c.first_of.result) (map seen c.cells_of.result.now)
+    (λ w. sym (c.cells_of.ensures (with_store t c.args.store.now w) (ap (globals_of t) (sym c.as_slice.ensures.value))))
+    c.first_of.ensures
+    (ap newest c.in_ok-push.ensures.items ∙ last_first seen c.args.values.now.items c.first_of.result)

@@ -1,0 +1,62 @@
+use Rattle.std.proofs.Common.{◌≡◌, map, get_or, set, slice_set, unsigned_abs, refl, sym, ap, ◌∙◌, arith}
+use Rattle.std.proofs.lemmas.List.{length-map, map-set}
+use Rattle.c_ints.specs.Number.{value_of}
+use Rattle.source_model.specs.Worlds.{with_cells_in, cells_of as cells_in}
+use Rattle.source_model.specs.Moves.{in_bounds}
+use Rattle.source_runner.specs.Nodes.{word}
+use Rattle.source_runner.specs.Values.{seen}
+use Rattle.source_runner.specs.Trees.{table}
+use Rattle.source_runner.proofs.Globals.{changed_at, cells_at, cells_nowhere, none_within, is_within, is_outside}
+use Rattle.source_runner.proofs.cells.set_element.Goals as goal
+
+pub returns-in_default-clause-inside : goal.returns-in_default-clause-inside
+returns-in_default-clause-inside c = λ w is.
+    let t = table c.args.trees.now in
+    sym (ap (in_bounds (value_of c.args.index)) (cells_nowhere t c.args.globals.now (word t c.args.name) w (sym c.place_of.ensures ∙ c.in_default.is) is)
+    ∙ none_within (value_of c.args.index))
+
+pub returns-in_default-within-clause-inside : goal.returns-in_default-within-clause-inside
+returns-in_default-within-clause-inside c = λ w is.
+    let t = table c.args.trees.now in
+    let global = get_or c.args.globals.now c.in-Some.place c.index-globals-place.result in
+    let cells = map seen global.cells.items in
+    let same : cells_in w (word t c.args.name) ≡ cells =
+    cells_at t c.args.globals.now (word t c.args.name) c.in-Some.place c.index-globals-place.result w (sym c.place_of.ensures ∙ c.in-Some.is) is
+    in
+    let long = length-map global.cells.items seen in
+    sym (ap (in_bounds (value_of c.args.index)) same
+    ∙ is_outside (value_of c.args.index) cells
+    (sym (c.within.ensures.place cells (omega (arith, c.len.ensures, global.cells.ok.0))) ∙ c.in_default-within.is))
+
+pub returns-clause-inside : goal.returns-clause-inside
+returns-clause-inside c = λ w is.
+    let t = table c.args.trees.now in
+    let global = get_or c.args.globals.now c.in-Some.place c.index-globals-place.result in
+    let cells = map seen global.cells.items in
+    let same : cells_in w (word t c.args.name) ≡ cells =
+    cells_at t c.args.globals.now (word t c.args.name) c.in-Some.place c.index-globals-place.result w (sym c.place_of.ensures ∙ c.in-Some.is) is
+    in
+    let long = length-map global.cells.items seen in
+    sym (ap (in_bounds (value_of c.args.index)) same
+    ∙ (is_within (value_of c.args.index) cells c.in-Some-within.cell
+    (sym (c.within.ensures.place cells (omega (arith, c.len.ensures, global.cells.ok.0))) ∙ c.in-Some-within.is)).0)
+
+pub returns-clause-changed : goal.returns-clause-changed
+returns-clause-changed c = λ true w is.
+    let t = table c.args.trees.now in
+    let globals = c.args.globals.now in
+    let d = c.index-globals-place.result in
+    let name = word t c.args.name in
+    let items = (get_or globals c.in-Some.place d).cells.items in
+    let cells = map seen items in
+    let found = sym c.place_of.ensures ∙ c.in-Some.is in
+    let same : cells_in w name ≡ cells = cells_at t globals name c.in-Some.place d w found is in
+    let long = length-map items seen in
+    let at = (is_within (value_of c.args.index) cells c.in-Some-within.cell
+    (sym (c.within.ensures.place cells (omega (arith, c.len.ensures, (get_or globals c.in-Some.place d).cells.ok.0))) ∙ c.in-Some-within.is)).1
+    in
+    changed_at t globals name c.in-Some.place d _ (slice_set (cells_in w name) (unsigned_abs (value_of c.args.index)) (seen c.args.value)) found refl
+    (map-set seen items c.in-Some-within.cell c.args.value
+    ∙ ap (λ l. set l c.in-Some-within.cell (seen c.args.value)) (sym same)
+    ∙ ap (λ n. set (cells_in w name) n (seen c.args.value)) (sym at))
+    ∙ ap (with_cells_in name (slice_set (cells_in w name) (unsigned_abs (value_of c.args.index)) (seen c.args.value))) (sym is)

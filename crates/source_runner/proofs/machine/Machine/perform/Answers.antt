@@ -1,0 +1,51 @@
+use Rattle.std.proofs.Common.{refl}
+use Rattle.source_model.specs.Moves.{gone_on}
+use Rattle.source_runner.specs.declared.perform.Did.TheVariants.{On, Trap, Nothing}
+use Rattle.source_runner.specs.Programs.{table_of, text_of}
+use Rattle.source_runner.specs.Stores.{with_store}
+use Rattle.source_runner.specs.Machines.{standing_at}
+use Rattle.source_runner.specs.Work.{newest}
+use Rattle.source_runner.proofs.Halted.{at_over}
+use Rattle.source_runner.proofs.Stopping.{moves_as}
+use Rattle.source_runner.proofs.Stored.{kept_as, moves_from, performed_as, same_store, same_values, stored, trapped, went_on}
+use Rattle.source_runner.proofs.machine.Machine.perform.Goals as goal
+
+pub returns-in-On : goal.returns-in-On
+returns-in-On c = λ w before user at not_threads.
+    let m = c.args.self.now in
+    let t = table_of m.program in
+    let new = c.perform.new.store in
+    let values = c.perform.new.values in
+    let s = standing_at t w c.args.slot c.args.thread c.args.frame c.args.point user in
+    moves_as _ w _ _ _
+    (performed_as m c.args.slot c.args.thread c.args.frame c.args.stop c.args.point w before user c.in_ok-perform.field-0 On new values.items at.but
+    (c.in_ok-perform.ensures.made at.but.all.program not_threads) c.in-On.is)
+    (moves_from _ _ w _ _
+    (c.go_on.ensures (with_store t new w) before (gone_on s (newest values.items)) (stored m new c.args.slot w before at.but)
+    (went_on (text_of m.program) t c.args.thread c.args.frame values c.args.point w c.args.slot user at.used)))
+
+pub returns-in-Trap : goal.returns-in-Trap
+returns-in-Trap c = λ w before user at not_threads.
+    let m = c.args.self.now in
+    let t = table_of m.program in
+    let new = c.perform.new.store in
+    let s = standing_at t w c.args.slot c.args.thread c.args.frame c.args.point user in
+    moves_as _ w _ _ _
+    (performed_as m c.args.slot c.args.thread c.args.frame c.args.stop c.args.point w before user c.in_ok-perform.field-0 (Trap c.in-Trap.kind) new
+    c.perform.new.values.items at.but (c.in_ok-perform.ensures.made at.but.all.program not_threads) c.in-Trap.is)
+    (moves_from _ _ w _ _
+    (c.trap.ensures (with_store t new w) before (gone_on s s.frame.values) (stored m new c.args.slot w before at.but)
+    (trapped (text_of m.program) t c.args.thread _ _ _ user refl at.used)))
+
+pub returns-in-Nothing : goal.returns-in-Nothing
+returns-in-Nothing c = λ w before user at not_threads.
+    let m = c.args.self.now in
+    let t = table_of m.program in
+    let new = c.perform.new.store in
+    let values = c.perform.new.values in
+    let kept = kept_as c.in_ok-perform.field-0 m.store new c.args.frame.work.values.items values.items c.in-Nothing.is c.in_ok-perform.ensures.kept in
+    moves_as _ w _ _ _
+    (performed_as m c.args.slot c.args.thread c.args.frame c.args.stop c.args.point w before user c.in_ok-perform.field-0 Nothing new values.items at.but
+    (c.in_ok-perform.ensures.made at.but.all.program not_threads) c.in-Nothing.is)
+    (c.stay.ensures w before (same_store m new c.args.slot w before kept.0 at.but)
+    (at_over _ _ _ _ _ _ at.going (same_values (text_of m.program) t _ c.args.thread c.args.frame _ values before kept.1 at.same)))

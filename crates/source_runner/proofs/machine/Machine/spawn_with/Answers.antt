@@ -1,0 +1,26 @@
+use Rattle.std.proofs.Common.{sym}
+use Rattle.source_model.specs.Moves.{gone_on}
+use Rattle.source_runner.specs.declared.value.Value.TheVariants.{Started}
+use Rattle.source_runner.specs.Programs.{table_of, text_of}
+use Rattle.source_runner.specs.Work.{newest}
+use Rattle.source_runner.specs.Machines.{enter_with, standing_at}
+use Rattle.source_runner.proofs.Spawns.{pushed_on, spawned}
+use Rattle.source_runner.proofs.Stopping.{moves_as}
+use Rattle.source_runner.proofs.Stored.{moves_from, ready_in, went_on}
+use Rattle.source_runner.proofs.machine.Machine.spawn_with.Goals as goal
+
+pub returns : goal.returns
+returns c = λ w before user at.
+    let m = c.args.self.now in
+    let t = table_of m.program in
+    let enter = enter_with t c.args.name c.args.argument c.args.frame.version in
+    let values = c.push.new.values in
+    let is = c.in_ok-started.ensures.started w before at.but in
+    let s = standing_at t w c.args.slot c.args.thread c.args.frame c.args.point user in
+    moves_as _ w _ _ _
+    (spawned m c.start.new.self c.args.slot c.args.thread c.args.frame values c.args.point w before user enter c.in_ok-started.started is
+    (pushed_on c.args.frame.work.values.items c.discard.new.values.items values.items (Started c.in_ok-started.started) c.discard.ensures c.in_ok-push.ensures))
+    (moves_from _ _ w _ _
+    (c.go_on.ensures _ before (gone_on s (newest values.items)) is.stands
+    (ready_in m.program c.start.new.self.program c.args.thread _ _ (sym c.in_ok-started.ensures.kept)
+    (went_on (text_of m.program) t c.args.thread c.args.frame values c.args.point w c.args.slot user at.used))))

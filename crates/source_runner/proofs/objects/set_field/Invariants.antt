@@ -1,0 +1,17 @@
+use Rattle.std.proofs.Common.{◌≡◌, ◌++◌, take, drop}
+use Rattle.c_types.specs.Evaluation.{with_value}
+use Rattle.source_runner.specs.Nodes.{word}
+use Rattle.source_runner.specs.Stores.{fields_of}
+use Rattle.source_runner.specs.Trees.{table}
+use Rattle.source_runner.specs.Values.{seen}
+use Rattle.source_runner.proofs.objects.set_field.Given as goal
+
+abbrev pub invariant-loop-place : goal.invariant-loop-place
+invariant-loop-place l =
+    let t = table l.trees in
+    let changed = with_value (word t l.name) (seen l.value) in
+    record {
+      same : l.fields ≡ l.initial.fields;
+      rest : changed (fields_of t l.fields)
+          ≡ fields_of t (take l.place l.fields) ++ changed (fields_of t (drop l.place l.fields));
+    }

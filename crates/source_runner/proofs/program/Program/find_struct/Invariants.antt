@@ -1,0 +1,11 @@
+use Rattle.std.proofs.Common.{◌≡◌, drop}
+use Rattle.c_types.specs.Names.{struct_name}
+use Rattle.source_runner.specs.Nodes.{word}
+use Rattle.source_runner.specs.Definitions.{kept}
+use Rattle.source_runner.specs.Programs.{table_of}
+use Rattle.source_runner.proofs.program.Program.find_struct.Given as goal
+
+abbrev pub invariant-loop-definition : goal.invariant-loop-definition
+invariant-loop-definition l =
+    kept (table_of l.self) l.definition-items (struct_name (word (table_of l.self) l.fn.tag))
+    ≡ kept (table_of l.self) (drop l.definition-index l.definition-items) (struct_name (word (table_of l.self) l.fn.tag))

@@ -1,0 +1,19 @@
+use Rattle.std.proofs.Common.{ℕ, ◌+◌, List, ◌∷◌, ap, ◌∙◌}
+use Rattle.c_types.specs.Values.{Value}
+use Rattle.c_types.specs.Pieces.{Piece, Sequence, Put, At}
+use Rattle.c_types.specs.Stops.{Return}
+use Rattle.c_types.specs.Points.{size_stmts}
+use Rattle.source_runner.specs.Nodes.{statements_at}
+use Rattle.source_runner.specs.Pieces.{pending}
+use Rattle.source_runner.specs.Programs.{table_of}
+use Rattle.source_runner.proofs.Entering.{ok_as}
+use Rattle.source_runner.proofs.program.Program.put_body.Goals as goal
+
+pub returns : goal.returns
+returns c =
+    let t = table_of c.args.self.now in
+    let body = statements_at t c.args.body in
+    let made : Value → ℕ → List Piece = λ v n. Sequence body 1 ∷ Put v ∷ At Return n ∷ pending t c.args.pieces.now.items in
+    ok_as c.put.result c.put.ensures
+    (λ h. h t ∙ ap (made _) (c.in_ok-sum.ensures ∙ ap (λ n. 1 + n) c.statements_points-points.ensures)
+    ∙ ap (λ v. made v (1 + size_stmts body)) (c.zero_of.ensures t))

@@ -1,0 +1,13 @@
+use Rattle.c_tree.specs.Bare.{bare_binding}
+use Rattle.source_runner.specs.Definitions.{binding_of}
+use Rattle.source_runner.proofs.Kept.{grows_trans, mapped_once}
+use Rattle.source_runner.proofs.program.bindings.Goals as goal
+
+pub loop-one-preserved : goal.loop-one-preserved
+loop-one-preserved c = record {
+  grows = grows_trans _ _ _ c.loop-one.invariant.grows c.declared_binding.ensures.grows;
+  made = λ u g.
+      mapped_once (binding_of u) bare_binding c.loop-one.bindings.items c.push.new.self.items c.in_ok-binding.binding c.args.declared.now c.loop-one.one-index c.one-item.result
+      c.in_ok-push.ensures.items c.loop-one-test.true c.one-item.is (c.loop-one.invariant.made u (grows_trans _ _ u c.declared_binding.ensures.grows g))
+      (c.in_ok-binding.ensures.binding u g);
+}

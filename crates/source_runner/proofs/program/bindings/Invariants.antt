@@ -1,0 +1,13 @@
+use Rattle.std.proofs.Common.{◌≡◌, map, take}
+use Rattle.c_tree.specs.Bare.{bare_binding}
+use Rattle.source_runner.specs.Nodes.{Table}
+use Rattle.source_runner.specs.Found.{Grows}
+use Rattle.source_runner.specs.Trees.{table}
+use Rattle.source_runner.specs.Definitions.{bindings_of}
+use Rattle.source_runner.proofs.program.bindings.Given as goal
+
+abbrev pub invariant-loop-one : goal.invariant-loop-one
+invariant-loop-one l = record {
+  grows : Grows (table l.fn.trees) (table l.trees);
+  made : (u : Table) → Grows (table l.trees) u → bindings_of u l.bindings.items ≡ map bare_binding (take l.one-index l.declared);
+}

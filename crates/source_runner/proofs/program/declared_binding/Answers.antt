@@ -1,0 +1,15 @@
+use Rattle.std.proofs.Common.{ap, ◌∙◌}
+use Rattle.source_runner.specs.Nodes.{type_of}
+use Rattle.c_tree.specs.BareDef.{BareBinding}
+use Rattle.c_tree.specs.BareExpr.{Bytes, BareType}
+use Rattle.source_runner.proofs.Kept.{grows_trans}
+use Rattle.source_runner.proofs.program.declared_binding.Goals as goal
+
+made : BareType → Bytes → BareBinding
+made declared name = record { declared = declared; name = name }
+
+pub returns-clause-binding : goal.returns-clause-binding
+unfolding made
+returns-clause-binding c = λ u g.
+    let named = c.in_ok-name.ensures.word u (grows_trans _ _ u c.value_type.ensures.grows g) ∙ c.as_str.ensures in
+    ap (made (type_of u c.in_ok-declared.declared)) named ∙ ap (λ d. made d c.args.declared.now.name.text) (c.in_ok-declared.ensures.declared u g)

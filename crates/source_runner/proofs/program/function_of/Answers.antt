@@ -1,0 +1,21 @@
+use Rattle.std.proofs.Common.{refl, Some, map, ap, sym, ◌∙◌}
+use Rattle.c_tree.specs.Bare.{bare_binding}
+use Rattle.source_runner.specs.Definitions.{bindings_of}
+use Rattle.source_runner.proofs.Kept.{grows_trans}
+use Rattle.source_runner.proofs.program.function_of.Goals as goal
+
+pub returns-clause-made : goal.returns-clause-made
+returns-clause-made c = λ u g.
+    let g2 = grows_trans _ _ u c.returned.ensures.grows g in
+    let g1 = grows_trans _ _ u c.bindings.ensures.grows g2 in
+    let g0 = grows_trans _ _ u c.word.ensures.grows g1 in
+    record {
+      name = ap Some (sym (c.in_ok-name.ensures.word u g1 ∙ c.as_str.ensures));
+      definition = record {
+        there = refl;
+        parameters = c.in_ok-parameters.ensures.bindings u g2 ∙ ap (map bare_binding) c.as_slice.ensures;
+        members = ap (bindings_of u) c.new.ensures.items;
+        result = c.in_ok-result.ensures.declared u g;
+        body = c.in_ok-body.ensures.body u g0;
+      };
+    }

@@ -1,0 +1,11 @@
+use Rattle.source_runner.specs.Trees.{table}
+use Rattle.source_runner.proofs.Kept.{grows_trans}
+use Rattle.source_runner.proofs.Defining.{plain_ok}
+use Rattle.source_runner.proofs.program.plain.Goals as goal
+
+pub returns-clause-made : goal.returns-clause-made
+returns-clause-made c =
+    let made = c.without_body.ensures in
+    plain_ok (table c.without_body.new.trees) c.without_body.result c.in_ok-name.name c.args.name.now c.new.result.items
+    made.name made.parameters made.body made.result made.members c.new.ensures.items
+    (λ u g. c.in_ok-name.ensures.word u (grows_trans _ _ u made.grows g))

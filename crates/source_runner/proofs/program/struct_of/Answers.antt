@@ -1,0 +1,14 @@
+use Rattle.std.proofs.Common.{map, ◌∙◌}
+use Rattle.c_tree.specs.Bare.{bare_binding}
+use Rattle.source_runner.specs.Trees.{table}
+use Rattle.source_runner.proofs.Kept.{grows_trans}
+use Rattle.source_runner.proofs.Defining.{struct_ok}
+use Rattle.source_runner.proofs.program.struct_of.Goals as goal
+
+pub returns-clause-made : goal.returns-clause-made
+returns-clause-made c =
+    let made = c.without_body.ensures in
+    struct_ok (table c.without_body.new.trees) c.without_body.result c.in_ok-name-2.name c.args.tag.now c.in_ok-members.members.items (map bare_binding c.args.members.now)
+    made.name made.parameters made.body made.result made.members
+    (λ u g. c.in_ok-members.ensures.bindings u (grows_trans _ _ u made.grows g))
+    (λ u g. c.in_ok-name-2.ensures.word u (grows_trans _ _ u c.bindings.ensures.grows (grows_trans _ _ u made.grows g)) ∙ c.as_str.ensures.value ∙ c.in_ok-name.ensures)

@@ -1,0 +1,22 @@
+-- The frames of a thread, as the definitions have them.
+use Rattle.std.specs.Prelude.{List, map, reverse}
+use Rattle.c_types.specs.Threads.{Frame as SeenFrame}
+use Rattle.source_runner.specs.declared.thread.Frame.{Frame}
+use Rattle.source_runner.specs.Nodes.{Table, word}
+use Rattle.source_runner.specs.Pieces.{pending}
+use Rattle.source_runner.specs.Work.{newest, scopes_of}
+
+-- a frame behind its last stop
+abbrev pub frame_of : Table → Frame → SeenFrame
+frame_of t f = record {
+  function = word t f.function;
+  version = f.version;
+  standing = f.standing;
+  pieces = pending t f.work.pieces.items;
+  values = newest f.work.values.items;
+  scopes = scopes_of t f.work.scopes.items;
+}
+
+-- frames that wait, of which the innermost is the last that is kept
+abbrev pub frames_of : Table → List Frame → List SeenFrame
+frames_of t fs = map (frame_of t) (reverse fs)

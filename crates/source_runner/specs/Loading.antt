@@ -1,0 +1,12 @@
+-- A text that is ready to run, with what a run begins with.
+use Rattle.std.specs.Prelude.{◌≡◌, filter_map, codes}
+use Rattle.source_model.specs.Worlds.{cells_at_first}
+use Rattle.source_runner.specs.declared.program.Loaded.{Loaded}
+use Rattle.source_runner.specs.Nodes.{word}
+use Rattle.source_runner.specs.Programs.{IsProgram, text_of, table_of}
+use Rattle.source_runner.specs.Stores.{globals_of}
+
+pub record IsLoaded (l : Loaded) : Type 0 where
+  pub sound : IsProgram l.program
+  pub globals : globals_of (table_of l.program) l.globals.items ≡ filter_map cells_at_first (text_of l.program)
+  pub main : word (table_of l.program) l.main ≡ codes "main"

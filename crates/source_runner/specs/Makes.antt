@@ -1,0 +1,47 @@
+-- Which stops can be made, by what they take.
+use Rattle.std.specs.Prelude.{ℕ, ◌==◌, nat_lt, Bool, true, false, not, List, [], ◌∷◌, drop, Some, None}
+use Rattle.c_types.specs.Stops.{Stop, WriteGlobal, ReadElement, WriteElement, ReadField, WriteField, Free, Spawn, Join, Return, End}
+use Rattle.c_types.specs.Values.{ThreadRef, Value, Number, Reference, Started}
+use Rattle.source_model.specs.Worlds.{World, Slot, Live, in_slot}
+
+-- whether there is a newest value, and whether it is a number or a handle
+abbrev pub is_any : List Value → Bool
+is_any [] = false
+is_any (v ∷ values) = true
+
+abbrev pub is_number : List Value → Bool
+is_number (Number n ∷ values) = true
+is_number _ = false
+
+abbrev pub is_reference : List Value → Bool
+is_reference (Reference object ∷ values) = true
+is_reference _ = false
+
+-- whether the values that a stop takes are there
+abbrev pub has_values : Stop → List Value → Bool
+has_values (WriteGlobal name) values = is_any values
+has_values (ReadElement name) values = is_number values
+has_values (WriteElement name) values = is_number (drop 1 values)
+has_values (ReadField tag field) values = is_reference values
+has_values (WriteField tag field) values = is_reference (drop 1 values)
+has_values (Free tag) values = is_reference values
+has_values (Spawn name) values = is_any values
+has_values Return values = is_any values
+has_values _ values = true
+
+-- whether a named thread lives in a slot
+abbrev pub is_there : ThreadRef → Slot → Bool
+is_there named (Live th) = th.serial == named.serial
+is_there named _ = false
+
+-- a join waits for a thread that lives
+abbrev pub can_join : World → List Value → Bool
+can_join w (Started None ∷ values) = true
+can_join w (Started (Some named) ∷ values) = not (is_there named (in_slot w named.slot))
+can_join w _ = false
+
+-- whether a thread in that many transactions can make a stop
+abbrev pub can_make : Stop → World → ℕ → List Value → Bool
+can_make Join w depth values = can_join w values
+can_make End w depth values = nat_lt 0 depth
+can_make s w depth values = has_values s values

@@ -1,0 +1,28 @@
+-- What contracts see of a text that is ready to run.
+use Rattle.std.specs.Prelude.{List, map}
+use Rattle.c_tree.specs.BareExpr.{Bytes}
+use Rattle.c_tree.specs.BareDef.{BareDef}
+use Rattle.c_tree.specs.Bare.{bare_def}
+use Rattle.c_types.specs.Names.{struct_name}
+use Rattle.source_runner.specs.declared.program.Program.{Program}
+use Rattle.source_runner.specs.declared.program.Name.{Name}
+use Rattle.source_runner.specs.declared.program.Name.TheVariants.{Plain, Struct}
+use Rattle.source_runner.specs.Nodes.{Table, word}
+use Rattle.source_runner.specs.Trees.{table}
+use Rattle.source_runner.specs.Definitions.{AreDefinitions}
+
+-- its text, and the table of its trees
+abbrev pub text_of : Program → List BareDef
+text_of p = map bare_def p.text.definitions
+
+abbrev pub table_of : Program → Table
+table_of p = table p.trees
+
+-- a name, or that of a struct with a tag
+abbrev pub name_of : Table → Name → Bytes
+name_of t (Plain name) = word t name
+name_of t (Struct tag) = struct_name (word t tag)
+
+-- its definitions are those of its text
+abbrev pub IsProgram : Program → Type 0
+IsProgram p = AreDefinitions (table_of p) (text_of p) p.definitions.items

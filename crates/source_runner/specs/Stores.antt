@@ -1,0 +1,89 @@
+-- What threads share, as the definitions have it.
+use Rattle.std.specs.Prelude.{◌≡◌, ℕ, Bool, true, false, List, map, reverse, Option, None}
+use Rattle.c_tree.specs.BareDef.{BareDef}
+use Rattle.c_types.specs.Texts.{definition}
+use Rattle.c_types.specs.Stops.{Stop, Spawn, Join, Call, Return, Begin, End}
+use Rattle.c_types.specs.Values.{Value as Seen}
+use Rattle.c_types.specs.Pieces.{Variable}
+use Rattle.source_model.specs.Worlds.{World, now}
+use Rattle.source_model.specs.Worlds as world
+use Rattle.source_model.specs.Moves.{Standing, goes_on, traps, perform}
+use Rattle.source_runner.specs.declared.value.Value.{Value}
+use Rattle.source_runner.specs.declared.store.Cells.{Cells}
+use Rattle.source_runner.specs.declared.store.Field.{Field}
+use Rattle.source_runner.specs.declared.store.Object.{Object}
+use Rattle.source_runner.specs.declared.store.Held.{Held}
+use Rattle.source_runner.specs.declared.store.Store.{Store}
+use Rattle.source_runner.specs.declared.perform.Did.{Did}
+use Rattle.source_runner.specs.declared.perform.Did.TheVariants.{On, Trap, Nothing}
+use Rattle.source_runner.specs.Nodes.{Table, word}
+use Rattle.source_runner.specs.Values.{seen}
+use Rattle.source_runner.specs.Work.{newest}
+
+-- a global, a field, an object, a mutex that is held
+abbrev pub cells_of : Table → Cells → world.Cells
+cells_of t c = record { name = word t c.name; cells = map seen c.cells.items }
+
+abbrev pub field_of : Table → Field → Variable
+field_of t f = record { name = word t f.name; value = seen f.value }
+
+abbrev pub fields_of : Table → List Field → List Variable
+fields_of t fs = map (field_of t) fs
+
+abbrev pub object_of : Table → Object → world.Object
+object_of t o = record { tag = word t o.tag; fields = fields_of t o.fields.items; live = o.live }
+
+abbrev pub held_of : Table → Held → world.Held
+held_of t h = record { mutex = word t h.mutex; slot = h.slot }
+
+-- globals, objects, and mutexes, of which the last that is kept was taken last
+abbrev pub globals_of : Table → List Cells → List world.Cells
+globals_of t cs = map (cells_of t) cs
+
+abbrev pub objects_of : Table → List Object → List world.Object
+objects_of t os = map (object_of t) os
+
+abbrev pub holders_of : Table → List Held → List world.Held
+holders_of t hs = map (held_of t) (reverse hs)
+
+-- a world with what is shared
+abbrev pub with_store : Table → Store → World → World
+with_store t s w = record w {
+  globals = globals_of t s.globals.items;
+  objects = objects_of t s.objects.items;
+  capacity = s.capacity;
+  holders = holders_of t s.holders.items;
+  output = s.output.items;
+}
+
+-- a thread at a stop, with what is shared
+abbrev pub standing_with : Table → Store → Standing → Standing
+standing_with t store s = record s { world = with_store t store s.world }
+
+-- what a stop came to
+abbrev pub came_to : Did → Standing → List Seen → Option World
+came_to On s values = goes_on s s.world values
+came_to (Trap kind) s values = traps s kind
+came_to Nothing s values = None
+
+-- it is what the stop makes of a thread in that slot, whatever else there is
+abbrev pub Performs : Table → List BareDef → ℕ → Stop → Store → List Value → Did → Store → List Value → Type 0
+Performs t text slot stop old values did new after =
+    (s : Standing) → s.slot ≡ slot → now s.world ≡ definition text
+    → perform stop (standing_with t old s) (newest values) ≡ came_to did (standing_with t new s) (newest after)
+
+-- where a stop can't be made nothing has changed
+abbrev pub Kept : Did → Store → List Value → Store → List Value → Type 0
+Kept On old values new after = Unit {0}
+Kept (Trap kind) old values new after = Unit {0}
+Kept Nothing old values new after = (new ≡ old) × (after ≡ values)
+
+-- whether a stop changes threads
+abbrev pub is_threads : Stop → Bool
+is_threads (Spawn name) = true
+is_threads Join = true
+is_threads (Call name n) = true
+is_threads Return = true
+is_threads Begin = true
+is_threads End = true
+is_threads _ = false

@@ -1,0 +1,331 @@
+//! The state of a run, and the move of a thread.
+ghost use Rattle.std.specs.Prelude.{◌≡◌, ◌<◌, true, false, Some, None, length, option_map};
+ghost use Rattle.std.specs.Option.{option_map_or};
+ghost use Rattle.c_types.specs.Threads.{Thread as SeenThread};
+ghost use Rattle.source_model.specs.Versions.{first_table};
+ghost use Rattle.source_model.specs.Worlds.{World, Trapped, is_over, with_thread};
+ghost use Rattle.source_model.specs.Uses.{use_at, is_right, marked};
+ghost use Rattle.source_model.specs.Moves.{enter, in_frames, move, must_wait, perform, stop_made, thread_move};
+ghost use Rattle.source_runner.specs.declared.value.Value.TheVariants.{Started};
+ghost use Rattle.source_runner.specs.declared.thread.Slot.TheVariants.{Over};
+ghost use Rattle.source_runner.specs.declared.thread.Next.TheVariants.{Enter as Entering, Halt as Halting};
+ghost use Rattle.source_runner.specs.declared.work.Halt.TheVariants.{At as AtStop};
+ghost use Rattle.source_runner.specs.Machines.{Moves, IsAtStop, IsReady, IsThread, Stands, StandsBut, StandsFor, enter_of, frame_at, standing_at};
+ghost use Rattle.source_runner.specs.Frames.{frames_of};
+ghost use Rattle.source_runner.specs.Nodes.{Table};
+ghost use Rattle.source_runner.specs.Pieces.{stop_of};
+ghost use Rattle.source_runner.specs.Programs.{IsProgram, text_of, table_of, name_of};
+ghost use Rattle.source_runner.specs.Stores.{is_threads};
+ghost use Rattle.source_runner.specs.Work.{newest};
+
+use crate::evaluation::evaluate;
+use crate::mutexes::holder_of;
+use crate::perform::{Did, perform};
+use crate::piece::Stop;
+use crate::program::{Name, Program};
+use crate::store::Store;
+use crate::thread::{Enter, Frame, Next, Slot, Thread};
+use crate::value::Value;
+use crate::work::Halt;
+use bytecode::TrapKind;
+use c_ints::Int;
+use std::alloc::AllocError;
+use std::mem;
+
+/// How many frames a thread may have.
+const FRAMES: usize = 256;
+
+/// How a run has ended.
+#[derive(Clone, Copy, Debug)]
+pub(crate) enum Finish {
+    /// The first call of `main` returned this.
+    Finished(Int),
+    /// The thread in a slot trapped.
+    Trapped(TrapKind, u8),
+}
+
+/// The state of a run.
+#[derive(Debug, Drop)]
+pub(crate) struct Machine {
+    pub program: Program,
+    pub store: Store,
+    pub slots: Vec<Slot>,
+    /// How many threads were started.
+    pub threads: usize,
+    /// Whether a definition was misused.
+    pub misused: bool,
+    /// The slots of the transactions that were closed, in order.
+    pub closed: Vec<u8>,
+    pub finish: Option<Finish>,
+}
+
+/// A slot while its thread moves: nothing is started in it.
+fn taken() -> Slot
+    ensures { result ≡ Over 0 (Started None) }
+{
+    Slot::Over(0, Value::Started(None))
+}
+
+/// The name that a stop uses, if it uses one.
+fn use_at(stop: Stop) -> Option<Name>
+    ensures { (t : Table) → option_map (name_of t) result ≡ use_at (stop_of t stop) }
+{
+    match stop {
+        Stop::ReadGlobal(name)
+        | Stop::WriteGlobal(name)
+        | Stop::ReadElement(name)
+        | Stop::WriteElement(name)
+        | Stop::InitMutex(name)
+        | Stop::Lock(name)
+        | Stop::Unlock(name)
+        | Stop::Spawn(name) => Some(Name::Plain(name)),
+        Stop::ReadField(tag, _) | Stop::WriteField(tag, _) | Stop::New(tag) | Stop::Free(tag) => {
+            Some(Name::Struct(tag))
+        }
+        Stop::Print(_, _)
+        | Stop::Join
+        | Stop::Call(_, _)
+        | Stop::Return
+        | Stop::Back
+        | Stop::Begin
+        | Stop::End
+        | Stop::Update => None,
+    }
+}
+
+impl Machine {
+    /// Makes the move of the thread in a slot. Where it can't be made, nothing changes.
+    pub(crate) fn make(&mut self, slot: u8) -> Result<bool, AllocError>
+        ensures { (w : World) → Stands self.old w → Moves self.new w result (move w slot) }
+    {
+        if self.misused || self.finish.is_some() {
+            return Ok(false);
+        }
+        self.take(slot)
+    }
+
+    /// The same in a run that goes on.
+    fn take(&mut self, slot: u8) -> Result<bool, AllocError>
+        ensures { (w : World) → Stands self.old w → is_over w ≡ false → Moves self.new w result (move w slot) }
+    {
+        let Some(place) = self.slots.get_mut(slot as usize) else {
+            return Ok(false);
+        };
+        match mem::replace(place, taken()) {
+            Slot::Live(thread, next) => self.act(slot, thread, next),
+            other => {
+                self.slots[slot as usize] = other;
+                Ok(false)
+            }
+        }
+    }
+
+    /// The move of a thread that was taken from its slot.
+    fn act(&mut self, slot: u8, thread: Thread, next: Next) -> Result<bool, AllocError>
+        requires { slot < length self.old.slots.items }
+        ensures { (w : World) (before : SeenThread) → StandsBut self.old slot w before → is_over w ≡ false
+            → IsThread (text_of self.old.program) (table_of self.old.program) false thread next before
+            → Moves self.new w result (thread_move w slot before before.entering) }
+    {
+        match next {
+            Next::Enter(due) => self.enter(slot, thread, due),
+            Next::Halt(frame, halt) => self.resume(slot, thread, frame, halt),
+        }
+    }
+
+    /// Puts a thread back into its slot.
+    pub(crate) fn keep(&mut self, slot: u8, thread: Thread, next: Next)
+        requires { slot < length self.old.slots.items }
+        ensures { (w : World) (before after : SeenThread) → StandsBut self.old slot w before
+            → IsThread (text_of self.old.program) (table_of self.old.program) (is_over w) thread next after
+            → Stands self.new (with_thread slot after w) }
+    {
+        self.slots[slot as usize] = Slot::Live(thread, next);
+    }
+
+    /// A thread goes on behind a stop: its private work is done up to the next one.
+    pub(crate) fn go_on(
+        &mut self,
+        slot: u8,
+        thread: Thread,
+        frame: Frame,
+    ) -> Result<bool, AllocError>
+        requires { slot < length self.old.slots.items }
+        ensures { (w : World) (before after : SeenThread) → StandsBut self.old slot w before
+            → IsReady (text_of self.old.program) (table_of self.old.program) thread frame after
+            → Moves self.new w result (Some (with_thread slot after w)) }
+    {
+        let mut frame = frame;
+        let halt = evaluate(self.program.trees(), &mut frame.work)?;
+        self.keep(slot, thread, Next::Halt(frame, halt));
+        Ok(true)
+    }
+
+    /// A stop traps, and with it the run ends.
+    pub(crate) fn trap(
+        &mut self,
+        slot: u8,
+        thread: Thread,
+        next: Next,
+        kind: TrapKind,
+    ) -> Result<bool, AllocError>
+        requires { slot < length self.old.slots.items }
+        ensures { (w : World) (before after : SeenThread) → StandsBut self.old slot w before
+            → IsThread (text_of self.old.program) (table_of self.old.program) true thread next after
+            → Moves self.new w result (Some (record (with_thread slot after w) { finish = Some (Trapped kind slot) })) }
+    {
+        self.finish = Some(Finish::Trapped(kind, slot));
+        self.keep(slot, thread, next);
+        Ok(true)
+    }
+
+    /// A definition was misused.
+    fn misuse(&mut self, slot: u8, thread: Thread, next: Next) -> Result<bool, AllocError>
+        requires { slot < length self.old.slots.items }
+        ensures { (w : World) (before : SeenThread) → StandsBut self.old slot w before
+            → IsThread (text_of self.old.program) (table_of self.old.program) true thread next before
+            → Moves self.new w result (Some (marked w)) }
+    {
+        self.misused = true;
+        self.keep(slot, thread, next);
+        Ok(true)
+    }
+
+    /// The thread can't move.
+    pub(crate) fn stay(&mut self, slot: u8, thread: Thread, next: Next) -> Result<bool, AllocError>
+        requires { slot < length self.old.slots.items }
+        ensures { (w : World) (before : SeenThread) → StandsBut self.old slot w before
+            → IsThread (text_of self.old.program) (table_of self.old.program) (is_over w) thread next before
+            → Moves self.new w result None }
+    {
+        self.keep(slot, thread, next);
+        Ok(false)
+    }
+
+    /// A thread enters a function.
+    fn enter(&mut self, slot: u8, thread: Thread, due: Enter) -> Result<bool, AllocError>
+        requires { slot < length self.old.slots.items }
+        ensures { (w : World) (before : SeenThread) → StandsBut self.old slot w before → is_over w ≡ false
+            → IsThread (text_of self.old.program) (table_of self.old.program) false thread (Entering due) before
+            → Moves self.new w result (enter w slot before (enter_of (table_of self.old.program) due)) }
+    {
+        if !self
+            .program
+            .is_right(due.version, Name::Plain(due.function))
+        {
+            return self.misuse(slot, thread, Next::Enter(due));
+        }
+        if thread.below.len() == FRAMES {
+            return self.trap(slot, thread, Next::Enter(due), TrapKind::Depth);
+        }
+        let frame = self.program.frame(due)?;
+        self.go_on(slot, thread, frame)
+    }
+
+    /// What a thread does behind its private work.
+    fn resume(
+        &mut self,
+        slot: u8,
+        thread: Thread,
+        frame: Frame,
+        halt: Halt,
+    ) -> Result<bool, AllocError>
+        requires { slot < length self.old.slots.items }
+        ensures { (w : World) (before : SeenThread) → StandsBut self.old slot w before → is_over w ≡ false
+            → IsThread (text_of self.old.program) (table_of self.old.program) false thread (Halting frame halt) before
+            → Moves self.new w result (in_frames w slot before before.frames) }
+    {
+        match halt {
+            Halt::At(stop, point) => self.stop(slot, thread, frame, stop, point),
+            Halt::Trap(kind) => self.trap(slot, thread, Next::Halt(frame, halt), kind),
+            Halt::Nothing => self.stay(slot, thread, Next::Halt(frame, halt)),
+        }
+    }
+
+    /// Whether a stop must wait: the lock of a mutex that another thread holds.
+    pub(crate) fn must_wait(&self, slot: usize, stop: Stop) -> bool
+        ensures { (w : World) → StandsFor self.now w → result ≡ must_wait (stop_of (table_of self.now.program) stop) w slot }
+    {
+        let Stop::Lock(name) = stop else {
+            return false;
+        };
+        match holder_of(self.program.trees(), self.store.holders.as_slice(), name) {
+            Some(holder) => holder != slot,
+            None => false,
+        }
+    }
+
+    /// Whether the use of a stop is right.
+    pub(crate) fn is_right(&self, version: usize, stop: Stop) -> bool
+        ensures { IsProgram self.now.program → result ≡ option_map_or (is_right (first_table (text_of self.now.program)) version) (use_at (stop_of (table_of self.now.program) stop)) true }
+    {
+        match use_at(stop) {
+            Some(name) => self.program.is_right(version, name),
+            None => true,
+        }
+    }
+
+    /// A stop, if it needn't wait and its use is right.
+    fn stop(
+        &mut self,
+        slot: u8,
+        thread: Thread,
+        frame: Frame,
+        stop: Stop,
+        point: u32,
+    ) -> Result<bool, AllocError>
+        requires { slot < length self.old.slots.items }
+        ensures { let t = table_of self.old.program in (w : World) (before : SeenThread) → StandsBut self.old slot w before → is_over w ≡ false
+            → IsThread (text_of self.old.program) t false thread (Halting frame (AtStop stop point)) before
+            → Moves self.new w result (stop_made (stop_of t stop) w slot before (frame_at t frame point) (frames_of t thread.below.items)) }
+    {
+        if self.must_wait(slot as usize, stop) {
+            return self.stay(slot, thread, Next::Halt(frame, Halt::At(stop, point)));
+        }
+        if !self.is_right(frame.version, stop) {
+            return self.misuse(slot, thread, Next::Halt(frame, Halt::At(stop, point)));
+        }
+        match stop {
+            Stop::Spawn(name) => self.spawn(slot, thread, frame, name, point),
+            Stop::Join => self.join(slot, thread, frame, point),
+            Stop::Call(name, count) => self.call(slot, thread, frame, name, count, point),
+            Stop::Return => self.give_back(slot, thread, frame, point),
+            Stop::Begin => self.begin(slot, thread, frame, point),
+            Stop::End => self.end(slot, thread, frame, point),
+            _ => self.perform(slot, thread, frame, stop, point),
+        }
+    }
+
+    /// A stop that changes no other thread.
+    fn perform(
+        &mut self,
+        slot: u8,
+        thread: Thread,
+        frame: Frame,
+        stop: Stop,
+        point: u32,
+    ) -> Result<bool, AllocError>
+        requires { slot < length self.old.slots.items }
+        ensures { let t = table_of self.old.program in (w : World) (before user : SeenThread)
+            → IsAtStop self.old slot thread frame stop point w before user → is_threads (stop_of t stop) ≡ false
+            → Moves self.new w result (perform (stop_of t stop) (standing_at t w slot thread frame point user) (newest frame.work.values.items)) }
+    {
+        let mut frame = frame;
+        match perform(
+            &self.program,
+            &mut self.store,
+            slot as usize,
+            &mut frame.work.values,
+            stop,
+        )? {
+            Did::On => {
+                frame.standing = point;
+                self.go_on(slot, thread, frame)
+            }
+            Did::Trap(kind) => {
+                self.trap(slot, thread, Next::Halt(frame, Halt::At(stop, point)), kind)
+            }
+            Did::Nothing => self.stay(slot, thread, Next::Halt(frame, Halt::At(stop, point))),
+        }
+    }
+}

@@ -1,0 +1,175 @@
+//! Whole runs.
+ghost use Rattle.std.specs.Prelude.{◌≡◌, ◌<◌, [], List, true, false, map, length, option_map, Some, Err, IfOk, OnErr};
+ghost use Rattle.c_tree.specs.BareDef.{BareDef};
+ghost use Rattle.source_model.specs.Worlds.{Limits, in_slot, is_over};
+ghost use Rattle.source_model.specs.Runs.{SourceMove as Made, is_live, source_run};
+ghost use Rattle.source_model.specs.Guards.{move_leads};
+ghost use Rattle.source_runner.specs.States.{as_int, state_of};
+ghost use Rattle.source_runner.specs.declared.run.SourceMove.TheVariants.{Move};
+ghost use Rattle.source_model.specs.Spans.{spans};
+ghost use Rattle.source_runner.specs.Listed.{span_of};
+ghost use Rattle.source_runner.specs.Waits.{waiting_of, waits_for};
+ghost use Rattle.source_runner.specs.SourceRuns.{IsRun, Steps, text_in};
+
+use crate::can_move::SourceState;
+use crate::machine::Machine;
+use crate::program::load;
+use crate::spans::{Span, list_spans};
+use crate::start::start;
+use crate::waits::SourceWait;
+use c_types::Typed;
+use std::alloc::{AllocError, Global};
+
+/// A move of the source machine.
+#[derive(Clone, Copy, Debug, PartialEq, Eq)]
+pub enum SourceMove {
+    /// Of the thread in a slot.
+    Move(u8),
+}
+
+/// What a step came to.
+#[derive(Clone, Copy, Debug, PartialEq, Eq)]
+pub enum Stepped {
+    /// The move was made.
+    Done,
+    /// The move can't be made, and nothing has changed.
+    CannotMove,
+}
+
+/// A run of the source machine over some texts. Its clauses say that it is the run of the definitions over the moves that
+/// were made; after want of memory nothing is said of it any more.
+#[derive(Debug, Drop)]
+pub struct SourceRun {
+    machine: Machine,
+    /// The spans of the records, of which this many are closed.
+    spans: Vec<Span>,
+    counted: usize,
+    /// Whether a step wanted memory.
+    failed: bool,
+}
+
+impl SourceRun {
+    /// The start of a run of the first of some texts, where so many objects may live at once and so many slots are there.
+    pub fn new(
+        alloc: Global,
+        texts: Vec<Typed>,
+        objects: u32,
+        slots: u8,
+    ) -> Result<SourceRun, AllocError>
+        requires { 0 < length texts.items }
+        ensures { IfOk result (IsRun (map text_in texts.items) (record { objects = objects; slots = slots }) []) }
+    {
+        let mut texts = texts;
+        let loaded = load(alloc, texts.remove(0))?;
+        Ok(SourceRun {
+            machine: start(alloc, loaded, objects as usize, slots as usize)?,
+            spans: Vec::new(alloc),
+            counted: 0,
+            failed: false,
+        })
+    }
+
+    /// Makes a move, if it can be made. After want of memory each later step is want of memory too.
+    pub fn step(&mut self, m: SourceMove) -> Result<Stepped, AllocError>
+        ensures stepped { (texts : List (List BareDef)) (limits : Limits) (moves : List Made) → IsRun texts limits moves self.old
+            → Steps texts limits moves m self.new result }
+        ensures fails { OnErr result (self.new.failed ≡ true) }
+        ensures failed { self.old.failed ≡ true → result ≡ Err (record {}) }
+    {
+        if self.failed {
+            return Err(AllocError);
+        }
+        let answer = self.make(m);
+        if answer.is_err() {
+            self.failed = true;
+        }
+        answer
+    }
+
+    /// Makes a move, if it can be made.
+    fn make(&mut self, m: SourceMove) -> Result<Stepped, AllocError>
+        ensures { (texts : List (List BareDef)) (limits : Limits) (moves : List Made) → IsRun texts limits moves self.old
+            → Steps texts limits moves m self.new result }
+    {
+        match m {
+            SourceMove::Move(slot) => self.make_move(slot),
+        }
+    }
+
+    /// Makes the move of the thread in a slot, if it can be made.
+    fn make_move(&mut self, slot: u8) -> Result<Stepped, AllocError>
+        ensures { (texts : List (List BareDef)) (limits : Limits) (moves : List Made) → IsRun texts limits moves self.old
+            → Steps texts limits moves (Move slot) self.new result }
+    {
+        if self.machine.make(slot)? {
+            list_spans(&self.machine, &mut self.spans, self.counted)?;
+            self.counted = self.machine.closed.len();
+            Ok(Stepped::Done)
+        } else {
+            Ok(Stepped::CannotMove)
+        }
+    }
+
+    /// What was printed.
+    pub fn output(&self) -> &[u8]
+        ensures { (texts : List (List BareDef)) (limits : Limits) (moves : List Made) → IsRun texts limits moves self.now
+            → option_map (λ x. x.output) (source_run texts limits moves) ≡ Some result.now }
+    {
+        self.machine.store.output.as_slice()
+    }
+
+    /// Whether a definition was misused.
+    pub fn misused(&self) -> bool
+        ensures { (texts : List (List BareDef)) (limits : Limits) (moves : List Made) → IsRun texts limits moves self.now
+            → option_map (λ x. x.misused) (source_run texts limits moves) ≡ Some result }
+    {
+        self.machine.misused
+    }
+
+    /// The versions that the definitions of each record share: of closed ones in order of closing, then of open ones by
+    /// slot.
+    pub fn spans(&self) -> &[Span]
+        ensures { (texts : List (List BareDef)) (limits : Limits) (moves : List Made) → IsRun texts limits moves self.now
+            → option_map (λ x. spans x.world) (source_run texts limits moves) ≡ Some (map span_of result.now) }
+    {
+        self.spans.as_slice()
+    }
+
+    /// How the run stands.
+    pub fn state(&self) -> SourceState
+        ensures { (texts : List (List BareDef)) (limits : Limits) (moves : List Made) → IsRun texts limits moves self.now
+            → option_map (λ x. as_int x.state) (source_run texts limits moves) ≡ Some (state_of result) }
+    {
+        self.machine.state()
+    }
+
+    /// Whether a thread lives in a slot.
+    pub fn is_live(&self, slot: u8) -> bool
+        ensures { (texts : List (List BareDef)) (limits : Limits) (moves : List Made) → IsRun texts limits moves self.now
+            → option_map (λ x. is_live (in_slot x.world slot)) (source_run texts limits moves) ≡ Some result }
+    {
+        self.machine.is_live(slot as usize)
+    }
+
+    /// Whether the next move of the thread in a slot leads to a check-in: it enters, returns to a caller, begins or ends
+    /// a transaction, or stands at an update point. It is asked of a run that isn't over.
+    pub fn leads(&self, slot: u8) -> bool
+        ensures { (texts : List (List BareDef)) (limits : Limits) (moves : List Made) → IsRun texts limits moves self.now
+            → option_map (λ x. is_over x.world) (source_run texts limits moves) ≡ Some false
+            → option_map (λ x. move_leads (in_slot x.world slot)) (source_run texts limits moves) ≡ Some result }
+    {
+        self.machine.leads(slot as usize)
+    }
+
+    /// What the thread in a slot waits for, if it waits. It is asked of a run that isn't over.
+    pub fn waits(&self, slot: u8) -> Option<SourceWait<'_>>
+        ensures { (texts : List (List BareDef)) (limits : Limits) (moves : List Made) → IsRun texts limits moves self.now
+            → option_map (λ x. is_over x.world) (source_run texts limits moves) ≡ Some false
+            → option_map (λ x. waits_for x.world slot) (source_run texts limits moves) ≡ Some (option_map waiting_of result) }
+    {
+        self.machine.waits(slot as usize)
+    }
+}
+
+#[cfg(test)]
+mod tests;

@@ -1,0 +1,81 @@
+//! The start of a run.
+ghost use Rattle.std.specs.Prelude.{◌≡◌, ◌-◌, ◌∷◌, Bool, List, codes, replicate, IfOk};
+ghost use Rattle.c_tree.specs.BareDef.{BareDef};
+ghost use Rattle.c_types.specs.Threads.{started};
+ghost use Rattle.source_model.specs.Worlds.{first_world, main_enter, Live as IsLive};
+ghost use Rattle.source_runner.specs.declared.thread.Slot.TheVariants.{Free as FreeSlot};
+ghost use Rattle.source_runner.specs.Loading.{IsLoaded};
+ghost use Rattle.source_runner.specs.Machines.{IsSlot, Stands};
+ghost use Rattle.source_runner.specs.Nodes.{Table, word};
+ghost use Rattle.source_runner.specs.Programs.{text_of};
+
+use crate::machine::Machine;
+use crate::program::Loaded;
+use crate::store::Store;
+use crate::thread::{Enter, Next, Slot, Thread};
+use crate::words::Word;
+use std::alloc::{AllocError, Global};
+
+/// The thread of main.
+fn main_slot(alloc: Global, main: Word) -> Slot
+    ensures { (text : List BareDef) (t : Table) (over : Bool) → word t main ≡ codes "main" → IsSlot text t over result (IsLive (started 0 main_enter)) }
+{
+    Slot::Live(
+        Thread {
+            serial: 0,
+            below: Vec::new(alloc),
+            depth: 0,
+        },
+        Next::Enter(Enter {
+            function: main,
+            arguments: Vec::new(alloc),
+            version: 1,
+        }),
+    )
+}
+
+/// So many slots, the first of which is given and the others of which are free; at least one.
+fn slots_of(alloc: Global, first: Slot, count: usize) -> Result<Vec<Slot>, AllocError>
+    ensures { IfOk result (λ slots. slots.items ≡ first ∷ replicate (count - 1) FreeSlot) }
+{
+    let mut slots = Vec::new(alloc);
+    slots.push(first)?;
+    for _ in 1..count {
+        slots.push(Slot::Free)?;
+    }
+    Ok(slots)
+}
+
+/// The start of a run of a text, where so many objects may live in so many slots.
+pub(crate) fn start(
+    alloc: Global,
+    loaded: Loaded,
+    objects: usize,
+    slots: usize,
+) -> Result<Machine, AllocError>
+    ensures program { IfOk result (λ m. m.program ≡ loaded.program) }
+    ensures capacity { IfOk result (λ m. m.store.capacity ≡ objects) }
+    ensures stands { IsLoaded loaded → IfOk result (λ m. Stands m (first_world (text_of loaded.program) (record { objects = objects; slots = slots }))) }
+{
+    let Loaded {
+        program,
+        globals,
+        main,
+    } = loaded;
+    let slots = slots_of(alloc, main_slot(alloc, main), slots)?;
+    Ok(Machine {
+        program,
+        store: Store {
+            globals,
+            objects: Vec::new(alloc),
+            capacity: objects,
+            holders: Vec::new(alloc),
+            output: Vec::new(alloc),
+        },
+        slots,
+        threads: 1,
+        misused: false,
+        closed: Vec::new(alloc),
+        finish: None,
+    })
+}
