@@ -2,6 +2,7 @@
 //! that a reader of the rules gives.
 use super::{Made, expr, name};
 use crate::fault::{TypeFault, TypeKind};
+use crate::known::Known;
 use crate::whole::check;
 use c_ints::{Int, Kind};
 use c_tree::{
@@ -115,6 +116,11 @@ fn refused(alloc: Global, definitions: Vec<Def>) -> Option<(TypeKind, usize)> {
     }
 }
 
+/// The place of a definition.
+fn place_of(found: Option<&Def>) -> Option<usize> {
+    Some(found?.place)
+}
+
 #[test]
 fn each_kind_of_definition_is_accepted(rt: HostRuntime) -> Result<(), Fail> {
     let alloc = rt.alloc();
@@ -163,5 +169,32 @@ fn the_first_fault_is_told(rt: HostRuntime) -> Result<(), Fail> {
     disagrees.push(function(alloc, "f", number(22))?)?;
     disagrees.push(function(alloc, "main", number(22))?)?;
     assert!(rt; refused(alloc, disagrees) == Some((TypeKind::WrongType, 40)));
+    Ok(())
+}
+
+#[test]
+fn definitions_are_found_by_their_names(rt: HostRuntime) -> Result<(), Fail> {
+    let alloc = rt.alloc();
+    let members = one(alloc, binding(alloc, 15, "v")?)?;
+    let unnamed = Parameters::Named(List::of(Vec::new(alloc)));
+    let kinds = [
+        DefKind::Forward(named(alloc, 7, "t")?),
+        prototype(alloc, unnamed)?,
+        DefKind::Struct(named(alloc, 7, "t")?, members),
+        DefKind::Mutex(named(alloc, 6, "f")?),
+        global(alloc)?,
+        global(alloc)?,
+    ];
+    let mut definitions = Vec::new(alloc);
+    for kind in kinds {
+        let place = definitions.len();
+        definitions.push(Def { place, kind })?;
+    }
+    let known = Known::of(alloc, definitions.as_slice())?;
+    assert!(rt; place_of(known.struct_of("t")) == Some(2));
+    assert!(rt; place_of(known.definition_of("f")) == Some(3));
+    assert!(rt; place_of(known.definition_of("g")) == Some(4));
+    assert!(rt; place_of(known.definition_of("t")).is_none());
+    assert!(rt; place_of(known.struct_of("g")).is_none());
     Ok(())
 }
