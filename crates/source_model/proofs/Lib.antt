@@ -10,6 +10,7 @@ mod Apart
 mod Sets
 mod Same
 mod Lawful
+mod Waiters
 mod Journaled
 mod Pieces
 mod Journals

@@ -3,6 +3,7 @@ pub mod Worlds
 pub mod Printing
 pub mod Uses
 pub mod Moves
+pub mod Waits
 pub mod Installs
 pub mod Runs
 pub mod Spans

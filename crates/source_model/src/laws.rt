@@ -4,6 +4,7 @@ ghost use Rattle.source_model.specs.ChangeLaws.{InterfaceInChanged, SameDecides}
 ghost use Rattle.source_model.specs.EvaluationLaws.{AlwaysEnds, ArgumentsInOrder, BlocksHaveScopes, ExpressionsInOrder, ForHasAScope, JumpsLeave, LoopsTurn, PlacesStop, StatementsAsPieces, StatementsInOrder, StopsAtAStop};
 ghost use Rattle.source_model.specs.JournalLaws.{JournalIsARun};
 ghost use Rattle.source_model.specs.Laws.{CurrentIsGreatest, InstallKeepsOutput, InstallKeepsThreads, MarkedStands, OthersStay, EntriesApart, OutputGrows, TwoParts};
+ghost use Rattle.source_model.specs.Waits.{WaitersStand};
 
 /// Moves made in two parts are the moves made as a whole.
 pub fn moves_in_two_parts()
@@ -24,6 +25,11 @@ pub fn install_keeps_frames()
 /// A move changes no other thread.
 pub fn other_threads_stay()
     ensures { OthersStay }
+{}
+
+/// A thread that waits for a mutex or for another thread can't move.
+pub fn waiters_stand()
+    ensures { WaitersStand }
 {}
 
 /// What was printed stays, and more may come behind it.

@@ -3,7 +3,7 @@
 //! It is definitions, for the contracts of whatever runs texts. What one thread does by itself is said in the `specs/`
 //! of `c_types`: `Texts`, `Resolved`, `Resolution` (a function's tree with its names resolved), `Values`, `Points`,
 //! `Stops`, `Pieces`, `Evaluation` (local evaluation), `Skeletons`, `Threads`. Here stand `Versions` (definitions by name
-//! and version), `Worlds`, `Uses` (misuse and records), `Printing`, `Moves`, `Installs` and `Runs`; then `Texts`, `Store`,
+//! and version), `Worlds`, `Uses` (misuse and records), `Printing`, `Moves`, `Waits` (what a thread waits for), `Installs` and `Runs`; then `Texts`, `Store`,
 //! `Patches`, `Answers`, `Guards` and `Journals` for check-ins and offers. `Laws`, `EvaluationLaws` and `JournalLaws` say what shows that
 //! they mean what is meant, and the calls of `laws` carry them. In `proofs/` small texts are run by the definitions.
 //!
@@ -19,5 +19,6 @@ pub use laws::{
     current_version_is_greatest, entries_stay_apart, equal_bodies_are_equal, install_keeps_frames,
     interface_set_lies_in_changed_set, journal_is_a_run, local_evaluation_ends,
     marked_world_stands, moves_in_two_parts, other_threads_stay, output_grows, pieces_in_order,
+    waiters_stand,
 };
 pub use patch::NotPatch;
