@@ -1,4 +1,5 @@
 mod Beginning
+pub mod Behind
 mod Calls
 mod Defining
 mod Entering

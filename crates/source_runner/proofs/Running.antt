@@ -1,6 +1,5 @@
 -- One move more of a run.
 use Rattle.std.proofs.Common.{◌≡◌, ℕ, zero, suc, ◌-◌, ◌<◌, ◌≤◌, Bool, true, false, List, [], ◌∷◌, ◌++◌, map, length, take, Option, Some, None, Ok, refl, sym, ap, subst, ◌∙◌, arith}
-use Rattle.std.specs.Option.{option_and_then}
 use Rattle.std.specs.Prelude.{option_map, replicate, slice_index_or}
 use Rattle.std.proofs.lemmas.List.{length-append, length-map, length-replicate, map-append, take-map}
 use Rattle.std.proofs.Math.Seq.{take-append_seam}
@@ -10,8 +9,7 @@ use Rattle.source_model.specs.Versions.{Table, current, first_table}
 use Rattle.source_model.specs.Worlds.{World, Closed, Limits, Free, first_world}
 use Rattle.source_model.specs.Moves.{move}
 use Rattle.source_model.specs.Spans as seen
-use Rattle.source_model.specs.Runs.{SourceMove, Result, result, run, source_run, start, step}
-use Rattle.source_model.specs.Runs as source
+use Rattle.source_model.specs.Runs.{SourceMove, Result, result, source_run}
 use Rattle.source_model.proofs.Moved.{Keeps, move_keeps, of_outcome}
 use Rattle.source_runner.specs.declared.machine.Machine.{Machine}
 use Rattle.source_runner.specs.declared.run.SourceMove.{SourceMove as Code}
@@ -22,37 +20,9 @@ use Rattle.source_runner.specs.declared.spans.Span.{Span}
 use Rattle.source_runner.specs.Listed.{closed_span, span_of, spans_from, spans_of, version_of}
 use Rattle.source_runner.specs.Machines.{AreClosed, Stands, Came as MachineCame}
 use Rattle.source_runner.specs.Programs.{text_of}
-use Rattle.source_runner.specs.SourceRuns.{Came, IsRun, Steps, world_behind}
+use Rattle.source_runner.specs.SourceRuns.{Came, IsRun, Steps}
+use Rattle.source_runner.proofs.Behind.{then_move}
 use Rattle.source_runner.proofs.Listing.{spans_are}
-
-nothing_more : (texts : List (List BareDef)) (o : Option World) → option_and_then (run texts []) o ≡ o
-nothing_more texts None = refl
-nothing_more texts (Some w) = refl
-
-run_more : (texts : List (List BareDef)) (ms : List SourceMove) (m : SourceMove) (w : World)
-    → run texts (ms ++ m ∷ []) w ≡ option_and_then (step texts m) (run texts ms w)
-run_more texts [] m w = nothing_more texts (step texts m w)
-run_more texts (k ∷ ms) m w = behind (run_more texts ms m) (step texts k w)
-  where
-    behind : ((v : World) → run texts (ms ++ m ∷ []) v ≡ option_and_then (step texts m) (run texts ms v)) → (o : Option World)
-        → option_and_then (run texts (ms ++ m ∷ [])) o ≡ option_and_then (step texts m) (option_and_then (run texts ms) o)
-    behind more None = refl
-    behind more (Some v) = more v
-
-behind_more : (texts : List (List BareDef)) (limits : Limits) (ms : List SourceMove) (m : SourceMove)
-    → world_behind texts limits (ms ++ m ∷ []) ≡ option_and_then (step texts m) (world_behind texts limits ms)
-behind_more texts limits ms m = behind (start texts limits)
-  where
-    behind : (o : Option World)
-        → option_and_then (run texts (ms ++ m ∷ [])) o ≡ option_and_then (step texts m) (option_and_then (run texts ms) o)
-    behind None = refl
-    behind (Some v) = run_more texts ms m v
-
--- the world behind one move more
-then_move : (texts : List (List BareDef)) (limits : Limits) (ms : List SourceMove) (slot : ℕ) (w : World)
-    → world_behind texts limits ms ≡ Some w → world_behind texts limits (ms ++ source.Move slot ∷ []) ≡ move w slot
-then_move texts limits ms slot w e =
-    behind_more texts limits ms (source.Move slot) ∙ ap (option_and_then (step texts (source.Move slot))) e
 
 -- the slots of the closed records
 slots_are : (text : List BareDef) (slots : List ℕ) (cs : List Closed) → AreClosed text slots cs → slots ≡ map (λ c. c.slot) cs

@@ -1,8 +1,9 @@
 -- Which stops can be made, by what they take.
-use Rattle.std.specs.Prelude.{ℕ, ◌==◌, nat_lt, Bool, true, false, not, List, [], ◌∷◌, drop, Some, None}
+use Rattle.std.specs.Prelude.{ℕ, nat_lt, Bool, true, false, not, List, [], ◌∷◌, drop, Some, None}
 use Rattle.c_types.specs.Stops.{Stop, WriteGlobal, ReadElement, WriteElement, ReadField, WriteField, Free, Spawn, Join, Return, End}
-use Rattle.c_types.specs.Values.{ThreadRef, Value, Number, Reference, Started}
-use Rattle.source_model.specs.Worlds.{World, Slot, Live, in_slot}
+use Rattle.c_types.specs.Values.{Value, Number, Reference, Started}
+use Rattle.source_model.specs.Waits.{is_there}
+use Rattle.source_model.specs.Worlds.{World, in_slot}
 
 -- whether there is a newest value, and whether it is a number or a handle
 abbrev pub is_any : List Value → Bool
@@ -28,11 +29,6 @@ has_values (Free tag) values = is_reference values
 has_values (Spawn name) values = is_any values
 has_values Return values = is_any values
 has_values _ values = true
-
--- whether a named thread lives in a slot
-abbrev pub is_there : ThreadRef → Slot → Bool
-is_there named (Live th) = th.serial == named.serial
-is_there named _ = false
 
 -- a join waits for a thread that lives
 abbrev pub can_join : World → List Value → Bool

@@ -24,7 +24,7 @@ move_of (Move slot) = source.Move slot
 abbrev pub text_in : Tree → List BareDef
 text_in p = map bare_def p.definitions
 
--- the world behind moves, the first of which is that of the start; none where one can't be made
+-- the world behind moves of a run that starts with the first of the texts; none where one can't be made
 abbrev pub world_behind : List (List BareDef) → Limits → List SourceMove → Option World
 world_behind texts limits moves = option_and_then (run texts moves) (start texts limits)
 

@@ -1,63 +1,8 @@
--- What a thread waits for, as the definitions have it.
-use Rattle.std.specs.Prelude.{ℕ, List, [], ◌∷◌, Option, Some, None, if◌then◌else◌}
-use Rattle.c_tree.specs.BareExpr.{Bytes}
-use Rattle.c_types.specs.Stops.{Stop, Lock, Join}
-use Rattle.c_types.specs.Values.{Value, Started}
-use Rattle.c_types.specs.Pieces.{Halt, Stopped}
-use Rattle.c_types.specs.Threads.{Frame, Enter, next_of}
-use Rattle.source_model.specs.Moves.{is_others}
-use Rattle.source_model.specs.Worlds.{World, Slot, Live, in_slot, holder_of}
+-- What is told of a thread that waits, as the definitions have it.
+use Rattle.source_model.specs.Waits.{Waiting, ForMutex, ForThread}
 use Rattle.source_runner.specs.declared.waits.SourceWait.{SourceWait}
 use Rattle.source_runner.specs.declared.waits.SourceWait.TheVariants.{Mutex, Thread}
-use Rattle.source_runner.specs.Makes.{is_there}
 
--- what is waited for
-pub data Waiting : Type 0 where
-  -- the name of a mutex, and the slot of the thread that holds it
-  ForMutex : Bytes → ℕ → Waiting
-  -- the slot of the thread that is joined
-  ForThread : ℕ → Waiting
-
--- the mutex that a lock waits for: another slot holds it
-abbrev pub held_by : Bytes → ℕ → Option ℕ → Option Waiting
-held_by name slot None = None
-held_by name slot (Some holder) = if is_others slot (Some holder) then Some (ForMutex name holder) else None
-
--- the thread that a join waits for: it lives
-abbrev pub joined : World → List Value → Option Waiting
-joined w (Started (Some named) ∷ values) = if is_there named (in_slot w named.slot) then Some (ForThread named.slot) else None
-joined w _ = None
-
--- what the thread in a slot waits for at a stop with these values
-abbrev pub at_stop : Stop → World → ℕ → List Value → Option Waiting
-at_stop (Lock name) w slot values = held_by name slot (holder_of w name)
-at_stop Join w slot values = joined w values
-at_stop _ w slot values = None
-
--- behind the private work of its innermost frame
-abbrev pub behind : Halt → World → ℕ → Option Waiting
-behind (Stopped s n rest values scopes) w slot = at_stop s w slot values
-behind _ w slot = None
-
-abbrev pub in_frames : List Frame → World → ℕ → Option Waiting
-in_frames [] w slot = None
-in_frames (f ∷ below) w slot = behind (next_of f) w slot
-
--- an enter that is due waits for nothing
-abbrev pub in_thread : Option Enter → List Frame → World → ℕ → Option Waiting
-in_thread (Some e) frames w slot = None
-in_thread None frames w slot = in_frames frames w slot
-
--- nor does a slot where no thread lives
-abbrev pub of_slot : Slot → World → ℕ → Option Waiting
-of_slot (Live th) w slot = in_thread th.entering th.frames w slot
-of_slot _ w slot = None
-
--- what the thread in a slot waits for
-abbrev pub waits_for : World → ℕ → Option Waiting
-waits_for w slot = of_slot (in_slot w slot) w slot
-
--- what is told of it
 abbrev pub waiting_of : SourceWait → Waiting
 waiting_of (Mutex name holder) = ForMutex name.now holder
 waiting_of (Thread slot) = ForThread slot

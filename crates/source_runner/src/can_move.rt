@@ -8,10 +8,11 @@ ghost use Rattle.c_types.specs.Threads.{Frame as SeenFrame, Thread as SeenThread
 ghost use Rattle.source_model.specs.Guards.{frames_lead, leads, move_leads};
 ghost use Rattle.source_model.specs.Moves.{stop_made, thread_move};
 ghost use Rattle.source_model.specs.Runs.{can_move, is_live, some_can_move, some_lives, state};
+ghost use Rattle.source_model.specs.Waits.{is_there};
 ghost use Rattle.source_model.specs.Worlds.{World, in_slot, is_over};
 ghost use Rattle.source_runner.specs.Frames.{frames_of};
 ghost use Rattle.source_runner.specs.Machines.{IsThread, Stands, frame_at};
-ghost use Rattle.source_runner.specs.Makes.{can_join, can_make, has_values, is_number, is_reference, is_there};
+ghost use Rattle.source_runner.specs.Makes.{can_join, can_make, has_values, is_number, is_reference};
 ghost use Rattle.source_runner.specs.Nodes.{Table};
 ghost use Rattle.source_runner.specs.Pieces.{stop_of};
 ghost use Rattle.source_runner.specs.Programs.{table_of, text_of};

@@ -1,6 +1,7 @@
 //! Whole runs.
 ghost use Rattle.std.specs.Prelude.{◌≡◌, ◌<◌, [], List, true, false, map, length, option_map, Some, Err, IfOk, OnErr};
 ghost use Rattle.c_tree.specs.BareDef.{BareDef};
+ghost use Rattle.source_model.specs.Waits.{waits_for};
 ghost use Rattle.source_model.specs.Worlds.{Limits, in_slot, is_over};
 ghost use Rattle.source_model.specs.Runs.{SourceMove as Made, is_live, source_run};
 ghost use Rattle.source_model.specs.Guards.{move_leads};
@@ -8,7 +9,7 @@ ghost use Rattle.source_runner.specs.States.{as_int, state_of};
 ghost use Rattle.source_runner.specs.declared.run.SourceMove.TheVariants.{Move};
 ghost use Rattle.source_model.specs.Spans.{spans};
 ghost use Rattle.source_runner.specs.Listed.{span_of};
-ghost use Rattle.source_runner.specs.Waits.{waiting_of, waits_for};
+ghost use Rattle.source_runner.specs.Waits.{waiting_of};
 ghost use Rattle.source_runner.specs.SourceRuns.{IsRun, Steps, text_in};
 
 use crate::can_move::SourceState;

@@ -1,11 +1,12 @@
 //! What threads wait for. Nothing changes here.
 ghost use Rattle.std.specs.Prelude.{◌≡◌, false, option_map};
+ghost use Rattle.source_model.specs.Waits.{at_stop, held_by, joined, waits_for};
 ghost use Rattle.source_model.specs.Worlds.{World, holder_of, is_over};
 ghost use Rattle.source_runner.specs.Machines.{Stands};
 ghost use Rattle.source_runner.specs.Nodes.{word};
 ghost use Rattle.source_runner.specs.Pieces.{stop_of};
 ghost use Rattle.source_runner.specs.Programs.{table_of};
-ghost use Rattle.source_runner.specs.Waits.{at_stop, held_by, joined, waiting_of, waits_for};
+ghost use Rattle.source_runner.specs.Waits.{waiting_of};
 ghost use Rattle.source_runner.specs.Work.{newest};
 
 use crate::machine::Machine;

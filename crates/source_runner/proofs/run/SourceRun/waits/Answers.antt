@@ -1,6 +1,6 @@
 use Rattle.std.proofs.Common.{Some, sym, ap, ◌∙◌}
+use Rattle.source_model.specs.Waits.{waits_for}
 use Rattle.source_model.specs.Worlds.{is_over}
-use Rattle.source_runner.specs.Waits.{waits_for}
 use Rattle.source_runner.proofs.FirstTable.{some_is}
 use Rattle.source_runner.proofs.Running.{given}
 use Rattle.source_runner.proofs.run.SourceRun.waits.Goals as goal
