@@ -1,19 +1,25 @@
 //! What the program writes on standard error: for each fault its one line, or the usage text, byte for
-//! byte as [`specs/Faults.antt`] has it. A writer puts all of its text into the sink, or a front of it
-//! where the sink failed, and takes no memory. Beside it stands how a place in a text is counted by
-//! lines and columns.
+//! byte as [`specs/Faults.antt`] has it, and for a run that ended its report, as [`specs/Endings.antt`]
+//! has it. A writer puts all of its text into the sink, or a front of it where the sink failed, and takes
+//! no memory. Beside it stands how a place in a text is counted by lines and columns.
 //!
 //! - [`place`]: a byte's place, by line and column
 //! - [`fault`]: the faults and their words
 //! - [`write`]: the lines
+//! - [`ending`]: how a run ended
+//! - [`status`]: the statuses with which a program ends
 #![tactic(auto)]
 
+mod ending;
 mod fault;
 mod place;
+mod status;
 mod write;
 
+pub use ending::{trap_word, write_ending};
 pub use fault::{FaultLine, LineWord, PlaceWord};
 pub use place::{Place, place_of};
+pub use status::ending_status;
 pub use write::{USAGE, write_fault};
 
 #[cfg(test)]

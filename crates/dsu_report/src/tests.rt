@@ -1,6 +1,7 @@
 //! What no clause says: that the calls succeed where the sink does, and what the lines look like,
 //! written out by hand.
-use crate::{FaultLine, LineWord, Place, PlaceWord, place_of, write_fault};
+use crate::{FaultLine, LineWord, Place, PlaceWord, place_of, write_ending, write_fault};
+use bytecode::{Ending, TrapKind};
 use c_types::TypeKind;
 use dsu_io::MemorySink;
 use std::test::Fail;
@@ -121,6 +122,54 @@ fn each_fault_has_its_line(rt: HostRuntime) -> Result<(), Fail> {
         let mut sink = MemorySink::with_room(rt.alloc(), 1000, Vec::new(rt.alloc()))?;
         assert!(rt; write_fault("d/f.c", *fault, &mut sink).is_ok());
         assert_eq!(rt; sink.bytes(), line.as_bytes());
+    }
+    Ok(())
+}
+
+/// Endings, and their reports.
+const REPORTS: [(Ending, &str); 16] = [
+    (Ending::Finished(0), "# finished 0\n"),
+    (Ending::Finished(i32::MAX), "# finished 2147483647\n"),
+    (Ending::Finished(i32::MIN), "# finished -2147483648\n"),
+    (
+        Ending::Trap(TrapKind::Overflow, 0),
+        "# trap overflow thread 0\n",
+    ),
+    (
+        Ending::Trap(TrapKind::Divide, 1),
+        "# trap divide thread 1\n",
+    ),
+    (Ending::Trap(TrapKind::Shift, 2), "# trap shift thread 2\n"),
+    (Ending::Trap(TrapKind::Null, 3), "# trap null thread 3\n"),
+    (Ending::Trap(TrapKind::Stale, 4), "# trap stale thread 4\n"),
+    (Ending::Trap(TrapKind::Index, 5), "# trap index thread 5\n"),
+    (Ending::Trap(TrapKind::Depth, 6), "# trap depth thread 6\n"),
+    (
+        Ending::Trap(TrapKind::Relock, 10),
+        "# trap relock thread 10\n",
+    ),
+    (
+        Ending::Trap(TrapKind::Unlock, 15),
+        "# trap unlock thread 15\n",
+    ),
+    (
+        Ending::Trap(TrapKind::MutexHeld, 99),
+        "# trap mutex held thread 99\n",
+    ),
+    (
+        Ending::Trap(TrapKind::Join, u8::MAX),
+        "# trap join thread 255\n",
+    ),
+    (Ending::Deadlock, "# deadlock\n"),
+    (Ending::Cut, "# cut\n"),
+];
+
+#[test]
+fn each_ending_has_its_report(rt: HostRuntime) -> Result<(), Fail> {
+    for (ending, report) in REPORTS.iter() {
+        let mut sink = MemorySink::with_room(rt.alloc(), 100, Vec::new(rt.alloc()))?;
+        assert!(rt; write_ending(*ending, &mut sink).is_ok());
+        assert_eq!(rt; sink.bytes(), report.as_bytes());
     }
     Ok(())
 }
