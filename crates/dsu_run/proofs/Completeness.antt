@@ -7,12 +7,13 @@ use Rattle.c_tree.specs.declared.def.Program.{Program}
 use Rattle.text_reader.specs.Accepted.{Accepted}
 use Rattle.dsu_report.specs.declared.fault.FaultLine.{FaultLine}
 use Rattle.dsu_report.specs.declared.fault.FaultLine.TheVariants.{Write, Memory}
+use Rattle.dsu_report.specs.Statuses.{status_of_line}
+use Rattle.text_source.specs.Sources.{text_limit, IsShort, IsFirstOf, IsOfSource}
 use Rattle.dsu_run.specs.declared.fault.Fault.{Fault}
 use Rattle.dsu_run.specs.declared.fault.Fault.TheVariants.{Refused, Told}
 use Rattle.dsu_run.specs.declared.request.Request.TheVariants.{Run, Check}
 use Rattle.dsu_run.specs.Form.{Formula, IsForm, value}
-use Rattle.dsu_run.specs.Answer.{HoldsForm, IsRefused, IsExcused, IsRun, IsStatus, status_of, status_of_line, status_of_run, text_limit}
-use Rattle.dsu_run.specs.Sources.{IsShort, IsFirstOf, IsOfSource}
+use Rattle.dsu_run.specs.Answer.{HoldsForm, IsRefused, IsExcused, IsRun, IsStatus, status_of, status_of_run}
 use Rattle.dsu_run.proofs.FormLemmas.{form_once}
 
 -- what was read of a file whose content is told

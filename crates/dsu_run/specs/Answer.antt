@@ -1,5 +1,5 @@
 -- What the top call does with the words of a command line and the file that they name.
-use Rattle.std.specs.Prelude.{◌≡◌, ◌≢◌, ◌⊎◌, ◌≤◌, ◌<◌, ◌*◌, ℕ, pos, List, [], ◌∷◌, ⊤, Option, Some, None, Result, Ok, Err, length, min}
+use Rattle.std.specs.Prelude.{◌≡◌, ◌≢◌, ◌⊎◌, ◌≤◌, ℕ, pos, List, [], ◌∷◌, Option, Some, None, Result, Ok, Err, length}
 use Rattle.std.specs.Io.KnownBytes.{Appends}
 use Rattle.dsu_io.specs.Causes.{Rose}
 use Rattle.dsu_io.specs.Sinks.{AppendsFront}
@@ -15,25 +15,21 @@ use Rattle.bytecode.specs.Trap.{trap_of}
 use Rattle.c_tree.specs.declared.def.Program.{Program}
 use Rattle.c_types.specs.Definitions.{names_of}
 use Rattle.text_reader.specs.declared.fault.Wrong.{Wrong}
-use Rattle.text_reader.specs.declared.fault.Wrong.TheVariants as wrong
 use Rattle.text_reader.specs.Accepted.{Accepted, FirstFault}
 use Rattle.dsu_cli.specs.declared.job.CliFault.{CliFault}
 use Rattle.dsu_cli.specs.declared.job.CliFault.TheVariants.{Usage as NoCommand, Memory as NoMemory}
-use Rattle.dsu_report.specs.declared.fault.PlaceWord.{PlaceWord}
-use Rattle.dsu_report.specs.declared.fault.PlaceWord.TheVariants as word
 use Rattle.dsu_report.specs.declared.fault.FaultLine.{FaultLine}
-use Rattle.dsu_report.specs.declared.fault.FaultLine.TheVariants.{Usage, Place, Unread, TooLong, Line, Write, Memory}
-use Rattle.dsu_report.specs.Places.{line_at, column_at}
+use Rattle.dsu_report.specs.declared.fault.FaultLine.TheVariants.{Usage, Write, Memory}
+use Rattle.dsu_report.specs.Endings.{report_text}
+use Rattle.dsu_report.specs.Statuses.{status_of_line, status_of_ending}
+use Rattle.text_source.specs.Lines.{line_of}
+use Rattle.text_source.specs.Sources.{text_limit}
 use Rattle.dsu_run.specs.declared.request.Request.{Request}
 use Rattle.dsu_run.specs.declared.request.Request.TheVariants.{Run, Check}
 use Rattle.dsu_run.specs.declared.fault.Fault.{Fault}
 use Rattle.dsu_run.specs.declared.fault.Fault.TheVariants.{Refused, Told}
 use Rattle.dsu_run.specs.Form.{Formula, IsForm, value}
-use Rattle.dsu_run.specs.Texts.{number_line, names_line, report_text, fault_text}
-
--- a C text has at most so many bytes
-abbrev pub text_limit : ℕ
-text_limit = 1024 * 1024
+use Rattle.dsu_run.specs.Texts.{number_line, names_line, fault_text}
 
 -- the file, whose content may be told, is a text that is accepted as this program
 pub record Holds (content : Option (List ℕ)) (program : Program) : Type 0 where
@@ -48,24 +44,6 @@ pub record HoldsForm (content : Option (List ℕ)) (e : Formula) : Type 0 where
   pub holds : Holds content program
   pub form : IsForm holds.text e
 
--- the word for what is wrong with a text
-abbrev pub word_of : Wrong → PlaceWord
-word_of wrong.BadByte = word.BadByte
-word_of wrong.BadLiteral = word.BadLiteral
-word_of wrong.Directive = word.Directive
-word_of wrong.TooMany = word.TooMany
-word_of wrong.Syntax = word.Syntax
-word_of wrong.TooDeep = word.TooDeep
-word_of (wrong.Kind kind) = word.Kind kind
-
--- the byte at which a fault is told: a place behind the text counts as its end
-abbrev pub told_at : List ℕ → ℕ → ℕ
-told_at text at = min at (length text)
-
--- the line of a fault at a byte of a text
-abbrev pub line_of : List ℕ → Wrong → ℕ → FaultLine
-line_of text what at = Place (line_at text (told_at text at)) (column_at text (told_at text at)) (word_of what)
-
 -- the fault for which a text is refused: its first; or, of a text to run, that it isn't of the form
 abbrev pub IsFaultOf : Request → List ℕ → Fault → Type 0
 IsFaultOf request text (Told line) = (what : Wrong) × (at : ℕ) × FirstFault text what at × (line ≡ line_of text what at)
@@ -79,21 +57,7 @@ pub record IsRefused (request : Request) (content : Option (List ℕ)) (fault : 
   pub fits : length text ≤ text_limit
   pub first : IsFaultOf request text fault
 
--- the file is longer than a text may be, as far as its content is told
-abbrev pub Exceeds : Option (List ℕ) → Type 0
-Exceeds None = ⊤
-Exceeds (Some content) = text_limit < length content
-
 -- the status of a fault
-abbrev pub status_of_line : FaultLine → ℕ
-status_of_line Usage = 10
-status_of_line (Place line column word) = 11
-status_of_line Unread = 12
-status_of_line Write = 13
-status_of_line (Line line word) = 14
-status_of_line TooLong = 15
-status_of_line Memory = 20
-
 abbrev pub status_of : Fault → ℕ
 status_of Refused = 11
 status_of (Told line) = status_of_line line
@@ -120,13 +84,7 @@ abbrev pub ending_of : Result Int ArithTrap → Ending
 ending_of (Ok value) = Finished (pos 0)
 ending_of (Err trap) = Trap (trap_of trap) 0
 
--- the status of a run that ended so
-abbrev pub status_of_ending : Ending → ℕ
-status_of_ending (Finished value) = 0
-status_of_ending (Trap kind thread) = 1
-status_of_ending Deadlock = 2
-status_of_ending Cut = 3
-
+-- the status of a run with that value or trap
 abbrev pub status_of_run : Result Int ArithTrap → ℕ
 status_of_run left = status_of_ending (ending_of left)
 

@@ -5,4 +5,3 @@ pub mod Machine
 pub mod Texts
 pub mod Answer
 pub mod Names
-pub mod Sources

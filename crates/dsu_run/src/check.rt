@@ -4,18 +4,20 @@ ghost use Rattle.c_tree.specs.declared.def.Program.{Program};
 ghost use Rattle.c_types.specs.Definitions.{Types, names_of};
 ghost use Rattle.text_reader.specs.declared.fault.Wrong.{Wrong};
 ghost use Rattle.text_reader.specs.Accepted.{Accepted, FirstFault};
+ghost use Rattle.text_source.specs.Lines.{line_of};
+ghost use Rattle.text_source.specs.Sources.{Exceeds};
 ghost use Rattle.dsu_run.specs.declared.request.Request.{Request};
-ghost use Rattle.dsu_run.specs.Answer.{Holds, IsRefused, Exceeds, line_of, status_of, IsStatus, IsRun, IsExcused, Faulted, Checked, NamesFailed};
+ghost use Rattle.dsu_run.specs.Answer.{Holds, IsRefused, status_of, IsStatus, IsRun, IsExcused, Faulted, Checked, NamesFailed};
 ghost use Rattle.dsu_run.specs.Names.{given};
 
 use crate::fault::Fault;
 use crate::outcome::{Outcome, fail};
 use crate::report::{write_names, write_text};
-use crate::source::{TEXT_LIMIT, source_of};
 use c_tree::{DefKind, Program};
 use dsu_io::{Files, Sink};
 use dsu_report::FaultLine;
 use std::alloc::Global;
+use text_source::{TEXT_LIMIT, source_of};
 
 // How many names a definition gives its text: one where it is of a function, a global, an array, a mutex or a
 // struct.

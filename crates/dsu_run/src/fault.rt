@@ -26,7 +26,7 @@ impl From<CliFault> for Fault {
 
 impl Fault {
     ghost use Rattle.std.specs.Prelude.{◌≡◌};
-    ghost use Rattle.dsu_run.specs.Answer.{status_of, status_of_line};
+    ghost use Rattle.dsu_run.specs.Answer.{status_of};
 
     /// The status with which the program ends.
     pub fn status(self) -> u8
@@ -34,22 +34,7 @@ impl Fault {
     {
         match self {
             Fault::Refused => 11,
-            Fault::Told(line) => Fault::status_of(line),
-        }
-    }
-
-    // The status of a fault that has a line.
-    fn status_of(line: FaultLine) -> u8
-        ensures { result ≡ status_of_line line }
-    {
-        match line {
-            FaultLine::Usage => 10,
-            FaultLine::Place(_, _, _) => 11,
-            FaultLine::Unread => 12,
-            FaultLine::Write => 13,
-            FaultLine::Line(_, _) => 14,
-            FaultLine::TooLong => 15,
-            FaultLine::Memory => 20,
+            Fault::Told(line) => line.status(),
         }
     }
 }

@@ -4,9 +4,9 @@
 //! what the program promises. `main` makes the words, the files of the file system and the standard
 //! streams, calls it on a thread with a large stack, and ends with its status.
 //!
-//! Read in this order: `top` (the top call) with `outcome`, `request` (what the words ask for), `source` (a file's
-//! text and its tree), `check` and `run` (the two commands), `form` with `constant` and `reader` (from tokens
-//! to code), `machine` (from code to a value), `fault` and `report` (what is told).
+//! Read in this order: `top` (the top call) with `outcome`, `request` (what the words ask for), `check` and `run`
+//! (the two commands), `form` with `constant` and `reader` (from tokens to code), `machine` (from code to a
+//! value), `fault` and `report` (what is told).
 #![tactic(auto)]
 
 mod check;
@@ -19,7 +19,6 @@ mod reader;
 mod report;
 mod request;
 mod run;
-mod source;
 mod top;
 
 use crate::fault::Fault;

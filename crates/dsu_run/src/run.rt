@@ -3,21 +3,23 @@ ghost use Rattle.dsu_io.specs.Causes.{Rose};
 ghost use Rattle.c_tree.specs.declared.def.Program.{Program};
 ghost use Rattle.text_reader.specs.declared.fault.Wrong.{Wrong};
 ghost use Rattle.text_reader.specs.Accepted.{Accepted, FirstFault};
+ghost use Rattle.text_source.specs.Lines.{line_of};
+ghost use Rattle.text_source.specs.Sources.{Exceeds};
 ghost use Rattle.dsu_run.specs.declared.request.Request.{Request};
 ghost use Rattle.dsu_run.specs.Form.{Formula, value, IsForm};
-ghost use Rattle.dsu_run.specs.Answer.{HoldsForm, IsRefused, Exceeds, line_of, status_of, status_of_run, status_of_ending, whole_history, Ran, PrintFailed, ReportFailed, IsRun, IsStatus, IsExcused, Faulted};
+ghost use Rattle.dsu_run.specs.Answer.{HoldsForm, IsRefused, status_of, status_of_run, whole_history, Ran, PrintFailed, ReportFailed, IsRun, IsStatus, IsExcused, Faulted};
 
 use crate::fault::Fault;
 use crate::form::{CompileFault, compile};
 use crate::machine::evaluate;
 use crate::outcome::{Outcome, fail};
-use crate::report::{write_ending, write_number, write_text};
-use crate::source::{TEXT_LIMIT, source_of};
+use crate::report::{write_number, write_text};
 use bytecode::{Ending, Event, TrapKind};
 use c_ints::{ArithTrap, Int};
 use dsu_io::{Files, Sink};
-use dsu_report::FaultLine;
+use dsu_report::{FaultLine, ending_status, write_ending};
 use std::alloc::{AllocError, Global};
+use text_source::{TEXT_LIMIT, source_of};
 
 /// A run before anything of it is told: what its expression came to, and its events.
 #[derive(Drop)]
@@ -36,18 +38,6 @@ fn history_of(alloc: Global, left: &Result<Int, ArithTrap>) -> Result<Vec<Event>
         history.push(Event::Move(0))?;
     }
     Ok(history)
-}
-
-// The status of a run that ended so.
-fn status_of_end(ending: &Ending) -> u8
-    ensures { result ≡ status_of_ending ending.now }
-{
-    match ending {
-        Ending::Finished(_) => 0,
-        Ending::Trap(_, _) => 1,
-        Ending::Deadlock => 2,
-        Ending::Cut => 3,
-    }
 }
 
 // Compiles a text and runs it up to its print.
@@ -104,7 +94,7 @@ fn tell<O: Sink, E: Sink>(plan: Plan, out: O, err: &mut E) -> Outcome<O>
     };
     match write_ending(ending, err) {
         Ok(()) => Outcome {
-            status: status_of_end(&ending),
+            status: ending_status(ending),
             out,
             history,
             ending: Some(ending),

@@ -1,10 +1,10 @@
 use crate::outcome::Outcome;
-use crate::source::TEXT_LIMIT;
 use crate::top::dsu_main;
 use bytecode::{Ending, Event, TrapKind};
 use dsu_io::{MemoryFiles, MemorySink, Text};
 use std::alloc::{AllocError, Global};
 use std::test::Fail;
+use text_source::TEXT_LIMIT;
 
 const P1: &str = "int main(void) { printf(\"%d\\n\", 2+3*4); return 0; }";
 

@@ -4,20 +4,22 @@ ghost use Rattle.c_tree.specs.declared.def.Program.{Program};
 ghost use Rattle.c_types.specs.Definitions.{names_of};
 ghost use Rattle.text_reader.specs.declared.fault.Wrong.{Wrong};
 ghost use Rattle.text_reader.specs.Accepted.{Accepted, FirstFault};
+ghost use Rattle.text_source.specs.Lines.{line_of};
+ghost use Rattle.text_source.specs.Sources.{Exceeds};
 ghost use Rattle.dsu_run.specs.declared.request.Request.{Request};
 ghost use Rattle.dsu_run.specs.Form.{Formula, value, IsForm};
 ghost use Rattle.dsu_run.specs.Words.{asked, file_of, file_at_fault};
-ghost use Rattle.dsu_run.specs.Answer.{IsRefused, Exceeds, line_of, status_of, Ran, Checked, Done, Unwritten, IsRun, IsStatus, IsExcused, Faulted};
+ghost use Rattle.dsu_run.specs.Answer.{IsRefused, status_of, Ran, Checked, Done, Unwritten, IsRun, IsStatus, IsExcused, Faulted};
 
 use crate::check::check_file;
 use crate::fault::Fault;
 use crate::outcome::{Outcome, fail};
 use crate::request::{Request, request_in};
 use crate::run::run_file;
-use crate::source::TEXT_LIMIT;
 use dsu_io::{Files, Sink, Text};
 use dsu_report::FaultLine;
 use std::alloc::Global;
+use text_source::TEXT_LIMIT;
 
 /// Does what the words of a command line say. `run FILE` reads the file from `files`, runs its text, prints on
 /// `out` and reports on `err`; `check FILE` reads it and prints on `out` how many names its text has. The words

@@ -3,9 +3,10 @@ use Rattle.dsu_io.specs.Files.{IsContent}
 use Rattle.c_ints.specs.declared.int.Int.{Int}
 use Rattle.c_ints.specs.declared.operator.ArithTrap.{ArithTrap}
 use Rattle.text_reader.specs.Accepted.{Accepted}
+use Rattle.text_source.specs.Sources.{text_limit}
 use Rattle.dsu_run.specs.declared.fault.Fault.TheVariants.{Told}
 use Rattle.dsu_run.specs.Form.{IsForm}
-use Rattle.dsu_run.specs.Answer.{HoldsForm, Ran, PrintFailed, ReportFailed, IsExcused, text_limit}
+use Rattle.dsu_run.specs.Answer.{HoldsForm, Ran, PrintFailed, ReportFailed, IsExcused}
 use Rattle.dsu_run.proofs.Statuses.{run_status}
 use Rattle.dsu_run.proofs.Completeness.{IsRead, told_text, holds_form, told_run, run_is_no_usage, run_is_whole, short_excused, source_told, source_first, run_refused, form_refused, form_excused}
 use Rattle.dsu_run.proofs.run.run_file.Goals as goal

@@ -1,11 +1,20 @@
--- What the private functions say that read a file's text. Nothing that the top call promises rests on these.
-use Rattle.std.specs.Prelude.{◌≡◌, ◌⊎◌, ◌≤◌, ℕ, List, length, Option}
+-- How long a C text may be, and what is answered for a file whose text isn't read.
+use Rattle.std.specs.Prelude.{◌≡◌, ◌⊎◌, ◌≤◌, ◌<◌, ◌*◌, ℕ, ⊤, List, length, Option, Some, None}
 use Rattle.dsu_io.specs.Files.{IsContent}
 use Rattle.text_reader.specs.declared.fault.Wrong.{Wrong}
 use Rattle.text_reader.specs.Accepted.{FirstFault}
 use Rattle.dsu_report.specs.declared.fault.FaultLine.{FaultLine}
 use Rattle.dsu_report.specs.declared.fault.FaultLine.TheVariants.{Unread, TooLong, Memory}
-use Rattle.dsu_run.specs.Answer.{line_of, text_limit}
+use Rattle.text_source.specs.Lines.{line_of}
+
+-- a C text has at most so many bytes
+abbrev pub text_limit : ℕ
+text_limit = 1024 * 1024
+
+-- the file is longer than a text may be, as far as its content is told
+abbrev pub Exceeds : Option (List ℕ) → Type 0
+Exceeds None = ⊤
+Exceeds (Some content) = text_limit < length content
 
 -- the line of a text's first fault
 abbrev pub IsFirstLine : List ℕ → FaultLine → Type 0

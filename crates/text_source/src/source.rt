@@ -4,8 +4,8 @@ ghost use Rattle.dsu_io.specs.Files.{IsContent};
 ghost use Rattle.c_tree.specs.declared.def.Program.{Program};
 ghost use Rattle.text_reader.specs.declared.fault.Wrong.{Wrong};
 ghost use Rattle.text_reader.specs.Accepted.{Accepted, FirstFault};
-ghost use Rattle.dsu_run.specs.Answer.{Exceeds, line_of, word_of};
-ghost use Rattle.dsu_run.specs.Sources.{IsFirstLine, IsOfSource, IsShort};
+ghost use Rattle.text_source.specs.Lines.{line_of, word_of};
+ghost use Rattle.text_source.specs.Sources.{Exceeds, IsFirstLine, IsOfSource, IsShort};
 
 use c_types::Typed;
 use dsu_io::{FileFault, Files};
