@@ -1,0 +1,5 @@
+mod Ends
+mod Going
+mod Seats
+mod Turns
+mod Walking
