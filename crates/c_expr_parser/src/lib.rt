@@ -29,8 +29,6 @@ pub mod parts;
 mod postfix;
 mod quoted;
 mod stop;
-#[cfg(test)]
-mod tests;
 mod type_name;
 mod unary;
 

@@ -17,7 +17,7 @@ use c_tree::{ExprNode, Name};
 use std::alloc::Global;
 
 /// The names of the library that begin an operand.
-#[derive(Clone, Copy, Debug, PartialEq, Eq)]
+#[derive(Clone, Copy)]
 pub enum LibraryName {
     Null,
     Success,

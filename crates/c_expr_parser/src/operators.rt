@@ -7,7 +7,7 @@ use c_ints::{BinOp, UnOp};
 use c_lexer::{Token, TokenKind};
 
 /// What joins two operands (C11 6.5.5 to 6.5.14).
-#[derive(Clone, Copy, Debug, PartialEq, Eq)]
+#[derive(Clone, Copy)]
 pub enum Joint {
     /// An operator on two values.
     Operation(BinOp),
@@ -98,7 +98,7 @@ fn spelled_binary(text: &str) -> Option<(u32, Joint)>
 }
 
 /// What begins an operand with a mark (6.5.1, 6.5.3).
-#[derive(Clone, Copy, Debug, PartialEq, Eq)]
+#[derive(Clone, Copy)]
 pub enum Prefix {
     /// `(`, of a cast or of parentheses
     Open,

@@ -12,7 +12,7 @@ use c_tree::{Expr, ExprNode, StepOp};
 use std::alloc::Global;
 
 /// What a postfix operator does (6.5.2).
-#[derive(Clone, Copy, Debug, PartialEq, Eq)]
+#[derive(Clone, Copy)]
 pub enum PostfixOp {
     Arrow,
     Dot,

@@ -13,7 +13,7 @@ use c_lexer::{Token, TokenKind};
 use c_tree::CType;
 
 /// A word of an integer type.
-#[derive(Clone, Copy, Debug, PartialEq, Eq)]
+#[derive(Clone, Copy)]
 enum Word {
     Char,
     Short,
@@ -24,7 +24,7 @@ enum Word {
 }
 
 /// The words of an integer type, each seen at most once.
-#[derive(Clone, Copy, Debug)]
+#[derive(Clone, Copy)]
 struct Words {
     char: bool,
     short: bool,

@@ -11,7 +11,7 @@ use crate::int::Int;
 use crate::kind::Kind;
 
 /// How the digits of a constant are read (C11 6.4.4.1 paragraph 3).
-#[derive(Clone, Copy, Debug, PartialEq, Eq)]
+#[derive(Clone, Copy)]
 pub enum Radix {
     /// To the base 10; the first digit isn't 0.
     Decimal,
@@ -22,7 +22,7 @@ pub enum Radix {
 }
 
 /// What a constant says of its type (C11 6.4.4.1 paragraph 5).
-#[derive(Clone, Copy, Debug, PartialEq, Eq)]
+#[derive(Clone, Copy)]
 pub enum Suffix {
     /// No suffix.
     Plain,
@@ -44,7 +44,7 @@ pub enum LiteralFault {
 }
 
 /// The digits at the front of a text.
-#[derive(Clone, Copy, Debug)]
+#[derive(Clone, Copy)]
 struct Run {
     /// How many there are.
     count: usize,

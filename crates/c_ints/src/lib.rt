@@ -25,6 +25,3 @@ pub use int::Int;
 pub use kind::Kind;
 pub use operator::{ArithTrap, BinOp, SafeOp, UnOp};
 pub use wrapping::{binary_wrap, unary_wrap};
-
-#[cfg(test)]
-mod tests;

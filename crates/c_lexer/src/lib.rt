@@ -15,8 +15,6 @@ mod lexer;
 mod quotes;
 mod scan;
 mod tables;
-#[cfg(test)]
-mod tests;
 mod token;
 mod unit;
 

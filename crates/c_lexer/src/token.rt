@@ -18,7 +18,7 @@ pub enum TokenKind {
 }
 
 /// A token of a text.
-#[derive(Debug, Drop)]
+#[derive(Drop)]
 pub struct Token {
     pub kind: TokenKind,
     /// The place of its first byte, counted in bytes from 0.

@@ -4,7 +4,7 @@ ghost use Rattle.c_lexer.specs.Cut.{fault_at};
 use crate::token::{LexFault, TokenKind};
 
 /// A unit of a text: what stands at a place, up to the next unit.
-#[derive(Clone, Copy, Debug, PartialEq, Eq)]
+#[derive(Clone, Copy)]
 pub struct Unit {
     /// Its length in bytes.
     pub len: usize,
@@ -12,7 +12,7 @@ pub struct Unit {
 }
 
 /// How a unit is read: it stands between tokens, is a token, or is a fault.
-#[derive(Clone, Copy, Debug, PartialEq, Eq)]
+#[derive(Clone, Copy)]
 pub enum Reading {
     Space,
     Lexeme(TokenKind),
@@ -20,7 +20,7 @@ pub enum Reading {
 }
 
 /// Why a unit is a fault.
-#[derive(Clone, Copy, Debug, PartialEq, Eq)]
+#[derive(Clone, Copy)]
 pub enum Fault {
     Byte,
     Literal,

@@ -24,8 +24,6 @@ mod parser;
 mod push;
 mod simple;
 mod statement;
-#[cfg(test)]
-mod tests;
 mod transformer;
 
 pub use c_expr_parser::SyntaxFault;

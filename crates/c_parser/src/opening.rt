@@ -4,7 +4,7 @@ ghost use Rattle.c_parser.specs.Parts.{word_of, opening_of};
 use c_lexer::{Token, TokenKind};
 
 /// The keywords that begin statements.
-#[derive(Clone, Copy, Debug, PartialEq, Eq)]
+#[derive(Clone, Copy)]
 pub enum Word {
     If,
     While,
@@ -16,7 +16,7 @@ pub enum Word {
 }
 
 /// What begins a statement other than an expression's.
-#[derive(Clone, Copy, Debug, PartialEq, Eq)]
+#[derive(Clone, Copy)]
 pub enum Opening {
     Begun(Word),
     /// `dsu_update`

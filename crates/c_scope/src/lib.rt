@@ -14,6 +14,3 @@ mod scopes;
 mod step;
 
 pub use scopes::Scopes;
-
-#[cfg(test)]
-mod tests;

@@ -16,7 +16,7 @@ use std::marker::Model;
 /// first, and each table as the list of its declarations in order, a name's bytes with its value.
 ///
 /// A name that was declared once keeps its place in memory when its table is left.
-#[derive(Debug, Drop)]
+#[derive(Drop)]
 pub struct Scopes<T> {
     names: Names,
     steps: Vec<Step<T>>,

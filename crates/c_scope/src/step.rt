@@ -2,7 +2,7 @@
 //! declaration in it, in order.
 
 /// A declaration.
-#[derive(Debug, Drop)]
+#[derive(Drop)]
 pub(crate) struct Declaration<T> {
     /// The place of its name among the names.
     pub name: usize,
@@ -13,7 +13,7 @@ pub(crate) struct Declaration<T> {
 }
 
 /// A step.
-#[derive(Debug, Drop)]
+#[derive(Drop)]
 pub(crate) enum Step<T> {
     /// A table was entered. It keeps the place of the first step within the table around it.
     Enter(usize),

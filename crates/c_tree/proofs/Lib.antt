@@ -1,4 +1,6 @@
 pub mod Lists
 pub mod Exprs
+pub mod Forms
 pub mod Stmts
+pub mod StmtForms
 pub mod Examples

@@ -1,4 +1,5 @@
-ghost use Rattle.std.specs.Prelude.{◌≡◌, IfOk};
+ghost use Rattle.std.specs.Prelude.{◌≡◌, IfOk, Ok};
+ghost use Rattle.c_tree.specs.declared.expr.ExprNode.TheVariants.{Variable, Cast, Call, Element, Arrow, Dot, Print, Create};
 ghost use Rattle.c_tree.specs.declared.expr.Expr.{out-Expr};
 
 use crate::name::{CType, Name};
@@ -113,53 +114,54 @@ fn copy_node(alloc: Global, expr: &Expr) -> Result<ExprNode<Expr>, AllocError>
         ExprNode::Null => Ok(ExprNode::Null),
         ExprNode::Success => Ok(ExprNode::Success),
         ExprNode::Error => Ok(ExprNode::Error),
-        ExprNode::Variable(name) => Ok(ExprNode::Variable(name.clone()?)),
+        ExprNode::Variable(name) => variable(name),
         ExprNode::Unary(op, a) => Ok(ExprNode::Unary(*op, copy_part(alloc, a)?)),
         ExprNode::Step(op, a) => Ok(ExprNode::Step(*op, copy_part(alloc, a)?)),
-        ExprNode::Cast(to, a) => Ok(ExprNode::Cast(to.copy()?, copy_part(alloc, a)?)),
-        ExprNode::Binary(op, a, b) => Ok(ExprNode::Binary(
-            *op,
-            copy_part(alloc, a)?,
-            copy_part(alloc, b)?,
-        )),
-        ExprNode::And(a, b) => Ok(ExprNode::And(copy_part(alloc, a)?, copy_part(alloc, b)?)),
-        ExprNode::Or(a, b) => Ok(ExprNode::Or(copy_part(alloc, a)?, copy_part(alloc, b)?)),
-        ExprNode::Choice(a, b, c) => Ok(ExprNode::Choice(
-            copy_part(alloc, a)?,
-            copy_part(alloc, b)?,
-            copy_part(alloc, c)?,
-        )),
-        ExprNode::Assign(a, b) => Ok(ExprNode::Assign(copy_part(alloc, a)?, copy_part(alloc, b)?)),
-        ExprNode::Update(op, a, b) => Ok(ExprNode::Update(
-            *op,
-            copy_part(alloc, a)?,
-            copy_part(alloc, b)?,
-        )),
-        ExprNode::Call(name, list) => Ok(ExprNode::Call(name.clone()?, copy_exprs(alloc, list)?)),
-        ExprNode::Element(name, a) => Ok(ExprNode::Element(name.clone()?, copy_part(alloc, a)?)),
-        ExprNode::Arrow(a, name) => Ok(ExprNode::Arrow(copy_part(alloc, a)?, name.copy()?)),
-        ExprNode::Dot(a, name) => Ok(ExprNode::Dot(copy_part(alloc, a)?, name.copy()?)),
+        ExprNode::Cast(to, a) => cast(to, copy_part(alloc, a)?),
+        ExprNode::Binary(op, a, b) => {
+            let (a, b) = both(copy_part(alloc, a), copy_part(alloc, b))?;
+            Ok(ExprNode::Binary(*op, a, b))
+        }
+        ExprNode::And(a, b) => {
+            let (a, b) = both(copy_part(alloc, a), copy_part(alloc, b))?;
+            Ok(ExprNode::And(a, b))
+        }
+        ExprNode::Or(a, b) => {
+            let (a, b) = both(copy_part(alloc, a), copy_part(alloc, b))?;
+            Ok(ExprNode::Or(a, b))
+        }
+        ExprNode::Choice(a, b, c) => {
+            let (a, b) = both(copy_part(alloc, a), copy_part(alloc, b))?;
+            Ok(ExprNode::Choice(a, b, copy_part(alloc, c)?))
+        }
+        ExprNode::Assign(a, b) => {
+            let (a, b) = both(copy_part(alloc, a), copy_part(alloc, b))?;
+            Ok(ExprNode::Assign(a, b))
+        }
+        ExprNode::Update(op, a, b) => {
+            let (a, b) = both(copy_part(alloc, a), copy_part(alloc, b))?;
+            Ok(ExprNode::Update(*op, a, b))
+        }
+        ExprNode::Call(name, list) => call(name, copy_exprs(alloc, list)?),
+        ExprNode::Element(name, a) => element(name, copy_part(alloc, a)?),
+        ExprNode::Arrow(a, name) => arrow(copy_part(alloc, a)?, name),
+        ExprNode::Dot(a, name) => dot(copy_part(alloc, a)?, name),
         ExprNode::Print {
             place,
             format,
             arguments,
-        } => Ok(ExprNode::Print {
-            place: *place,
-            format: format.clone()?,
-            arguments: copy_exprs(alloc, arguments)?,
-        }),
+        } => print(*place, format, copy_exprs(alloc, arguments)?),
         ExprNode::Calloc(name) => Ok(ExprNode::Calloc(name.copy()?)),
         ExprNode::Free(a) => Ok(ExprNode::Free(copy_part(alloc, a)?)),
-        ExprNode::Create(a, name, b) => Ok(ExprNode::Create(
-            copy_part(alloc, a)?,
-            name.copy()?,
-            copy_part(alloc, b)?,
-        )),
+        ExprNode::Create(a, name, b) => {
+            let (a, b) = both(copy_part(alloc, a), copy_part(alloc, b))?;
+            create(a, name, b)
+        }
         ExprNode::Join(a) => Ok(ExprNode::Join(copy_part(alloc, a)?)),
-        ExprNode::JoinInto(a, b) => Ok(ExprNode::JoinInto(
-            copy_part(alloc, a)?,
-            copy_part(alloc, b)?,
-        )),
+        ExprNode::JoinInto(a, b) => {
+            let (a, b) = both(copy_part(alloc, a), copy_part(alloc, b))?;
+            Ok(ExprNode::JoinInto(a, b))
+        }
         ExprNode::InitMutex(name) => Ok(ExprNode::InitMutex(name.copy()?)),
         ExprNode::Lock(name) => Ok(ExprNode::Lock(name.copy()?)),
         ExprNode::Unlock(name) => Ok(ExprNode::Unlock(name.copy()?)),
@@ -184,4 +186,66 @@ pub fn copy_exprs(alloc: Global, list: &List<Expr>) -> Result<List<Expr>, AllocE
         copies.push(expr.copy(alloc)?)?;
     }
     Ok(List::of(copies))
+}
+
+/// Two copies, or the error of the first that failed. One `?` for two parts keeps the proof of `copy_node` small.
+fn both(
+    a: Result<Boxed<Expr>, AllocError>,
+    b: Result<Boxed<Expr>, AllocError>,
+) -> Result<(Boxed<Expr>, Boxed<Expr>), AllocError>
+    ensures { IfOk result (λ copies. (a ≡ Ok copies.0) × (b ≡ Ok copies.1)) }
+{
+    Ok((a?, b?))
+}
+
+fn variable(name: &Text) -> Result<ExprNode<Expr>, AllocError>
+    ensures { IfOk result (λ copy. copy ≡ Variable name.now) }
+{
+    Ok(ExprNode::Variable(name.clone()?))
+}
+
+fn cast(to: &CType, a: Boxed<Expr>) -> Result<ExprNode<Expr>, AllocError>
+    ensures { IfOk result (λ copy. copy ≡ Cast to.now a) }
+{
+    Ok(ExprNode::Cast(to.copy()?, a))
+}
+
+fn call(name: &Text, arguments: List<Expr>) -> Result<ExprNode<Expr>, AllocError>
+    ensures { IfOk result (λ copy. copy ≡ Call name.now arguments) }
+{
+    Ok(ExprNode::Call(name.clone()?, arguments))
+}
+
+fn element(name: &Text, a: Boxed<Expr>) -> Result<ExprNode<Expr>, AllocError>
+    ensures { IfOk result (λ copy. copy ≡ Element name.now a) }
+{
+    Ok(ExprNode::Element(name.clone()?, a))
+}
+
+fn arrow(a: Boxed<Expr>, name: &Name) -> Result<ExprNode<Expr>, AllocError>
+    ensures { IfOk result (λ copy. copy ≡ Arrow a name.now) }
+{
+    Ok(ExprNode::Arrow(a, name.copy()?))
+}
+
+fn dot(a: Boxed<Expr>, name: &Name) -> Result<ExprNode<Expr>, AllocError>
+    ensures { IfOk result (λ copy. copy ≡ Dot a name.now) }
+{
+    Ok(ExprNode::Dot(a, name.copy()?))
+}
+
+fn print(place: usize, format: &Text, arguments: List<Expr>) -> Result<ExprNode<Expr>, AllocError>
+    ensures { IfOk result (λ copy. copy ≡ Print place format.now arguments) }
+{
+    Ok(ExprNode::Print {
+        place,
+        format: format.clone()?,
+        arguments,
+    })
+}
+
+fn create(a: Boxed<Expr>, name: &Name, b: Boxed<Expr>) -> Result<ExprNode<Expr>, AllocError>
+    ensures { IfOk result (λ copy. copy ≡ Create a name.now b) }
+{
+    Ok(ExprNode::Create(a, name.copy()?, b))
 }

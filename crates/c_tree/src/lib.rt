@@ -13,8 +13,6 @@ mod expr;
 mod name;
 mod same;
 mod stmt;
-#[cfg(test)]
-mod tests;
 
 pub use def::{
     Array, Binding, Def, DefKind, FieldValue, Function, Length, Parameters, Program, Prototype,

@@ -1,5 +1,5 @@
 -- What the definitions give at a statement by its node, and what a statement leaves of the scopes round it.
-use Rattle.std.proofs.Common.{◌≡◌, ℕ, ◌+◌, ◌<◌, Bool, true, false, List, [], ◌∷◌, ◌++◌, Option, map, length, get_or, drop, refl, ◌∙◌, sym, ap, if◌then◌else◌}
+use Rattle.std.proofs.Common.{◌≡◌, ℕ, ◌+◌, ◌<◌, Bool, true, false, List, [], ◌∷◌, ◌++◌, Option, map, length, get_or, drop, refl, ◌∙◌, sym, ap, append_assoc, if◌then◌else◌}
 use Rattle.std.proofs.lemmas.List.{at_drop_more}
 use Rattle.c_scope.specs.Tables.{declared}
 use Rattle.c_tree.specs.declared.name.CType.{CType}
@@ -98,36 +98,18 @@ scopes_along body i s around scopes below is left =
     ∙ sym (at_drop_more (λ ss. (in_order (map walk ss) around).scopes) body i s below)
 
 -- the first fault of a statement with others in it, by its node
-pub fault_of_if : (s : Stmt) (test : Expr) (body : Stmt) (around : Around) → (out-Stmt s).node ≡ If test body →
-    first (walk s around).faults
-    ≡ sooner (first (evaluated is_condition around test)) (first ((walk body (in_block around)).faults))
-fault_of_if s test body around is =
-    ap (λ w. first w.faults) (walk_of s (If test body) around is)
-    ∙ first_append (evaluated is_condition around test) ((walk body (in_block around)).faults)
-
 pub fault_of_if_else : (s : Stmt) (test : Expr) (body otherwise : Stmt) (around : Around) →
     (out-Stmt s).node ≡ IfElse test body otherwise →
     first (walk s around).faults
-    ≡ sooner (first (evaluated is_condition around test))
-    (sooner (first ((walk body (in_block around)).faults)) (first ((walk otherwise (in_block around)).faults)))
+    ≡ sooner (first (evaluated is_condition around test ++ (walk body (in_block around)).faults))
+    (first ((walk otherwise (in_block around)).faults))
 fault_of_if_else s test body otherwise around is =
+    let of_test : List Fault = evaluated is_condition around test in
+    let of_body : List Fault = (walk body (in_block around)).faults in
+    let of_otherwise : List Fault = (walk otherwise (in_block around)).faults in
     ap (λ w. first w.faults) (walk_of s (IfElse test body otherwise) around is)
-    ∙ first_append (evaluated is_condition around test) ((walk body (in_block around)).faults ++ (walk otherwise (in_block around)).faults)
-    ∙ ap (sooner (first (evaluated is_condition around test))) (first_append ((walk body (in_block around)).faults) ((walk otherwise (in_block around)).faults))
-
-pub fault_of_while : (s : Stmt) (test : Expr) (body : Stmt) (around : Around) → (out-Stmt s).node ≡ While test body →
-    first (walk s around).faults
-    ≡ sooner (first (evaluated is_condition around test)) (first ((walk body (in_block (in_loop around))).faults))
-fault_of_while s test body around is =
-    ap (λ w. first w.faults) (walk_of s (While test body) around is)
-    ∙ first_append (evaluated is_condition around test) ((walk body (in_block (in_loop around))).faults)
-
-pub fault_of_do : (s : Stmt) (body : Stmt) (test : Expr) (around : Around) → (out-Stmt s).node ≡ DoWhile body test →
-    first (walk s around).faults
-    ≡ sooner (first ((walk body (in_block (in_loop around))).faults)) (first (evaluated is_condition around test))
-fault_of_do s body test around is =
-    ap (λ w. first w.faults) (walk_of s (DoWhile body test) around is)
-    ∙ first_append ((walk body (in_block (in_loop around))).faults) (evaluated is_condition around test)
+    ∙ ap first (sym (append_assoc of_test of_body of_otherwise))
+    ∙ first_append (of_test ++ of_body) of_otherwise
 
 -- what stands behind the first part of a `for`
 abbrev pub turn : Option Expr → Option Expr → Stmt → Around → List Fault

@@ -39,7 +39,7 @@ pub(crate) fn where_allowed(
 ) -> Found
     ensures { result ≡ where_allowed (is_allowed position initialising) at found }
 {
-    if position == Position::InFunction || initialising {
+    if matches!(position, Position::InFunction) || initialising {
         return found;
     }
     let of_form = Fault {
@@ -279,6 +279,13 @@ pub(crate) fn type_of(found: &Found) -> Result<Option<CType>, AllocError>
         Found::Zero(kind) => Ok(Some(CType::Integer(*kind))),
         _ => Ok(None),
     }
+}
+
+/// A value of the type that another has, or none.
+pub(crate) fn value_like(found: &Found) -> Result<Found, AllocError>
+    ensures { IfOk result (λ value. value ≡ value_of_type (type_of found.now)) }
+{
+    value_of_type(&type_of(found)?)
 }
 
 /// Whether the first is a handle to whose type the second is converted.

@@ -41,7 +41,7 @@ pub enum TypeFault {
 }
 
 /// A fault of a text.
-#[derive(Clone, Copy, Debug, PartialEq, Eq)]
+#[derive(Clone, Copy)]
 pub struct Fault {
     pub kind: TypeKind,
     /// A byte counted from 0.

@@ -7,7 +7,7 @@ use c_ints::Kind;
 use c_tree::CType;
 
 /// How far a conversion of a format was read.
-#[derive(Clone, Copy, Debug, PartialEq, Eq)]
+#[derive(Clone, Copy)]
 pub enum Reading {
     /// None has begun.
     Text,

@@ -7,7 +7,7 @@ use c_ints::Kind;
 use c_tree::CType;
 
 /// What an expression is found to be.
-#[derive(Debug, Drop)]
+#[derive(Drop)]
 pub enum Found {
     /// It or a part of it has faults, of which this is the first.
     Wrong(Fault),
@@ -26,7 +26,7 @@ pub enum Found {
 }
 
 /// An expression that another one is made of.
-#[derive(Debug, Drop)]
+#[derive(Drop)]
 pub struct Part {
     /// Its first byte.
     pub place: usize,

@@ -6,7 +6,7 @@ use c_tree::DefKind;
 use dsu_io::Text;
 
 /// What definitions are found by.
-#[derive(Clone, Copy, Debug, PartialEq, Eq)]
+#[derive(Clone, Copy)]
 pub(crate) enum Key {
     /// The name that it declares.
     Name,

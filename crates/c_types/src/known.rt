@@ -18,13 +18,33 @@ use std::marker::Model;
 #[derive(Drop)]
 pub struct Known<'a> {
     definitions: &'a [Def],
-    names: Scopes<usize>,
-    structs: Scopes<usize>,
-    tags: Scopes<usize>,
-    struct_transformers: Scopes<usize>,
-    global_transformers: Scopes<usize>,
+    tables: Tables,
     /// For each definition the members that it declares.
     members: Vec<Scopes<usize>>,
+}
+
+/// The first place of each name that definitions are found by.
+#[derive(Drop)]
+struct Tables {
+    names: Scopes<usize>,
+    tags: Tags,
+    transformed: Transformed,
+}
+
+/// Of the tags of structs.
+#[derive(Drop)]
+struct Tags {
+    /// Those with members.
+    defined: Scopes<usize>,
+    /// Those with members or without.
+    declared: Scopes<usize>,
+}
+
+/// Of what transformers transform.
+#[derive(Drop)]
+struct Transformed {
+    structs: Scopes<usize>,
+    globals: Scopes<usize>,
 }
 
 impl<'a> Model for Known<'a> {
@@ -40,7 +60,7 @@ impl<'a> Model for Known<'a> {
 
     ghost view = { λ k. k.definitions.now };
 
-    ghost invariant = { λ k. IsIndex k.definitions.now k.names k.structs k.tags k.struct_transformers k.global_transformers k.members.items };
+    ghost invariant = { λ k. IsIndex k.definitions.now k.tables.names k.tables.tags.defined k.tables.tags.declared k.tables.transformed.structs k.tables.transformed.globals k.members.items };
 }
 
 /// Gives a name, if there is one, its place in the table, unless the table has it.
@@ -62,6 +82,43 @@ fn table_of(alloc: Global, by: Key, definitions: &[Def]) -> Result<Scopes<usize>
         note(&mut table, key_of(by, &definitions[place].kind), place)?;
     }
     Ok(table)
+}
+
+/// The tables of the tags of structs.
+fn tags_of(alloc: Global, definitions: &[Def]) -> Result<Tags, AllocError>
+    ensures defined { IfOk result (λ tags. tags.defined ≡ table_of (keys Key.Struct definitions.now)) }
+    ensures declared { IfOk result (λ tags. tags.declared ≡ table_of (keys Key.Tag definitions.now)) }
+{
+    Ok(Tags {
+        defined: table_of(alloc, Key::Struct, definitions)?,
+        declared: table_of(alloc, Key::Tag, definitions)?,
+    })
+}
+
+/// The tables of what transformers transform.
+fn transformed_by(alloc: Global, definitions: &[Def]) -> Result<Transformed, AllocError>
+    ensures structs { IfOk result (λ them. them.structs ≡ table_of (keys Key.StructTransformer definitions.now)) }
+    ensures globals { IfOk result (λ them. them.globals ≡ table_of (keys Key.GlobalTransformer definitions.now)) }
+{
+    Ok(Transformed {
+        structs: table_of(alloc, Key::StructTransformer, definitions)?,
+        globals: table_of(alloc, Key::GlobalTransformer, definitions)?,
+    })
+}
+
+/// The tables of all names that definitions are found by.
+fn tables_of(alloc: Global, definitions: &[Def]) -> Result<Tables, AllocError>
+    ensures names { IfOk result (λ tables. tables.names ≡ table_of (keys Key.Name definitions.now)) }
+    ensures defined { IfOk result (λ tables. tables.tags.defined ≡ table_of (keys Key.Struct definitions.now)) }
+    ensures declared { IfOk result (λ tables. tables.tags.declared ≡ table_of (keys Key.Tag definitions.now)) }
+    ensures structs { IfOk result (λ tables. tables.transformed.structs ≡ table_of (keys Key.StructTransformer definitions.now)) }
+    ensures globals { IfOk result (λ tables. tables.transformed.globals ≡ table_of (keys Key.GlobalTransformer definitions.now)) }
+{
+    Ok(Tables {
+        names: table_of(alloc, Key::Name, definitions)?,
+        tags: tags_of(alloc, definitions)?,
+        transformed: transformed_by(alloc, definitions)?,
+    })
 }
 
 /// Of the names of members, the first place of each.
@@ -101,14 +158,11 @@ impl<'a> Known<'a> {
     pub fn of(alloc: Global, definitions: &'a [Def]) -> Result<Known<'a>, AllocError>
         ensures { IfOk result (λ known. known ≡ definitions.now) }
     {
+        let members = member_tables(alloc, definitions)?;
         Ok(Known {
             definitions,
-            names: table_of(alloc, Key::Name, definitions)?,
-            structs: table_of(alloc, Key::Struct, definitions)?,
-            tags: table_of(alloc, Key::Tag, definitions)?,
-            struct_transformers: table_of(alloc, Key::StructTransformer, definitions)?,
-            global_transformers: table_of(alloc, Key::GlobalTransformer, definitions)?,
-            members: member_tables(alloc, definitions)?,
+            tables: tables_of(alloc, definitions)?,
+            members,
         })
     }
 
@@ -124,11 +178,11 @@ impl<'a> Known<'a> {
         ensures { result.now ≡ table_of (keys by self.now) }
     {
         match by {
-            Key::Name => &self.names,
-            Key::Struct => &self.structs,
-            Key::Tag => &self.tags,
-            Key::StructTransformer => &self.struct_transformers,
-            Key::GlobalTransformer => &self.global_transformers,
+            Key::Name => &self.tables.names,
+            Key::Struct => &self.tables.tags.defined,
+            Key::Tag => &self.tables.tags.declared,
+            Key::StructTransformer => &self.tables.transformed.structs,
+            Key::GlobalTransformer => &self.tables.transformed.globals,
         }
     }
 

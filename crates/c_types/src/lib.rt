@@ -33,8 +33,6 @@ mod parameter;
 mod size;
 mod spot;
 mod statement;
-#[cfg(test)]
-mod tests;
 mod transformer;
 mod walk;
 mod whole;

@@ -8,7 +8,7 @@ use c_tree::{Binding, CType, DefKind, Function, Name};
 use dsu_io::List;
 
 /// Where an expression stands.
-#[derive(Clone, Copy, Debug, PartialEq, Eq)]
+#[derive(Clone, Copy)]
 pub enum Position {
     /// In a function.
     InFunction,
@@ -25,7 +25,7 @@ pub struct Names<'a> {
 }
 
 /// What a name stands for that is no struct's tag.
-#[derive(Clone, Copy, Debug)]
+#[derive(Clone, Copy)]
 pub enum Meaning<'a> {
     Variable(&'a CType),
     /// Of elements of a type.

@@ -1,8 +1,8 @@
-ghost use Rattle.std.specs.Prelude.{◌≡◌, ◌≤◌, ◌+◌, min, map};
-ghost use Rattle.c_types.specs.Need.{in_turn, need};
+ghost use Rattle.std.specs.Prelude.{◌≡◌, ◌≤◌, ◌+◌, map, max, min};
+ghost use Rattle.c_types.specs.Need.{call_need, in_turn, need};
 
 use c_tree::{Expr, ExprNode as Node};
-use dsu_io::Boxed;
+use dsu_io::{Boxed, List};
 
 /// More than any need that is allowed; greater needs aren't told apart.
 const TOO_MUCH: u32 = 65;
@@ -16,6 +16,31 @@ fn and_more(need: u32, more: u32) -> u32
     (need + more).min(TOO_MUCH)
 }
 
+/// Of two operands, of which the first is kept.
+fn operands(a: u32, b: u32) -> u32
+    requires { b ≤ 65 }
+    ensures { result ≡ max a (min (b + 1) 65) }
+{
+    a.max(and_more(b, 1))
+}
+
+/// Of a place and what is written to it.
+fn written(a: u32, b: u32) -> u32
+    requires a { a ≤ 65 }
+    requires b { b ≤ 65 }
+    ensures { result ≡ min (max a b + 2) 65 }
+{
+    and_more(a.max(b), 2)
+}
+
+/// Of a call with two arguments.
+fn called_with_two(a: u32, b: u32) -> u32
+    requires { b ≤ 65 }
+    ensures { result ≡ max a (min (max b 1 + 1) 65) }
+{
+    operands(a, b.max(1))
+}
+
 /// The operand need of an expression, or 65 where it is greater.
 #[cycle(need)]
 pub(crate) fn need(expr: &Expr) -> u32
@@ -25,21 +50,21 @@ pub(crate) fn need(expr: &Expr) -> u32
         Node::Unary(_, a) => part(a),
         Node::Step(_, a) => and_more(part(a), 2),
         Node::Cast(_, a) => part(a),
-        Node::Binary(_, a, b) => part(a).max(and_more(part(b), 1)),
+        Node::Binary(_, a, b) => operands(part(a), part(b)),
         Node::And(a, b) => part(a).max(part(b)),
         Node::Or(a, b) => part(a).max(part(b)),
         Node::Choice(a, b, c) => part(a).max(part(b).max(part(c))),
-        Node::Assign(a, b) => and_more(part(a).max(part(b)), 2),
-        Node::Update(_, a, b) => and_more(part(a).max(part(b)), 2),
-        Node::Call(_, list) => in_turn(list.as_slice()).max(1),
+        Node::Assign(a, b) => written(part(a), part(b)),
+        Node::Update(_, a, b) => written(part(a), part(b)),
+        Node::Call(_, list) => called(list),
         Node::Element(_, a) => part(a),
         Node::Arrow(a, _) => part(a),
         Node::Dot(a, _) => part(a),
-        Node::Print { arguments, .. } => in_turn(arguments.as_slice()).max(1),
+        Node::Print { arguments, .. } => called(arguments),
         Node::Free(a) => part(a).max(1),
-        Node::Create(a, _, b) => part(a).max(and_more(part(b).max(1), 1)),
+        Node::Create(a, _, b) => called_with_two(part(a), part(b)),
         Node::Join(a) => part(a).max(1),
-        Node::JoinInto(a, b) => part(a).max(and_more(part(b).max(1), 1)),
+        Node::JoinInto(a, b) => called_with_two(part(a), part(b)),
         Node::Number(_) | Node::Character(_) | Node::Null | Node::Success | Node::Error => 1,
         Node::Variable(_) | Node::Calloc(_) => 1,
         Node::InitMutex(_) | Node::Lock(_) | Node::Unlock(_) => 1,
@@ -51,6 +76,14 @@ fn part(a: &Boxed<Expr>) -> u32
     ensures { result ≡ min (need a.now) 65 }
 {
     need(a.get())
+}
+
+/// Of a call, by its arguments.
+#[cycle(need)]
+fn called(arguments: &List<Expr>) -> u32
+    ensures { result ≡ min (call_need (map need arguments.now)) 65 }
+{
+    in_turn(arguments.as_slice()).max(1)
 }
 
 /// Of expressions that are computed one after another and kept.

@@ -9,7 +9,7 @@ ghost use Rattle.c_types.specs.Views.{names_seen};
 use crate::expression::{
     called, element, field, field_of, fits, is_assigned, is_equality, is_operand, is_safe,
     is_thread_argument, is_unary_operand, meeting, named, on_mutex, passed, printed, spawned,
-    thread_parameter, type_of, unknown_tag, unless_wrong, value_of_type, where_allowed, wrong,
+    thread_parameter, unknown_tag, unless_wrong, value_like, where_allowed, wrong,
 };
 use crate::fault::{Fault, TypeKind, sooner};
 use crate::format::fits_format;
@@ -114,7 +114,7 @@ pub(crate) fn step(names: &Names, at: usize, op: StepOp, a: &Part) -> Result<Fou
     ensures { IfOk result (λ found. found ≡ (part (names_seen names.now) at (Step op a.now)).found) }
 {
     let fault = a.place_required(a.found.has_integer());
-    let own = value_of_type(&type_of(&a.found)?)?;
+    let own = value_like(&a.found)?;
     Ok(settled(names, at, fault, false, own))
 }
 
@@ -197,7 +197,7 @@ pub(crate) fn assign(names: &Names, at: usize, a: &Part, b: &Part) -> Result<Fou
         a.place_required(true),
         b.required(is_assigned(&a.found, &b.found)),
     );
-    let own = value_of_type(&type_of(&a.found)?)?;
+    let own = value_like(&a.found)?;
     Ok(settled(names, at, fault, false, own))
 }
 
@@ -215,7 +215,7 @@ pub(crate) fn update(
         a.place_required(a.found.has_integer()),
         b.required(b.found.has_integer()),
     );
-    let own = value_of_type(&type_of(&a.found)?)?;
+    let own = value_like(&a.found)?;
     Ok(settled(names, at, fault, false, own))
 }
 

@@ -18,7 +18,7 @@ use c_tree::{CType, Declaration, Expr};
 use std::alloc::{AllocError, Global};
 
 /// What a `break` or `continue` at a place belongs to.
-#[derive(Clone, Copy, Debug, PartialEq, Eq)]
+#[derive(Clone, Copy)]
 pub enum Loop {
     /// No loop encloses the place.
     Outside,

@@ -2,7 +2,7 @@ ghost use Rattle.std.specs.Prelude.{◌≡◌, ◌++◌, IfOk, OnOk, map};
 ghost use Rattle.c_types.specs.Expressions.{is_condition};
 ghost use Rattle.c_types.specs.Faults.{first};
 ghost use Rattle.c_types.specs.Found.{is_evaluated};
-ghost use Rattle.c_types.specs.Statements.{beyond, in_a_transaction, in_block, in_loop, in_order, optional, walk};
+ghost use Rattle.c_types.specs.Statements.{beyond, evaluated, in_a_transaction, in_block, in_loop, in_order, optional, walk};
 ghost use Rattle.c_types.specs.Views.{around_seen};
 
 use crate::fault::{Fault, sooner};
@@ -87,24 +87,14 @@ fn statement(
         Node::Empty | Node::Update => Ok(None),
         Node::Evaluate(expr) => stood(alloc, around, scopes, expr),
         Node::Declare(declaration) => declared(alloc, around, scopes, declaration),
-        Node::If(test, body) => {
-            let of_test = tested(alloc, around, scopes, test)?;
-            Ok(sooner(of_test, inner(alloc, around, scopes, body)?))
-        }
+        Node::If(test, body) => if_then(alloc, around, scopes, body, test),
         Node::IfElse(test, body, otherwise) => {
-            let of_test = tested(alloc, around, scopes, test)?;
-            let of_body = inner(alloc, around, scopes, body)?;
+            let of_then = if_then(alloc, around, scopes, body, test)?;
             let of_otherwise = inner(alloc, around, scopes, otherwise)?;
-            Ok(sooner(of_test, sooner(of_body, of_otherwise)))
+            Ok(sooner(of_then, of_otherwise))
         }
-        Node::While(test, body) => {
-            let of_test = tested(alloc, around, scopes, test)?;
-            Ok(sooner(of_test, repeated(alloc, around, scopes, body)?))
-        }
-        Node::DoWhile(body, test) => {
-            let of_body = repeated(alloc, around, scopes, body)?;
-            Ok(sooner(of_body, tested(alloc, around, scopes, test)?))
-        }
+        Node::While(test, body) => while_loop(alloc, around, scopes, body, test),
+        Node::DoWhile(body, test) => do_loop(alloc, around, scopes, body, test),
         Node::For(opening, test, step, body) => {
             scopes.enter()?;
             let of_opening = statements(alloc, around, scopes, opening.as_slice())?;
@@ -117,6 +107,60 @@ fn statement(
         Node::ReturnValue(expr) => value_returned(alloc, around, scopes, stmt.place, expr),
         Node::Transaction(body, _) => transaction(alloc, around, scopes, body.as_slice()),
     }
+}
+
+/// The first fault of `if (test) body`.
+#[cycle(walk)]
+fn if_then(
+    alloc: Global,
+    around: &Around,
+    scopes: &mut Scopes<CType>,
+    body: &Boxed<Stmt>,
+    test: &Expr,
+) -> Result<Option<Fault>, AllocError>
+    ensures fault { let around = around_seen around.now scopes.old in
+        IfOk result (λ fault. fault ≡ first (evaluated is_condition around test.now ++ (walk body.now (in_block around)).faults)) }
+    ensures scopes { OnOk result (scopes.new ≡ scopes.old) }
+{
+    let of_test = tested(alloc, around, scopes, test)?;
+    let of_body = inner(alloc, around, scopes, body)?;
+    Ok(sooner(of_test, of_body))
+}
+
+/// The first fault of `while (test) body`.
+#[cycle(walk)]
+fn while_loop(
+    alloc: Global,
+    around: &Around,
+    scopes: &mut Scopes<CType>,
+    body: &Boxed<Stmt>,
+    test: &Expr,
+) -> Result<Option<Fault>, AllocError>
+    ensures fault { let around = around_seen around.now scopes.old in
+        IfOk result (λ fault. fault ≡ first (evaluated is_condition around test.now ++ (walk body.now (in_block (in_loop around))).faults)) }
+    ensures scopes { OnOk result (scopes.new ≡ scopes.old) }
+{
+    let of_test = tested(alloc, around, scopes, test)?;
+    let of_body = repeated(alloc, around, scopes, body)?;
+    Ok(sooner(of_test, of_body))
+}
+
+/// The first fault of `do body while (test);`.
+#[cycle(walk)]
+fn do_loop(
+    alloc: Global,
+    around: &Around,
+    scopes: &mut Scopes<CType>,
+    body: &Boxed<Stmt>,
+    test: &Expr,
+) -> Result<Option<Fault>, AllocError>
+    ensures fault { let around = around_seen around.now scopes.old in
+        IfOk result (λ fault. fault ≡ first ((walk body.now (in_block (in_loop around))).faults ++ evaluated is_condition around test.now)) }
+    ensures scopes { OnOk result (scopes.new ≡ scopes.old) }
+{
+    let of_body = repeated(alloc, around, scopes, body)?;
+    let of_test = tested(alloc, around, scopes, test)?;
+    Ok(sooner(of_body, of_test))
 }
 
 /// The first fault of the statements of a block.

@@ -4,6 +4,7 @@ ghost use Rattle.c_types.specs.declared.fault.TypeFault.TheVariants.{Refused, Me
 ghost use Rattle.c_types.specs.Definitions.{Types, all_faults, defines_main, first_fault, is_main, main_faults, name_place};
 ghost use Rattle.c_types.specs.Faults.{first};
 ghost use Rattle.c_types.specs.Lookup.{definition_of, name_of};
+ghost use Rattle.c_types.specs.Statements.{hiding};
 ghost use Rattle.c_types.specs.Views.{meaning_seen};
 
 use crate::definition::kind_fault;
@@ -124,14 +125,22 @@ fn definitions_fault(alloc: Global, known: &Known) -> Result<Option<Fault>, Allo
     Ok(fault)
 }
 
-/// The first fault of a text.
+/// The first fault of a text with an end: faults of its definitions hide that of `main`.
 #[tactic(auto, using(crate::proofs::Firsts::first_hiding))]
+fn text_fault(alloc: Global, known: &Known, end: usize) -> Result<Option<Fault>, AllocError>
+    ensures { IfOk result (λ fault. fault
+        ≡ first (hiding (all_faults known.now [] known.now) (main_faults end (definition_of known.now (codes "main"))))) }
+{
+    let parts = definitions_fault(alloc, known)?;
+    Ok(hiding(parts, main_fault(known, end)))
+}
+
+/// The first fault of a text.
 fn first_fault(alloc: Global, program: &Program) -> Result<Option<Fault>, AllocError>
     ensures { IfOk result (λ fault. fault ≡ first_fault program.now) }
 {
     let known = Known::of(alloc, program.definitions.as_slice())?;
-    let parts = definitions_fault(alloc, &known)?;
-    Ok(hiding(parts, main_fault(&known, program.end)))
+    text_fault(alloc, &known, program.end)
 }
 
 /// Checks the types and limits of a text (6.5 to 6.9). It is refused with the fault whose place is least, and among those

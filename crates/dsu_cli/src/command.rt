@@ -15,7 +15,7 @@ pub const MOST_SEED: u64 = i64::MAX as u64;
 pub const MOST_SIZE: u64 = 200;
 
 /// The commands, by their first word.
-#[derive(Debug, Clone, Copy)]
+#[derive(Clone, Copy)]
 pub enum Command {
     Run,
     Replay,

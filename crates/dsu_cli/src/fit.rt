@@ -7,7 +7,7 @@ use crate::setting::Setting;
 use dsu_io::Text;
 
 /// What the words read so far come to.
-#[derive(Debug, Clone, Copy)]
+#[derive(Clone, Copy)]
 pub struct Seen {
     /// The option that waits for its value.
     pub waiting: Option<Setting>,

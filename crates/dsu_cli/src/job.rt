@@ -2,14 +2,14 @@ use dsu_io::{List, Text};
 use thiserror::Error;
 
 /// A newer text, and the number of printed lines behind which it is offered.
-#[derive(Debug, Drop)]
+#[derive(Drop)]
 pub struct Offer {
     pub file: Text,
     pub lines: u32,
 }
 
 /// `run`: a program's text and how it is run.
-#[derive(Debug, Drop)]
+#[derive(Drop)]
 pub struct RunJob {
     pub file: Text,
     /// In the order of the words.
@@ -25,7 +25,7 @@ pub struct RunJob {
 }
 
 /// `replay`: a program's text and the journal of its run.
-#[derive(Debug, Drop)]
+#[derive(Drop)]
 pub struct ReplayJob {
     pub file: Text,
     pub journal: Text,
@@ -36,7 +36,7 @@ pub struct ReplayJob {
 }
 
 /// What the words ask for.
-#[derive(Debug, Drop)]
+#[derive(Drop)]
 pub enum Job {
     Run(RunJob),
     Replay(ReplayJob),

@@ -18,8 +18,6 @@ mod number;
 mod read;
 mod setting;
 mod sorted;
-#[cfg(test)]
-mod tests;
 
 pub use job::{CliFault, Job, Offer, ReplayJob, RunJob};
 pub use read::read_words;

@@ -13,7 +13,7 @@ pub const MOST_OBJECTS: u64 = 65_536;
 pub const MOST_LINES: u64 = 1_000_000;
 
 /// The options that have a value.
-#[derive(Debug, Clone, Copy)]
+#[derive(Clone, Copy)]
 pub enum Setting {
     Offer,
     Workers,

@@ -30,6 +30,3 @@ pub use sink::{Failed, Sink, put, put_all};
 pub use std_files::StdFiles;
 pub use std_sink::StdSink;
 pub use text::Text;
-
-#[cfg(test)]
-mod tests;

@@ -7,7 +7,7 @@ use crate::{FileFault, Files};
 use std::marker::Model;
 
 /// Files in memory. The reads whose numbers are listed fail, and those of names that it doesn't have.
-#[derive(Debug, Drop)]
+#[derive(Drop)]
 pub struct MemoryFiles {
     files: Vec<(String, Vec<u8>)>,
     failing: Vec<u64>,

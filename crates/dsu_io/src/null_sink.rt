@@ -7,7 +7,7 @@ use crate::{Failed, Sink};
 use std::marker::Model;
 
 /// A sink that drops what it is given, never fails, and counts its bytes.
-#[derive(Clone, Copy, Debug)]
+#[derive(Clone, Copy)]
 pub struct NullSink {
     written: u64,
 }

@@ -21,6 +21,3 @@ pub use fault::{FaultLine, LineWord, PlaceWord};
 pub use place::{Place, place_of};
 pub use status::ending_status;
 pub use write::{USAGE, write_fault};
-
-#[cfg(test)]
-mod tests;

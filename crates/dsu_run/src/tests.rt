@@ -1,4 +1,7 @@
+//! What no clause says: the texts, byte for byte, and that calls succeed with ample memory. Each row of the tables below is a
+//! call of `dsu_main`, and what it comes to.
 use crate::outcome::Outcome;
+use crate::tests::Came::{Cut, Fault, Names, Overflow, Prints, Usage};
 use crate::top::dsu_main;
 use bytecode::{Ending, Event, TrapKind};
 use dsu_io::{MemoryFiles, MemorySink, Text};
@@ -12,15 +15,6 @@ const OVERFLOW: &str = "int main(void) { printf(\"%d\\n\", 2147483647+1); return
 
 const LEFT_FIRST: &str = "int main(void) { printf(\"%d\\n\", 1-2-3); return 0; }";
 
-/// A command line over one file in memory, and what it is to come to.
-struct Case {
-    words: &'static [&'static str],
-    file: &'static str,
-    status: u8,
-    out: &'static str,
-    err: &'static str,
-}
-
 const USAGE: &str = "\
 usage: ginseng run FILE [--offer FILE@LINES]... [--workers W] [--moves N] [--objects N] [--journal]
        ginseng replay FILE JOURNAL [--offer FILE@LINES]... [--objects N]
@@ -30,308 +24,15 @@ usage: ginseng run FILE [--offer FILE@LINES]... [--workers W] [--moves N] [--obj
        ginseng gen SEED SIZE
 ";
 
-const CASES: [Case; 43] = [
-    Case {
-        words: &["run", "x.c"],
-        file: "int x = 08;",
-        status: 11,
-        out: "",
-        err: "x.c:1:9: bad literal\n",
-    },
-    Case {
-        words: &["run", "x.c"],
-        file: "/* open",
-        status: 11,
-        out: "",
-        err: "x.c:1:1: bad byte\n",
-    },
-    Case {
-        words: &["run", "x.c"],
-        file: "#define A",
-        status: 11,
-        out: "",
-        err: "x.c:1:1: directive\n",
-    },
-    Case {
-        words: &["run", "x.c"],
-        file: "int a;\n\n  @",
-        status: 11,
-        out: "",
-        err: "x.c:3:3: bad byte\n",
-    },
-    Case {
-        words: &["run", "x.c"],
-        file: "// h\u{e9}\n/* \u{e9} */ \"open",
-        status: 11,
-        out: "",
-        err: "x.c:2:10: bad literal\n",
-    },
-    Case {
-        words: &["run", "x.c"],
-        file: "#include <stdio.h>\nint main(void) { /* six */ printf(\"%d\\n\", 2 * 3); return 0; } // end",
-        status: 0,
-        out: "6\n",
-        err: "# finished 0\n",
-    },
-    Case {
-        words: &["run", "x.c"],
-        file: P1,
-        status: 0,
-        out: "14\n",
-        err: "# finished 0\n",
-    },
-    Case {
-        words: &["run", "x.c"],
-        file: OVERFLOW,
-        status: 1,
-        out: "",
-        err: "# trap overflow thread 0\n",
-    },
-    Case {
-        words: &["run", "x.c"],
-        file: LEFT_FIRST,
-        status: 0,
-        out: "-4\n",
-        err: "# finished 0\n",
-    },
-    Case {
-        words: &["run", "x.c"],
-        file: "int main ( void )\n{ printf ( \"%d\\n\" , 7 * 6 - 2 * 3 + 1 ) ; return 0 ; }\n",
-        status: 0,
-        out: "37\n",
-        err: "# finished 0\n",
-    },
-    Case {
-        words: &["run", "x.c"],
-        file: "int main(void) { printf(\"%d\\n\", 1-2147483647-2); return 0; }",
-        status: 0,
-        out: "-2147483648\n",
-        err: "# finished 0\n",
-    },
-    Case {
-        words: &["run", "x.c"],
-        file: "int main(void) { printf(\"%d\\n\", 1-2147483647-3+1*1); return 0; }",
-        status: 1,
-        out: "",
-        err: "# trap overflow thread 0\n",
-    },
-    Case {
-        words: &["run", "x.c"],
-        file: "int main(void) { printf(\"%d\\n\", 65536*65536); return 0; }",
-        status: 1,
-        out: "",
-        err: "# trap overflow thread 0\n",
-    },
-    Case {
-        words: &["run", "x.c"],
-        file: "",
-        status: 11,
-        out: "",
-        err: "x.c:1:1: no main\n",
-    },
-    Case {
-        words: &["run", "x.c"],
-        file: "int main(void) { printf(\"%d\\n\", 2+); return 0; }",
-        status: 11,
-        out: "",
-        err: "x.c:1:35: syntax\n",
-    },
-    Case {
-        words: &["run", "x.c"],
-        file: "int main(void) { printf(\"%d\\n\", 2147483648); return 0; }",
-        status: 11,
-        out: "",
-        err: "x.c:1:25: bad printf format\n",
-    },
-    Case {
-        words: &["run", "x.c"],
-        file: "int main(void) { printf(\"%d\\n\", 0); return 0; }",
-        status: 11,
-        out: "",
-        err: "x.c: refused\n",
-    },
-    Case {
-        words: &["run", "y.c"],
-        file: P1,
-        status: 12,
-        out: "",
-        err: "y.c: read fault\n",
-    },
-    Case {
-        words: &[],
-        file: P1,
-        status: 10,
-        out: "",
-        err: USAGE,
-    },
-    Case {
-        words: &["run"],
-        file: P1,
-        status: 10,
-        out: "",
-        err: USAGE,
-    },
-    Case {
-        words: &["run", "--help"],
-        file: P1,
-        status: 10,
-        out: "",
-        err: USAGE,
-    },
-    Case {
-        words: &["run", "x.c", "x.c"],
-        file: P1,
-        status: 10,
-        out: "",
-        err: USAGE,
-    },
-    Case {
-        words: &["runs", "x.c"],
-        file: P1,
-        status: 10,
-        out: "",
-        err: USAGE,
-    },
-    Case {
-        words: &["run", ""],
-        file: P1,
-        status: 10,
-        out: "",
-        err: USAGE,
-    },
-    Case {
-        words: &["run", "x.c", "--moves", "5"],
-        file: P1,
-        status: 10,
-        out: "",
-        err: USAGE,
-    },
-    Case {
-        words: &["run", "x.c", "--moves=1000000"],
-        file: P1,
-        status: 10,
-        out: "",
-        err: USAGE,
-    },
-    Case {
-        words: &["run", "--journal", "x.c"],
-        file: P1,
-        status: 10,
-        out: "",
-        err: USAGE,
-    },
-    Case {
-        words: &["effects", "x.c"],
-        file: P1,
-        status: 10,
-        out: "",
-        err: USAGE,
-    },
-    Case {
-        words: &["run", "x.c"],
-        file: "int main(void) { return 1",
-        status: 11,
-        out: "",
-        err: "x.c:1:26: syntax\n",
-    },
-    Case {
-        words: &["check", "x.c"],
-        file: "int main(void) { while (",
-        status: 11,
-        out: "",
-        err: "x.c:1:25: syntax\n",
-    },
-    Case {
-        words: &["run", "x.c"],
-        file: "int main(void) { return 0; }",
-        status: 11,
-        out: "",
-        err: "x.c: refused\n",
-    },
-    Case {
-        words: &["check", "x.c"],
-        file: "",
-        status: 11,
-        out: "",
-        err: "x.c:1:1: no main\n",
-    },
-    Case {
-        words: &["check", "x.c"],
-        file: "int h(void) { return 0; }\nint g(void) { return 1; }\nint f(void) { return g(); }\nint main(void) {\n  dsu_tx {\n    printf(\"start\\n\");\n    h();\n    printf(\"%d\\n\", g());\n    printf(\"%d\\n\", f());\n  }\n  return 0;\n}\n",
-        status: 0,
-        out: "ok 4 names\n",
-        err: "",
-    },
-    Case {
-        words: &["check", "x.c"],
-        file: P1,
-        status: 0,
-        out: "ok 1 names\n",
-        err: "",
-    },
-    Case {
-        words: &["check", "x.c"],
-        file: "struct s; struct s { int a; }; int f(void); int x, y[2]; mtx_t m; int f(void) { return 0; } int main(void) { return 0; } dsu_transform x = old;",
-        status: 0,
-        out: "ok 6 names\n",
-        err: "",
-    },
-    Case {
-        words: &["check", "x.c"],
-        file: "int main(void) { return x; }",
-        status: 11,
-        out: "",
-        err: "x.c:1:25: unknown name\n",
-    },
-    Case {
-        words: &["check", "x.c"],
-        file: "int main(void) { dsu_tx { return 0; } }",
-        status: 11,
-        out: "",
-        err: "x.c:1:27: leaves a transaction\n",
-    },
-    Case {
-        words: &["check", "x.c"],
-        file: "int main(void) { printf(\"%u\\n\", 4294967295); return 0; }",
-        status: 11,
-        out: "",
-        err: "x.c:1:25: bad printf format\n",
-    },
-    Case {
-        words: &["check", "x.c"],
-        file: "int f(int a) { return a; } int main(void) { return f(); }",
-        status: 11,
-        out: "",
-        err: "x.c:1:52: wrong number of arguments\n",
-    },
-    Case {
-        words: &["check", "y.c"],
-        file: P1,
-        status: 12,
-        out: "",
-        err: "y.c: read fault\n",
-    },
-    Case {
-        words: &["check"],
-        file: P1,
-        status: 10,
-        out: "",
-        err: USAGE,
-    },
-    Case {
-        words: &["check", "--journal", "x.c"],
-        file: P1,
-        status: 10,
-        out: "",
-        err: USAGE,
-    },
-    Case {
-        words: &["gen", "7", "0"],
-        file: P1,
-        status: 10,
-        out: "",
-        err: USAGE,
-    },
+/// The events of a run up to its print.
+const TO_PRINT: [Event; 3] = [Event::Move(0), Event::CheckIn(0), Event::Move(0)];
+
+/// The events of a run to its end.
+const TO_END: [Event; 4] = [
+    Event::Move(0),
+    Event::CheckIn(0),
+    Event::Move(0),
+    Event::Move(0),
 ];
 
 /// The numbers of the calls that fail.
@@ -342,255 +43,429 @@ struct Failing {
     reports: &'static [u64],
 }
 
-const NOTHING: Failing = Failing {
+const QUIET: Failing = Failing {
     reads: &[],
     prints: &[],
     reports: &[],
 };
 
-/// What a call came to, with what is on standard error.
+/// What a call came to.
+#[derive(Clone, Copy)]
+enum Came {
+    /// The usage on standard error.
+    Usage,
+    /// A fault: its status, and what is on standard error.
+    Fault(u8, &'static str),
+    /// A check: what it prints.
+    Names(&'static str),
+    /// A run that finished: what it prints.
+    Prints(&'static str),
+    /// A run whose expression has no value.
+    Overflow,
+    /// An output that failed: what is on standard output and on standard error, and the events.
+    Cut(&'static str, &'static str, &'static [Event]),
+}
+
+/// The words, the text of the one file, `x.c`, the calls that fail, and what it comes to.
+type Call = (&'static [&'static str], &'static str, Failing, Came);
+
+static CALLS: [Call; 52] = [
+    (
+        &["run", "x.c"],
+        "int x = 08;",
+        QUIET,
+        Fault(11, "x.c:1:9: bad literal\n"),
+    ),
+    (
+        &["run", "x.c"],
+        "/* open",
+        QUIET,
+        Fault(11, "x.c:1:1: bad byte\n"),
+    ),
+    (
+        &["run", "x.c"],
+        "#define A",
+        QUIET,
+        Fault(11, "x.c:1:1: directive\n"),
+    ),
+    (
+        &["run", "x.c"],
+        "int a;\n\n  @",
+        QUIET,
+        Fault(11, "x.c:3:3: bad byte\n"),
+    ),
+    (
+        &["run", "x.c"],
+        "// h\u{e9}\n/* \u{e9} */ \"open",
+        QUIET,
+        Fault(11, "x.c:2:10: bad literal\n"),
+    ),
+    (
+        &["run", "x.c"],
+        "#include <stdio.h>\nint main(void) { /* six */ printf(\"%d\\n\", 2 * 3); return 0; } // end",
+        QUIET,
+        Prints("6\n"),
+    ),
+    (&["run", "x.c"], P1, QUIET, Prints("14\n")),
+    (&["run", "x.c"], OVERFLOW, QUIET, Overflow),
+    (&["run", "x.c"], LEFT_FIRST, QUIET, Prints("-4\n")),
+    (
+        &["run", "x.c"],
+        "int main ( void )\n{ printf ( \"%d\\n\" , 7 * 6 - 2 * 3 + 1 ) ; return 0 ; }\n",
+        QUIET,
+        Prints("37\n"),
+    ),
+    (
+        &["run", "x.c"],
+        "int main(void) { printf(\"%d\\n\", 1-2147483647-2); return 0; }",
+        QUIET,
+        Prints("-2147483648\n"),
+    ),
+    (
+        &["run", "x.c"],
+        "int main(void) { printf(\"%d\\n\", 1-2147483647-3+1*1); return 0; }",
+        QUIET,
+        Overflow,
+    ),
+    (
+        &["run", "x.c"],
+        "int main(void) { printf(\"%d\\n\", 65536*65536); return 0; }",
+        QUIET,
+        Overflow,
+    ),
+    (&["run", "x.c"], "", QUIET, Fault(11, "x.c:1:1: no main\n")),
+    (
+        &["run", "x.c"],
+        "int main(void) { printf(\"%d\\n\", 2+); return 0; }",
+        QUIET,
+        Fault(11, "x.c:1:35: syntax\n"),
+    ),
+    (
+        &["run", "x.c"],
+        "int main(void) { printf(\"%d\\n\", 2147483648); return 0; }",
+        QUIET,
+        Fault(11, "x.c:1:25: bad printf format\n"),
+    ),
+    (
+        &["run", "x.c"],
+        "int main(void) { printf(\"%d\\n\", 0); return 0; }",
+        QUIET,
+        Fault(11, "x.c: refused\n"),
+    ),
+    (&["run", "y.c"], P1, QUIET, Fault(12, "y.c: read fault\n")),
+    (&[], P1, QUIET, Usage),
+    (&["run"], P1, QUIET, Usage),
+    (&["run", "--help"], P1, QUIET, Usage),
+    (&["run", "x.c", "x.c"], P1, QUIET, Usage),
+    (&["runs", "x.c"], P1, QUIET, Usage),
+    (&["run", ""], P1, QUIET, Usage),
+    (&["run", "x.c", "--moves", "5"], P1, QUIET, Usage),
+    (&["run", "x.c", "--moves=1000000"], P1, QUIET, Usage),
+    (&["run", "--journal", "x.c"], P1, QUIET, Usage),
+    (&["effects", "x.c"], P1, QUIET, Usage),
+    (
+        &["run", "x.c"],
+        "int main(void) { return 1",
+        QUIET,
+        Fault(11, "x.c:1:26: syntax\n"),
+    ),
+    (
+        &["check", "x.c"],
+        "int main(void) { while (",
+        QUIET,
+        Fault(11, "x.c:1:25: syntax\n"),
+    ),
+    (
+        &["run", "x.c"],
+        "int main(void) { return 0; }",
+        QUIET,
+        Fault(11, "x.c: refused\n"),
+    ),
+    (
+        &["check", "x.c"],
+        "",
+        QUIET,
+        Fault(11, "x.c:1:1: no main\n"),
+    ),
+    (
+        &["check", "x.c"],
+        "int h(void) { return 0; }\nint g(void) { return 1; }\nint f(void) { return g(); }\nint main(void) {\n  dsu_tx {\n    printf(\"start\\n\");\n    h();\n    printf(\"%d\\n\", g());\n    printf(\"%d\\n\", f());\n  }\n  return 0;\n}\n",
+        QUIET,
+        Names("ok 4 names\n"),
+    ),
+    (&["check", "x.c"], P1, QUIET, Names("ok 1 names\n")),
+    (
+        &["check", "x.c"],
+        "struct s; struct s { int a; }; int f(void); int x, y[2]; mtx_t m; int f(void) { return 0; } int main(void) { return 0; } dsu_transform x = old;",
+        QUIET,
+        Names("ok 6 names\n"),
+    ),
+    (
+        &["check", "x.c"],
+        "int main(void) { return x; }",
+        QUIET,
+        Fault(11, "x.c:1:25: unknown name\n"),
+    ),
+    (
+        &["check", "x.c"],
+        "int main(void) { dsu_tx { return 0; } }",
+        QUIET,
+        Fault(11, "x.c:1:27: leaves a transaction\n"),
+    ),
+    (
+        &["check", "x.c"],
+        "int main(void) { printf(\"%u\\n\", 4294967295); return 0; }",
+        QUIET,
+        Fault(11, "x.c:1:25: bad printf format\n"),
+    ),
+    (
+        &["check", "x.c"],
+        "int f(int a) { return a; } int main(void) { return f(); }",
+        QUIET,
+        Fault(11, "x.c:1:52: wrong number of arguments\n"),
+    ),
+    (&["check", "y.c"], P1, QUIET, Fault(12, "y.c: read fault\n")),
+    (&["check"], P1, QUIET, Usage),
+    (&["check", "--journal", "x.c"], P1, QUIET, Usage),
+    (&["gen", "7", "0"], P1, QUIET, Usage),
+    (
+        &["run", "x.c"],
+        P1,
+        Failing {
+            reads: &[1],
+            prints: &[],
+            reports: &[],
+        },
+        Fault(12, "x.c: read fault\n"),
+    ),
+    (
+        &["run", "x.c"],
+        P1,
+        Failing {
+            reads: &[],
+            prints: &[1],
+            reports: &[],
+        },
+        Cut("", "write fault\n", &TO_PRINT),
+    ),
+    (
+        &["run", "x.c"],
+        P1,
+        Failing {
+            reads: &[],
+            prints: &[2],
+            reports: &[],
+        },
+        Cut("14", "write fault\n", &TO_PRINT),
+    ),
+    (
+        &["run", "x.c"],
+        P1,
+        Failing {
+            reads: &[],
+            prints: &[],
+            reports: &[1],
+        },
+        Cut("14\n", "", &TO_END),
+    ),
+    (
+        &["run", "x.c"],
+        P1,
+        Failing {
+            reads: &[],
+            prints: &[],
+            reports: &[3],
+        },
+        Cut("14\n", "# finished 0", &TO_END),
+    ),
+    (
+        &["run", "x.c"],
+        P1,
+        Failing {
+            reads: &[],
+            prints: &[2],
+            reports: &[1],
+        },
+        Cut("14", "", &TO_PRINT),
+    ),
+    (
+        &["run", "x.c"],
+        "int",
+        Failing {
+            reads: &[],
+            prints: &[],
+            reports: &[2],
+        },
+        Fault(11, "x.c"),
+    ),
+    (
+        &["check", "x.c"],
+        P1,
+        Failing {
+            reads: &[],
+            prints: &[3],
+            reports: &[],
+        },
+        Cut("ok 1", "write fault\n", &[]),
+    ),
+    (
+        &["check"],
+        P1,
+        Failing {
+            reads: &[],
+            prints: &[],
+            reports: &[1],
+        },
+        Fault(10, ""),
+    ),
+];
+
+/// What comes behind 64 `(`.
+const CLOSED: &str = "1\
+    ))))))))))))))))\
+    ))))))))))))))))\
+    ))))))))))))))))\
+    ))))))))))))))))\
+    ; int main(void) { return 0; }";
+
+/// A text: its front, a piece, how often that comes, and the rest.
+type Parts = (&'static str, &'static str, usize, &'static str);
+
+/// The words, the text of `x.c`, and what it comes to.
+type Long = (&'static [&'static str], Parts, Came);
+
+static LONG: [Long; 6] = [
+    (
+        &["run", "x.c"],
+        (P1, " ", TEXT_LIMIT - P1.len(), ""),
+        Prints("14\n"),
+    ),
+    (
+        &["run", "x.c"],
+        (P1, " ", TEXT_LIMIT - P1.len(), " "),
+        Fault(15, "x.c: too long\n"),
+    ),
+    (
+        &["run", "x.c"],
+        ("", ";", 65_536, ""),
+        Fault(11, "x.c:1:1: syntax\n"),
+    ),
+    (
+        &["run", "x.c"],
+        ("", ";", 65_536, "\n;"),
+        Fault(11, "x.c:2:1: too many tokens\n"),
+    ),
+    (
+        &["check", "x.c"],
+        ("int x = ", "(", 64, CLOSED),
+        Names("ok 2 names\n"),
+    ),
+    (
+        &["check", "x.c"],
+        ("int x = ", "(", 65, "1"),
+        Fault(11, "x.c:1:74: nested too deep\n"),
+    ),
+];
+
+/// An outcome, with what is on standard error.
 #[derive(Drop)]
 struct Seen {
     outcome: Outcome<MemorySink>,
     err: MemorySink,
 }
 
-// Makes the call over one file in memory, `x.c`.
-fn call(alloc: Global, words: &[&str], file: &[u8], failing: Failing) -> Result<Seen, AllocError> {
+fn words_of(alloc: Global, words: &[&str]) -> Result<Vec<Text>, AllocError> {
     let mut texts = Vec::new(alloc);
     for word in words {
         texts.push(Text::of(alloc, word)?)?;
     }
-    let mut held = Vec::new(alloc);
-    held.push((String::from_str(alloc, "x.c")?, file.to_vec(alloc)?))?;
-    let mut files = MemoryFiles::of(held, failing.reads.to_vec(alloc)?);
-    let out = MemorySink::with_room(alloc, 100, failing.prints.to_vec(alloc)?)?;
-    let mut err = MemorySink::with_room(alloc, 1000, failing.reports.to_vec(alloc)?)?;
-    let outcome = dsu_main(alloc, &texts, &mut files, out, &mut err);
+    Ok(texts)
+}
+
+fn file_of(alloc: Global, text: &str, reads: &[u64]) -> Result<MemoryFiles, AllocError> {
+    let text = text.as_bytes().to_vec(alloc)?;
+    let files = vec![in alloc; (String::from_str(alloc, "x.c")?, text)]?;
+    Ok(MemoryFiles::of(files, reads.to_vec(alloc)?))
+}
+
+fn sink_of(alloc: Global, failing: &[u64]) -> Result<MemorySink, AllocError> {
+    MemorySink::with_room(alloc, 1000, failing.to_vec(alloc)?)
+}
+
+// Makes the call over one file in memory, `x.c`.
+fn call(alloc: Global, words: &[&str], text: &str, failing: Failing) -> Result<Seen, AllocError> {
+    let words = words_of(alloc, words)?;
+    let mut files = file_of(alloc, text, failing.reads)?;
+    let out = sink_of(alloc, failing.prints)?;
+    let mut err = sink_of(alloc, failing.reports)?;
+    let outcome = dsu_main(alloc, &words, &mut files, out, &mut err);
     Ok(Seen { outcome, err })
 }
 
-#[test]
-fn each_command_line_comes_to_its_status_and_texts(rt: HostRuntime) -> Result<(), Fail> {
-    for case in &CASES {
-        let seen = call(rt.alloc(), case.words, case.file.as_bytes(), NOTHING)?;
-        assert_eq!(rt; seen.outcome.status, case.status);
-        assert_eq!(rt; seen.outcome.out.bytes(), case.out.as_bytes());
-        assert_eq!(rt; seen.err.bytes(), case.err.as_bytes());
+impl Seen {
+    fn is(&self, status: u8, out: &str, err: &str, events: &[Event], end: Option<Ending>) -> bool {
+        self.outcome.status == status
+            && self.outcome.out.bytes() == out.as_bytes()
+            && self.err.bytes() == err.as_bytes()
+            && self.outcome.history.as_slice() == events
+            && self.outcome.ending == end
     }
-    Ok(())
-}
 
-const TO_PRINT: [Event; 3] = [Event::Move(0), Event::CheckIn(0), Event::Move(0)];
-
-const TO_END: [Event; 4] = [
-    Event::Move(0),
-    Event::CheckIn(0),
-    Event::Move(0),
-    Event::Move(0),
-];
-
-#[test]
-fn a_run_is_told_by_its_events_and_ending(rt: HostRuntime) -> Result<(), Fail> {
-    let whole = call(rt.alloc(), &["run", "x.c"], P1.as_bytes(), NOTHING)?;
-    assert_eq!(rt; whole.outcome.history.as_slice(), TO_END.as_slice());
-    assert_eq!(rt; whole.outcome.ending, Some(Ending::Finished(0)));
-    let trapped = call(rt.alloc(), &["run", "x.c"], OVERFLOW.as_bytes(), NOTHING)?;
-    assert_eq!(rt; trapped.outcome.history.as_slice(), TO_PRINT.as_slice());
-    assert_eq!(rt;
-        trapped.outcome.ending,
-        Some(Ending::Trap(TrapKind::Overflow, 0))
-    );
-    let refused = call(rt.alloc(), &["run", "x.c"], b"", NOTHING)?;
-    assert_eq!(rt; refused.outcome.history.len(), 0);
-    assert_eq!(rt; refused.outcome.ending, None);
-    let checked = call(rt.alloc(), &["check", "x.c"], P1.as_bytes(), NOTHING)?;
-    assert_eq!(rt; checked.outcome.history.len(), 0);
-    assert_eq!(rt; checked.outcome.ending, None);
-    Ok(())
-}
-
-/// A run of p1.c in which a call fails, and what it is to come to.
-struct Failure {
-    failing: Failing,
-    status: u8,
-    out: &'static str,
-    err: &'static str,
-    events: &'static [Event],
-}
-
-const FAILURES: [Failure; 6] = [
-    Failure {
-        failing: Failing {
-            reads: &[1],
-            prints: &[],
-            reports: &[],
-        },
-        status: 12,
-        out: "",
-        err: "x.c: read fault\n",
-        events: &[],
-    },
-    Failure {
-        failing: Failing {
-            reads: &[],
-            prints: &[1],
-            reports: &[],
-        },
-        status: 13,
-        out: "",
-        err: "write fault\n",
-        events: &TO_PRINT,
-    },
-    Failure {
-        failing: Failing {
-            reads: &[],
-            prints: &[2],
-            reports: &[],
-        },
-        status: 13,
-        out: "14",
-        err: "write fault\n",
-        events: &TO_PRINT,
-    },
-    Failure {
-        failing: Failing {
-            reads: &[],
-            prints: &[],
-            reports: &[1],
-        },
-        status: 13,
-        out: "14\n",
-        err: "",
-        events: &TO_END,
-    },
-    Failure {
-        failing: Failing {
-            reads: &[],
-            prints: &[],
-            reports: &[3],
-        },
-        status: 13,
-        out: "14\n",
-        err: "# finished 0",
-        events: &TO_END,
-    },
-    Failure {
-        failing: Failing {
-            reads: &[],
-            prints: &[2],
-            reports: &[1],
-        },
-        status: 13,
-        out: "14",
-        err: "",
-        events: &TO_PRINT,
-    },
-];
-
-#[test]
-fn each_call_that_fails_has_its_status(rt: HostRuntime) -> Result<(), Fail> {
-    for failure in &FAILURES {
-        let seen = call(rt.alloc(), &["run", "x.c"], P1.as_bytes(), failure.failing)?;
-        assert_eq!(rt; seen.outcome.status, failure.status);
-        assert_eq!(rt; seen.outcome.out.bytes(), failure.out.as_bytes());
-        assert_eq!(rt; seen.err.bytes(), failure.err.as_bytes());
-        assert_eq!(rt; seen.outcome.history.as_slice(), failure.events);
-        assert_eq!(rt; seen.outcome.ending, None);
-    }
-    Ok(())
-}
-
-#[test]
-fn a_fault_stays_where_standard_error_fails(rt: HostRuntime) -> Result<(), Fail> {
-    let first = Failing {
-        reads: &[],
-        prints: &[],
-        reports: &[1],
-    };
-    let second = Failing {
-        reads: &[],
-        prints: &[],
-        reports: &[2],
-    };
-    let usage = call(rt.alloc(), &["check"], P1.as_bytes(), first)?;
-    assert_eq!(rt; usage.outcome.status, 10);
-    assert_eq!(rt; usage.err.bytes(), b"".as_slice());
-    let refused = call(rt.alloc(), &["run", "x.c"], b"int", second)?;
-    assert_eq!(rt; refused.outcome.status, 11);
-    assert_eq!(rt; refused.err.bytes(), b"x.c".as_slice());
-    Ok(())
-}
-
-#[test]
-fn a_text_has_at_most_its_limit_of_bytes(rt: HostRuntime) -> Result<(), Fail> {
-    let alloc = rt.alloc();
-    let mut text = P1.as_bytes().to_vec(alloc)?;
-    text.resize(TEXT_LIMIT, b' ')?;
-    let longest = call(alloc, &["run", "x.c"], &text, NOTHING)?;
-    assert_eq!(rt; longest.outcome.status, 0);
-    assert_eq!(rt; longest.outcome.out.bytes(), b"14\n".as_slice());
-    text.push(b' ')?;
-    let longer = call(alloc, &["run", "x.c"], &text, NOTHING)?;
-    assert_eq!(rt; longer.outcome.status, 15);
-    assert_eq!(rt; longer.err.bytes(), b"x.c: too long\n".as_slice());
-    assert_eq!(rt; longer.outcome.out.bytes(), b"".as_slice());
-    Ok(())
-}
-
-#[test]
-fn a_text_has_at_most_its_limit_of_tokens(rt: HostRuntime) -> Result<(), Fail> {
-    let alloc = rt.alloc();
-    let mut text = Vec::new(alloc);
-    text.resize(65_536, b';')?;
-    let most = call(alloc, &["run", "x.c"], &text, NOTHING)?;
-    assert_eq!(rt; most.err.bytes(), b"x.c:1:1: syntax\n".as_slice());
-    text.push(b'\n')?;
-    text.push(b';')?;
-    let more = call(alloc, &["run", "x.c"], &text, NOTHING)?;
-    assert_eq!(rt; more.outcome.status, 11);
-    assert_eq!(rt; more.err.bytes(), b"x.c:2:1: too many tokens\n".as_slice());
-    Ok(())
-}
-
-// A text with so many `(` before a `1`; or its front, up to the `1`.
-fn nested(alloc: Global, count: usize, closed: bool) -> Result<Vec<u8>, AllocError> {
-    let mut text = b"int x = ".as_slice().to_vec(alloc)?;
-    for _ in 0..count {
-        text.push(b'(')?;
-    }
-    text.push(b'1')?;
-    if closed {
-        for _ in 0..count {
-            text.push(b')')?;
+    fn came_to(&self, came: &Came) -> bool {
+        match came {
+            Usage => self.is(10, "", USAGE, &[], None),
+            Fault(status, err) => self.is(*status, "", err, &[], None),
+            Names(out) => self.is(0, out, "", &[], None),
+            Prints(out) => self.is(0, out, "# finished 0\n", &TO_END, Some(Ending::Finished(0))),
+            Overflow => self.is(
+                1,
+                "",
+                "# trap overflow thread 0\n",
+                &TO_PRINT,
+                Some(Ending::Trap(TrapKind::Overflow, 0)),
+            ),
+            Cut(out, err, events) => self.is(13, out, err, events, None),
         }
-        text.extend_from_slice(b"; int main(void) { return 0; }")?;
     }
-    Ok(text)
+}
+
+// The number of the first call that comes to something else.
+fn wrong_call(alloc: Global, calls: &[Call]) -> Result<Option<usize>, AllocError> {
+    for i in 0..calls.len() {
+        let (words, text, failing, came) = &calls[i];
+        if !call(alloc, words, text, *failing)?.came_to(came) {
+            return Ok(Some(i));
+        }
+    }
+    Ok(None)
 }
 
 #[test]
-fn a_text_nests_at_most_its_limit_of_depth(rt: HostRuntime) -> Result<(), Fail> {
-    let alloc = rt.alloc();
-    let most = nested(alloc, 64, true)?;
-    let most = call(alloc, &["check", "x.c"], &most, NOTHING)?;
-    assert_eq!(rt; most.outcome.out.bytes(), b"ok 2 names\n".as_slice());
-    let more = nested(alloc, 65, false)?;
-    let more = call(alloc, &["check", "x.c"], &more, NOTHING)?;
-    assert_eq!(rt; more.err.bytes(), b"x.c:1:74: nested too deep\n".as_slice());
+fn each_call_comes_to_its_row(rt: HostRuntime) -> Result<(), Fail> {
+    assert_eq!(rt; wrong_call(rt.alloc(), &CALLS)?, None);
     Ok(())
 }
 
+fn long_text(alloc: Global, parts: Parts) -> Result<String, AllocError> {
+    let (front, piece, times, rest) = parts;
+    let pieces = piece.repeat(alloc, times)?;
+    format!(in alloc; "{front}{pieces}{rest}")
+}
+
+// The number of the first long text that comes to something else.
+fn wrong_long(alloc: Global, calls: &[Long]) -> Result<Option<usize>, AllocError> {
+    for i in 0..calls.len() {
+        let (words, parts, came) = &calls[i];
+        let text = long_text(alloc, *parts)?;
+        if !call(alloc, words, &text, QUIET)?.came_to(came) {
+            return Ok(Some(i));
+        }
+    }
+    Ok(None)
+}
+
 #[test]
-fn a_check_whose_print_fails_is_a_write_fault(rt: HostRuntime) -> Result<(), Fail> {
-    let third = Failing {
-        reads: &[],
-        prints: &[3],
-        reports: &[],
-    };
-    let seen = call(rt.alloc(), &["check", "x.c"], P1.as_bytes(), third)?;
-    assert_eq!(rt; seen.outcome.status, 13);
-    assert_eq!(rt; seen.outcome.out.bytes(), b"ok 1".as_slice());
-    assert_eq!(rt; seen.err.bytes(), b"write fault\n".as_slice());
+fn each_text_at_a_limit_comes_to_its_row(rt: HostRuntime) -> Result<(), Fail> {
+    assert_eq!(rt; wrong_long(rt.alloc(), &LONG)?, None);
     Ok(())
 }

@@ -8,7 +8,7 @@ use std::marker::Model;
 pub const MOST_NAMES: usize = 2048;
 
 /// The place of a name in its table, below 2,048. Contracts see the number.
-#[derive(Clone, Copy, Debug, PartialEq, Eq, PartialOrd, Ord, Hash)]
+#[derive(Clone, Copy, Debug, PartialEq, Eq)]
 pub struct NameId {
     index: u16,
 }

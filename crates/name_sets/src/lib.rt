@@ -19,6 +19,3 @@ mod words;
 pub use id::{MOST_NAMES, NameId};
 pub use set::NameSet;
 pub use table::{Names, NamesFault};
-
-#[cfg(test)]
-mod tests;

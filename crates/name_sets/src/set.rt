@@ -9,7 +9,7 @@ use std::marker::Model;
 
 /// A set of ids, as a row of 2,048 bits. Contracts see it by its members, as `Holds set id`, and sets
 /// with the same members are equal.
-#[derive(Clone, Copy, Debug)]
+#[derive(Clone, Copy)]
 pub struct NameSet {
     words: [u64; 32],
 }

@@ -20,7 +20,7 @@ pub enum NamesFault {
 
 /// A table of up to 2,048 texts, none of them twice, in the order in which they were added. Contracts
 /// see the list of the texts, as bytes; a text's id is its place in that list, and never changes.
-#[derive(Debug, Drop)]
+#[derive(Drop)]
 pub struct Names {
     texts: IndexSet<String>,
 }

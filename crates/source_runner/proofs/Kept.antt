@@ -10,7 +10,7 @@ use Rattle.source_runner.specs.declared.node.NodeId.{NodeId}
 use Rattle.source_runner.specs.declared.node.Node.{Node}
 use Rattle.source_runner.specs.declared.words.Word.{Word}
 use Rattle.source_runner.specs.Nodes.{Table, expression, zero_constant, word, tree_at, made, with_node}
-use Rattle.source_runner.specs.Parts.{Named, a_word, a_node, both, below, in_node, is_within}
+use Rattle.source_runner.specs.Parts.{Named, nothing, a_word, a_node, both, below, in_node, is_within}
 use Rattle.source_runner.specs.Found.{Grows, IsIn, each_node}
 use Rattle.source_runner.proofs.Naming.{Agree, AllBelow, all_below, shown_all, below_more, left_below, right_below, both_hold, made_agrees}
 
@@ -66,6 +66,10 @@ right_in t a b h = record {
   words = shown_all _ _ (right_below (length t.words) a.words b.words (all_below _ _ h.words));
   nodes = shown_all _ _ (right_below (length t.trees) a.nodes b.nodes (all_below _ _ h.nodes));
 }
+
+-- and by one alone
+pub alone_in : (t : Table) (a : Named) → IsIn t a → IsIn t (both a nothing)
+alone_in t a h = both_in t a nothing h (record { words = refl; nodes = refl })
 
 -- each of some nodes
 each_at : (n : ℕ) (ids : List NodeId) (i : ℕ) (d : NodeId) → AllBelow n (map (λ id. id.0) ids) → i < length ids → (get_or ids i d).0 < n

@@ -1,5 +1,6 @@
 pub mod Definitions
 pub mod Formats
+pub mod Forms
 pub mod Found
 pub mod Frames
 pub mod Grown

@@ -198,6 +198,3 @@ fn safe(op: BinOp) -> Option<SafeOp>
         BinOp::Div | BinOp::Rem | BinOp::Shl | BinOp::Shr => None,
     }
 }
-
-#[cfg(test)]
-mod tests;

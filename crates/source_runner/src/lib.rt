@@ -66,6 +66,3 @@ pub use value::{ObjectId, ThreadRef, Value};
 pub use waits::SourceWait;
 pub use words::{Word, Words};
 pub use work::{Halt, Local, Work};
-
-#[cfg(test)]
-mod tests;

@@ -36,7 +36,7 @@ use std::mem;
 const FRAMES: usize = 256;
 
 /// How a run has ended.
-#[derive(Clone, Copy, Debug)]
+#[derive(Clone, Copy)]
 pub(crate) enum Finish {
     /// The first call of `main` returned this.
     Finished(Int),
@@ -45,7 +45,7 @@ pub(crate) enum Finish {
 }
 
 /// The state of a run.
-#[derive(Debug, Drop)]
+#[derive(Drop)]
 pub(crate) struct Machine {
     pub program: Program,
     pub store: Store,

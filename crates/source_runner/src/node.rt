@@ -7,11 +7,11 @@ use crate::words::Word;
 use c_ints::{BinOp, Int, Kind, UnOp};
 
 /// The number of a node in the table of trees.
-#[derive(Clone, Copy, Debug, PartialEq, Eq)]
+#[derive(Clone, Copy, PartialEq, Eq)]
 pub struct NodeId(pub(crate) usize);
 
 /// The type of a variable, or of what a conversion gives.
-#[derive(Clone, Copy, Debug, PartialEq, Eq)]
+#[derive(Clone, Copy)]
 pub enum ValueType {
     /// An integer type.
     Integer(Kind),
@@ -22,7 +22,7 @@ pub enum ValueType {
 }
 
 /// Where a value is kept.
-#[derive(Clone, Copy, Debug)]
+#[derive(Clone, Copy)]
 pub enum Place {
     /// A local variable.
     Local(Word),
@@ -35,7 +35,7 @@ pub enum Place {
 }
 
 /// An expression.
-#[derive(Clone, Copy, Debug)]
+#[derive(Clone, Copy)]
 pub enum ExpressionNode {
     Constant(Int),
     Read(Place),
@@ -70,7 +70,7 @@ pub enum ExpressionNode {
 }
 
 /// The arguments of a call.
-#[derive(Clone, Copy, Debug)]
+#[derive(Clone, Copy)]
 pub enum ArgumentsNode {
     None,
     /// An argument, and those behind it.
@@ -78,7 +78,7 @@ pub enum ArgumentsNode {
 }
 
 /// A statement, or a declaration in a block.
-#[derive(Clone, Copy, Debug)]
+#[derive(Clone, Copy)]
 pub enum StatementNode {
     Block(NodeId),
     Empty,
@@ -101,7 +101,7 @@ pub enum StatementNode {
 }
 
 /// The statements of a block.
-#[derive(Clone, Copy, Debug)]
+#[derive(Clone, Copy)]
 pub enum StatementsNode {
     None,
     /// A statement, and those behind it.
@@ -109,7 +109,7 @@ pub enum StatementsNode {
 }
 
 /// A node of the table of trees.
-#[derive(Clone, Copy, Debug)]
+#[derive(Clone, Copy)]
 pub enum Node {
     Expression(ExpressionNode),
     Arguments(ArgumentsNode),
@@ -118,7 +118,7 @@ pub enum Node {
 }
 
 /// A node in the table, with how many points its tree has.
-#[derive(Clone, Copy, Debug)]
+#[derive(Clone, Copy)]
 pub(crate) struct Entry {
     pub node: Node,
     pub points: u32,

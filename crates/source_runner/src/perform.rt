@@ -16,7 +16,7 @@ use bytecode::TrapKind;
 use std::alloc::AllocError;
 
 /// What a stop comes to.
-#[derive(Clone, Copy, Debug)]
+#[derive(Clone, Copy)]
 pub(crate) enum Did {
     /// The thread goes on.
     On,

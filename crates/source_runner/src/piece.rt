@@ -12,7 +12,7 @@ use c_ints::{BinOp, UnOp};
 use std::alloc::AllocError;
 
 /// Where a thread stops. What a stop takes and gives are the newest values.
-#[derive(Clone, Copy, Debug)]
+#[derive(Clone, Copy)]
 pub enum Stop {
     ReadGlobal(Word),
     WriteGlobal(Word),
@@ -42,7 +42,7 @@ pub enum Stop {
 }
 
 /// A `while` or `for` loop behind its first part, with the number of its first point.
-#[derive(Clone, Copy, Debug)]
+#[derive(Clone, Copy)]
 pub struct Loop {
     pub test: Option<NodeId>,
     pub step: Option<NodeId>,
@@ -51,7 +51,7 @@ pub struct Loop {
 }
 
 /// A piece of a function's tree. A number is that of the first point of what it is about.
-#[derive(Clone, Copy, Debug)]
+#[derive(Clone, Copy)]
 pub enum Piece {
     /// An expression, which leaves its value.
     Compute(NodeId, u32),

@@ -109,6 +109,3 @@ fn print_value(output: &mut Vec<u8>, value: Value) -> Result<(), AllocError>
         Value::Reference(_) | Value::Started(_) => Ok(()),
     }
 }
-
-#[cfg(test)]
-mod tests;

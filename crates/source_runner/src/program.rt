@@ -38,14 +38,14 @@ use c_types::Typed;
 use std::alloc::{AllocError, Global};
 
 /// A parameter of a function, or a field of a struct.
-#[derive(Clone, Copy, Debug)]
+#[derive(Clone, Copy)]
 pub(crate) struct Binding {
     pub name: Word,
     pub declared: ValueType,
 }
 
 /// A name that is used.
-#[derive(Clone, Copy, Debug)]
+#[derive(Clone, Copy)]
 pub(crate) enum Name {
     Plain(Word),
     /// That of the struct with a tag.
@@ -53,7 +53,7 @@ pub(crate) enum Name {
 }
 
 /// What is defined as a name. Where it's no function or no struct, there is nothing of these.
-#[derive(Debug, Drop)]
+#[derive(Drop)]
 pub(crate) struct Definition {
     /// The name; a struct's is `struct` with its tag behind a blank.
     pub name: Word,
@@ -65,7 +65,7 @@ pub(crate) struct Definition {
 }
 
 /// A text, ready to run.
-#[derive(Debug, Drop)]
+#[derive(Drop)]
 pub(crate) struct Program {
     text: Typed,
     trees: Trees,
@@ -73,7 +73,7 @@ pub(crate) struct Program {
 }
 
 /// A text, ready to run, with what a run begins with.
-#[derive(Debug, Drop)]
+#[derive(Drop)]
 pub(crate) struct Loaded {
     pub program: Program,
     /// The globals and arrays, in the text's order, with their first values.
@@ -91,9 +91,11 @@ pub(crate) fn load(alloc: Global, text: Typed) -> Result<Loaded, AllocError>
     ensures main { IfOk result (λ loaded. word_text (table_of loaded.program) loaded.main ≡ codes "main") }
 {
     let mut trees = Trees::new(alloc);
-    let definitions = definitions_of(alloc, &mut trees, text.program().definitions.as_slice())?;
-    let globals = globals_of(alloc, &mut trees, text.program().definitions.as_slice())?;
-    let main = word(&mut trees, "main")?;
+    let (definitions, globals, main) = defined(
+        alloc,
+        &mut trees,
+        text.program().definitions.as_slice(),
+    )?;
     Ok(Loaded {
         program: Program {
             text,
@@ -103,6 +105,22 @@ pub(crate) fn load(alloc: Global, text: Typed) -> Result<Loaded, AllocError>
         globals,
         main,
     })
+}
+
+/// The definitions of a text by name, its globals and arrays with their first values, and the name `main`.
+fn defined(
+    alloc: Global,
+    trees: &mut Trees,
+    text: &[Def],
+) -> Result<(Vec<Definition>, Vec<Cells>, Word), AllocError>
+    ensures definitions { IfOk result (λ made. AreDefinitions (table trees.new) (map bare_def text.now) made.0.items) }
+    ensures globals { IfOk result (λ made. globals_of (table trees.new) made.1.items ≡ filter_map cells_at_first (map bare_def text.now)) }
+    ensures main { IfOk result (λ made. word_text (table trees.new) made.2 ≡ codes "main") }
+{
+    let definitions = definitions_of(alloc, trees, text)?;
+    let globals = globals_of(alloc, trees, text)?;
+    let main = word(trees, "main")?;
+    Ok((definitions, globals, main))
 }
 
 impl Program {

@@ -2,17 +2,17 @@
 //!
 //! Each function says what its result means in every table that the present one grows to, so that a number that was
 //! handed out never has to be looked at again. Read in this order: `known` (what names mean), `types`, `found`
-//! (expressions as they are resolved), `operator` and `names` (what is made of them), `expression`, `block`, `statement`.
+//! (expressions as they are resolved), `operator` and `names` (what is made of them), `form`, `expression`, `block`,
+//! `statement`.
 
 mod block;
 mod expression;
+mod form;
 mod found;
 mod known;
 mod names;
 mod operator;
 mod statement;
-#[cfg(test)]
-mod tests;
 mod types;
 
 pub(crate) use block::statements;

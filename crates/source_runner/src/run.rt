@@ -39,7 +39,7 @@ pub enum Stepped {
 
 /// A run of the source machine over some texts. Its clauses say that it is the run of the definitions over the moves that
 /// were made; after want of memory nothing is said of it any more.
-#[derive(Debug, Drop)]
+#[derive(Drop)]
 pub struct SourceRun {
     machine: Machine,
     /// The spans of the records, of which this many are closed.
@@ -171,6 +171,3 @@ impl SourceRun {
         self.machine.waits(slot as usize)
     }
 }
-
-#[cfg(test)]
-mod tests;

@@ -5,21 +5,21 @@ use crate::value::Value;
 use crate::words::Word;
 
 /// A global variable, which has one cell, or an array.
-#[derive(Debug, Drop)]
+#[derive(Drop)]
 pub(crate) struct Cells {
     pub name: Word,
     pub cells: Vec<Value>,
 }
 
 /// A field of an object.
-#[derive(Clone, Copy, Debug)]
+#[derive(Clone, Copy)]
 pub(crate) struct Field {
     pub name: Word,
     pub value: Value,
 }
 
 /// An object, which lives or was ended.
-#[derive(Debug, Drop)]
+#[derive(Drop)]
 pub(crate) struct Object {
     /// The tag of its struct.
     pub tag: Word,
@@ -28,7 +28,7 @@ pub(crate) struct Object {
 }
 
 /// A mutex that is held, with the slot of the thread that holds it.
-#[derive(Clone, Copy, Debug)]
+#[derive(Clone, Copy)]
 pub(crate) struct Held {
     pub mutex: Word,
     pub slot: usize,
@@ -36,7 +36,7 @@ pub(crate) struct Held {
 
 /// What threads share. Objects stand in the order of their creation; of the mutexes the one that was taken last is the
 /// last.
-#[derive(Debug, Drop)]
+#[derive(Drop)]
 pub(crate) struct Store {
     pub globals: Vec<Cells>,
     pub objects: Vec<Object>,

@@ -4,7 +4,7 @@ use crate::words::Word;
 use crate::work::{Halt, Work};
 
 /// A call in progress.
-#[derive(Debug, Drop)]
+#[derive(Drop)]
 pub(crate) struct Frame {
     pub function: Word,
     /// The version under which it was entered.
@@ -15,7 +15,7 @@ pub(crate) struct Frame {
 }
 
 /// An enter that is due.
-#[derive(Debug, Drop)]
+#[derive(Drop)]
 pub(crate) struct Enter {
     pub function: Word,
     pub arguments: Vec<Value>,
@@ -24,7 +24,7 @@ pub(crate) struct Enter {
 }
 
 /// What a thread does next.
-#[derive(Debug, Drop)]
+#[derive(Drop)]
 pub(crate) enum Next {
     /// It enters a function.
     Enter(Enter),
@@ -33,7 +33,7 @@ pub(crate) enum Next {
 }
 
 /// A live thread, but for what it does next.
-#[derive(Debug, Drop)]
+#[derive(Drop)]
 pub(crate) struct Thread {
     /// Its number among all threads.
     pub serial: usize,
@@ -44,7 +44,7 @@ pub(crate) struct Thread {
 }
 
 /// A slot.
-#[derive(Debug, Drop)]
+#[derive(Drop)]
 pub(crate) enum Slot {
     Free,
     Live(Thread, Next),

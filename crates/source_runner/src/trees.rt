@@ -13,7 +13,7 @@ use std::alloc::{AllocError, Global};
 /// The resolved trees of functions, with their names. A tree is added after its parts, and never changes. Where a number
 /// names no tree, or one of another kind, what stands there is a constant 0, no arguments, an empty statement or no
 /// statements.
-#[derive(Debug, Drop)]
+#[derive(Drop)]
 pub struct Trees {
     words: Words,
     entries: Vec<Entry>,
@@ -297,28 +297,32 @@ impl Trees {
     fn expression_total(&self, node: ExpressionNode) -> u64
         ensures { result ≡ size (expression_of (table self.now) node) }
     {
-        let of = |id| self.expression_points(id) as u64;
-        let parts = |place| self.parts_points(place) as u64;
         match node {
             ExpressionNode::Constant(_) => 0,
-            ExpressionNode::Read(place) => parts(place) + accesses(place),
-            ExpressionNode::Unary(_, a) | ExpressionNode::Convert(_, a) => of(a),
+            ExpressionNode::Read(place) => self.parts(place) + accesses(place),
+            ExpressionNode::Unary(_, a) | ExpressionNode::Convert(_, a) => self.of(a),
             ExpressionNode::Binary(_, a, b)
             | ExpressionNode::And(a, b)
-            | ExpressionNode::Or(a, b) => of(a) + of(b),
-            ExpressionNode::Choice(c, a, b) => of(c) + of(a) + of(b),
-            ExpressionNode::Assign(place, e) => parts(place) + of(e) + accesses(place),
+            | ExpressionNode::Or(a, b) => self.of(a) + self.of(b),
+            ExpressionNode::Choice(c, a, b) => self.of(c) + self.of(a) + self.of(b),
+            ExpressionNode::Assign(place, e) => self.parts(place) + self.of(e) + accesses(place),
             ExpressionNode::Update(_, _, place, e) => {
-                parts(place) + accesses(place) + of(e) + accesses(place)
+                self.parts(place) + accesses(place) + self.of(e) + accesses(place)
             }
             ExpressionNode::Postfix(_, _, place) => {
-                parts(place) + accesses(place) + accesses(place)
+                self.parts(place) + accesses(place) + accesses(place)
             }
             ExpressionNode::Call(_, arguments) => self.arguments_points(arguments) as u64 + 2,
             ExpressionNode::Print(_, arguments) => self.arguments_points(arguments) as u64 + 1,
-            ExpressionNode::Free(_, e) | ExpressionNode::Join(e) => of(e) + 1,
-            ExpressionNode::Create(place, _, e) => parts(place) + of(e) + 1 + accesses(place),
-            ExpressionNode::JoinInto(e, place) => of(e) + parts(place) + 1 + accesses(place),
+            ExpressionNode::Free(_, e) | ExpressionNode::Join(e) => self.of(e) + 1,
+            ExpressionNode::Create(place, _, e) => self.parts(place)
+                + self.of(e)
+                + 1
+                + accesses(place),
+            ExpressionNode::JoinInto(e, place) => self.of(e)
+                + self.parts(place)
+                + 1
+                + accesses(place),
             ExpressionNode::New(_)
             | ExpressionNode::InitMutex(_)
             | ExpressionNode::Lock(_)
@@ -330,24 +334,48 @@ impl Trees {
     fn statement_total(&self, node: StatementNode) -> u64
         ensures { result ≡ size_stmt (statement_of (table self.now) node) }
     {
-        let of = |id| self.expression_points(id) as u64;
-        let body = |id| self.statement_points(id) as u64;
         match node {
             StatementNode::Empty | StatementNode::Break | StatementNode::Continue => 0,
             StatementNode::Block(ss) => self.statements_points(ss) as u64,
-            StatementNode::Evaluate(e) => of(e),
+            StatementNode::Evaluate(e) => self.of(e),
             StatementNode::Declare(_, _, e) => self.points_if(e),
-            StatementNode::If(c, s) => of(c) + body(s),
-            StatementNode::IfElse(c, a, b) => of(c) + body(a) + body(b),
-            StatementNode::While(c, s) | StatementNode::DoWhile(s, c) => of(c) + body(s) + 1,
+            StatementNode::If(c, s) => self.of(c) + self.body(s),
+            StatementNode::IfElse(c, a, b) => self.of(c) + self.body(a) + self.body(b),
+            StatementNode::While(c, s) | StatementNode::DoWhile(s, c) => self.of(c)
+                + self.body(s)
+                + 1,
             StatementNode::For(first, test, step, s) => {
-                let loops = self.points_if(test) + body(s) + self.points_if(step);
+                let loops = self.points_if(test) + self.body(s) + self.points_if(step);
                 self.statements_points(first) as u64 + loops + 1
             }
-            StatementNode::Return(e) => of(e) + 1,
+            StatementNode::Return(e) => self.of(e) + 1,
             StatementNode::UpdatePoint => 2,
             StatementNode::Transaction(ss) => self.statements_points(ss) as u64 + 4,
         }
+    }
+
+    /// How many points an expression has, as a number of 64 bits.
+    fn of(&self, id: NodeId) -> u64
+        ensures value { result ≡ size (expression_at (table self.now) id) }
+        ensures small { result < 2 ^ 32 }
+    {
+        self.expression_points(id) as u64
+    }
+
+    /// The same of a statement.
+    fn body(&self, id: NodeId) -> u64
+        ensures value { result ≡ size_stmt (statement_at (table self.now) id) }
+        ensures small { result < 2 ^ 32 }
+    {
+        self.statement_points(id) as u64
+    }
+
+    /// The same of the parts of a place.
+    fn parts(&self, place: Place) -> u64
+        ensures value { result ≡ size_parts (place_of (table self.now) place) }
+        ensures small { result < 2 ^ 32 }
+    {
+        self.parts_points(place) as u64
     }
 
     /// How many points an expression has that may be absent.

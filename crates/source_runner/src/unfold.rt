@@ -4,7 +4,7 @@ ghost use Rattle.c_types.specs.Pieces.{Compute, Repeat};
 ghost use Rattle.c_types.specs.Points.{size_stmt};
 ghost use Rattle.c_types.specs.Resolved as tree;
 ghost use Rattle.source_runner.specs.Nodes.{Table, word, type_of, expression_if, statements_at, expression_of, arguments_of, statement_of, statements_of, place_of, statement_at, expression_at};
-ghost use Rattle.source_runner.specs.Pieces.{pending, loop_of};
+ghost use Rattle.source_runner.specs.Pieces.{pending, piece_of, loop_of};
 ghost use Rattle.source_runner.specs.Steps.{expression_pieces, arguments_pieces, place_pieces, statement_pieces, statements_pieces, cycle_pieces, behind_pieces};
 ghost use Rattle.source_runner.specs.Trees.{table};
 
@@ -30,12 +30,12 @@ pub(crate) fn expression(
         ≡ expression_pieces (expression_of t node) n (pending t pieces.old.items)) }
 {
     match node {
-        ExpressionNode::Constant(value) => put(pieces, &[Piece::Put(Value::Number(value))]),
+        ExpressionNode::Constant(value) => one(pieces, Piece::Put(Value::Number(value))),
         ExpressionNode::Read(place) => {
             let access = trees.behind_parts(n, place)?;
-            put(pieces, &[Piece::Parts(place, n), Piece::Get(place, access)])
+            two(pieces, Piece::Parts(place, n), Piece::Get(place, access))
         }
-        ExpressionNode::Unary(op, a) => put(pieces, &[Piece::Compute(a, n), Piece::Apply(op)]),
+        ExpressionNode::Unary(op, a) => two(pieces, Piece::Compute(a, n), Piece::Apply(op)),
         ExpressionNode::Binary(op, a, b) => {
             let second = trees.behind(n, a)?;
             put(
@@ -48,19 +48,19 @@ pub(crate) fn expression(
             )
         }
         ExpressionNode::Convert(to, a) => {
-            put(pieces, &[Piece::Compute(a, n), Piece::ConvertTo(to)])
+            two(pieces, Piece::Compute(a, n), Piece::ConvertTo(to))
         }
         ExpressionNode::And(a, b) => {
             let second = trees.behind(n, a)?;
-            put(pieces, &[Piece::Compute(a, n), Piece::AndThen(b, second)])
+            two(pieces, Piece::Compute(a, n), Piece::AndThen(b, second))
         }
         ExpressionNode::Or(a, b) => {
             let second = trees.behind(n, a)?;
-            put(pieces, &[Piece::Compute(a, n), Piece::OrElse(b, second)])
+            two(pieces, Piece::Compute(a, n), Piece::OrElse(b, second))
         }
         ExpressionNode::Choice(c, a, b) => {
             let first = trees.behind(n, c)?;
-            put(pieces, &[Piece::Compute(c, n), Piece::Choose(a, b, first)])
+            two(pieces, Piece::Compute(c, n), Piece::Choose(a, b, first))
         }
         ExpressionNode::Assign(place, e) => assign(trees, pieces, place, e, n),
         ExpressionNode::Update(declared, op, place, e) => {
@@ -77,31 +77,37 @@ pub(crate) fn expression(
         ExpressionNode::Call(name, arguments) => {
             let stop = Stop::Call(name, trees.count(arguments)?);
             let at = trees.behind_arguments(n, arguments)?;
-            put(
-                pieces,
-                &[Piece::Arguments(arguments, n), Piece::At(stop, at)],
-            )
+            two(pieces, Piece::Arguments(arguments, n), Piece::At(stop, at))
         }
         ExpressionNode::Print(format, arguments) => {
             let stop = Stop::Print(format, trees.count(arguments)?);
             let at = trees.behind_arguments(n, arguments)?;
-            put(
-                pieces,
-                &[Piece::Arguments(arguments, n), Piece::At(stop, at)],
-            )
+            two(pieces, Piece::Arguments(arguments, n), Piece::At(stop, at))
         }
         ExpressionNode::Free(tag, e) => {
             let at = trees.behind(n, e)?;
-            put(
-                pieces,
-                &[Piece::Compute(e, n), Piece::At(Stop::Free(tag), at)],
-            )
+            two(pieces, Piece::Compute(e, n), Piece::At(Stop::Free(tag), at))
         }
-        ExpressionNode::New(tag) => put(pieces, &[Piece::At(Stop::New(tag), n)]),
-        ExpressionNode::InitMutex(name) => put(pieces, &[Piece::At(Stop::InitMutex(name), n)]),
-        ExpressionNode::Lock(name) => put(pieces, &[Piece::At(Stop::Lock(name), n)]),
-        ExpressionNode::Unlock(name) => put(pieces, &[Piece::At(Stop::Unlock(name), n)]),
+        ExpressionNode::New(tag) => one(pieces, Piece::At(Stop::New(tag), n)),
+        ExpressionNode::InitMutex(name) => one(pieces, Piece::At(Stop::InitMutex(name), n)),
+        ExpressionNode::Lock(name) => one(pieces, Piece::At(Stop::Lock(name), n)),
+        ExpressionNode::Unlock(name) => one(pieces, Piece::At(Stop::Unlock(name), n)),
     }
+}
+
+/// Puts one piece before the others.
+fn one(pieces: &mut Vec<Piece>, piece: Piece) -> Result<(), AllocError>
+    ensures { OnOk result ((t : Table) → pending t pieces.new.items ≡ piece_of t piece ∷ pending t pieces.old.items) }
+{
+    put(pieces, &[piece])
+}
+
+/// Puts two pieces before the others.
+fn two(pieces: &mut Vec<Piece>, first: Piece, second: Piece) -> Result<(), AllocError>
+    ensures { OnOk result ((t : Table)
+        → pending t pieces.new.items ≡ piece_of t first ∷ piece_of t second ∷ pending t pieces.old.items) }
+{
+    put(pieces, &[first, second])
 }
 
 /// An assignment: its place, then its value, then the write.
@@ -376,8 +382,8 @@ pub(crate) fn statement(
 {
     match node {
         StatementNode::Empty | StatementNode::Break | StatementNode::Continue => Ok(()),
-        StatementNode::Block(ss) => put(pieces, &[Piece::Sequence(ss, n), Piece::Close]),
-        StatementNode::Evaluate(e) => put(pieces, &[Piece::Compute(e, n), Piece::Drop]),
+        StatementNode::Block(ss) => two(pieces, Piece::Sequence(ss, n), Piece::Close),
+        StatementNode::Evaluate(e) => two(pieces, Piece::Compute(e, n), Piece::Drop),
         StatementNode::Declare(_, _, None) => Ok(()),
         StatementNode::Declare(_, name, Some(e)) => {
             let write = trees.behind(n, e)?;
@@ -386,14 +392,14 @@ pub(crate) fn statement(
         }
         StatementNode::If(c, s) => {
             let body = trees.behind(n, c)?;
-            put(pieces, &[Piece::Compute(c, n), Piece::Then(s, body)])
+            two(pieces, Piece::Compute(c, n), Piece::Then(s, body))
         }
         StatementNode::IfElse(c, a, b) => {
             let body = trees.behind(n, c)?;
-            put(pieces, &[Piece::Compute(c, n), Piece::ThenElse(a, b, body)])
+            two(pieces, Piece::Compute(c, n), Piece::ThenElse(a, b, body))
         }
-        StatementNode::While(c, s) => put(pieces, &[Piece::Cycle(while_loop(c, s, n))]),
-        StatementNode::DoWhile(s, c) => put(pieces, &[Piece::Do(s, n), Piece::Until(s, c, n)]),
+        StatementNode::While(c, s) => one(pieces, Piece::Cycle(while_loop(c, s, n))),
+        StatementNode::DoWhile(s, c) => two(pieces, Piece::Do(s, n), Piece::Until(s, c, n)),
         StatementNode::For(first, test, step, body) => {
             let first_point = trees.behind_statements(n, first)?;
             let l = Loop {
@@ -409,9 +415,9 @@ pub(crate) fn statement(
         }
         StatementNode::Return(e) => {
             let at = trees.behind(n, e)?;
-            put(pieces, &[Piece::Compute(e, n), Piece::At(Stop::Return, at)])
+            two(pieces, Piece::Compute(e, n), Piece::At(Stop::Return, at))
         }
-        StatementNode::UpdatePoint => put(pieces, &[Piece::At(Stop::Update, n)]),
+        StatementNode::UpdatePoint => one(pieces, Piece::At(Stop::Update, n)),
         StatementNode::Transaction(ss) => transaction(trees, pieces, ss, n),
     }
 }

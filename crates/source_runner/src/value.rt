@@ -11,18 +11,18 @@ use crate::node::ValueType;
 use c_ints::{ArithTrap, BinOp, Int, Kind, UnOp, convert};
 
 /// The number of an object among all that were created.
-#[derive(Clone, Copy, Debug, PartialEq, Eq)]
+#[derive(Clone, Copy)]
 pub struct ObjectId(pub usize);
 
 /// What a `thrd_t` names: a slot, and the thread that was started in it, by its number among all threads.
-#[derive(Clone, Copy, Debug, PartialEq, Eq)]
+#[derive(Clone, Copy)]
 pub struct ThreadRef {
     pub slot: usize,
     pub serial: usize,
 }
 
 /// A value.
-#[derive(Clone, Copy, Debug)]
+#[derive(Clone, Copy)]
 pub enum Value {
     /// An integer with its kind.
     Number(Int),

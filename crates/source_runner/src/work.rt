@@ -5,7 +5,7 @@ use crate::words::Word;
 use bytecode::TrapKind;
 
 /// A part of the scopes of a frame.
-#[derive(Clone, Copy, Debug)]
+#[derive(Clone, Copy)]
 pub enum Local {
     /// A scope begins.
     Block,
@@ -14,7 +14,7 @@ pub enum Local {
 }
 
 /// What a frame has still to evaluate, its values and its variables; in each the newest is the last.
-#[derive(Debug, Drop)]
+#[derive(Drop)]
 pub struct Work {
     pub pieces: Vec<Piece>,
     pub values: Vec<Value>,
@@ -22,7 +22,7 @@ pub struct Work {
 }
 
 /// How local evaluation ends.
-#[derive(Clone, Copy, Debug)]
+#[derive(Clone, Copy)]
 pub enum Halt {
     /// Before a stop at the point with a number.
     At(Stop, u32),
@@ -33,7 +33,7 @@ pub enum Halt {
 }
 
 /// A statement by which a loop's body is left.
-#[derive(Clone, Copy, Debug)]
+#[derive(Clone, Copy)]
 pub(crate) enum Jump {
     Break,
     Continue,

@@ -17,14 +17,14 @@ use std::alloc::{AllocError, Global};
 const SLOTS: u8 = 16;
 
 /// A finished walk: the run, and how it ended.
-#[derive(Debug, Drop)]
+#[derive(Drop)]
 pub struct Walked {
     pub run: SourceRun,
     pub ending: Ending,
 }
 
 /// A walk on its way.
-#[derive(Debug, Drop)]
+#[derive(Drop)]
 struct Walking {
     run: SourceRun,
     /// Whether the thread in a slot is at a check-in.

@@ -1,5 +1,6 @@
 //! What no clause says: what the program writes, byte for byte, and its statuses; and that its calls succeed with ample
 //! memory.
+use crate::tests::Came::{Finished, Other, Usage};
 use crate::top::walk_main;
 use dsu_io::{MemoryFiles, MemorySink, Text};
 use source_runner::{SourceMove, SourceRun, SourceState, SourceWait, Stepped};
@@ -76,152 +77,90 @@ int main(void) {
 }
 "#;
 
-/// A command line over one file in memory, and what it is to come to.
-struct Case {
-    words: &'static [&'static str],
-    file: &'static str,
-    status: u8,
-    out: &'static str,
-    err: &'static str,
+const USAGE: &str = "usage: source_walk FILE [--moves N] [--objects N]\n";
+
+/// What a call came to.
+#[derive(Clone, Copy)]
+enum Came {
+    /// The usage on standard error.
+    Usage,
+    /// A run that finished with 0: what it prints.
+    Finished(&'static str),
+    /// The status, and what is on standard output and on standard error.
+    Other(u8, &'static str, &'static str),
 }
 
-const CASES: [Case; 19] = [
-    Case {
-        words: &["x.c"],
-        file: SUM,
-        status: 0,
-        out: "14\n",
-        err: "# finished 0\n",
-    },
-    Case {
-        words: &["x.c"],
-        file: OVERFLOW,
-        status: 1,
-        out: "a\n",
-        err: "# trap overflow thread 0\n",
-    },
-    Case {
-        words: &["x.c"],
-        file: SIGNS,
-        status: 0,
-        out: "0\n-3 -1\n0\n",
-        err: "# finished 0\n",
-    },
-    Case {
-        words: &["x.c"],
-        file: LITERALS,
-        status: 0,
-        out: "4294967295\n4294967295\n",
-        err: "# finished 0\n",
-    },
-    Case {
-        words: &["x.c"],
-        file: DEPTH,
-        status: 1,
-        out: "ok\n",
-        err: "# trap depth thread 0\n",
-    },
-    Case {
-        words: &["x.c", "--objects", "1"],
-        file: OBJECTS,
-        status: 1,
-        out: "1\n0\n",
-        err: "# trap stale thread 0\n",
-    },
-    Case {
-        words: &["x.c"],
-        file: LOCKS,
-        status: 0,
-        out: "done\n",
-        err: "# finished 0\n",
-    },
-    Case {
-        words: &["x.c"],
-        file: MANY,
-        status: 0,
-        out: "0\n0\n0\n0\n0\n0\n0\n0\n0\n0\n0\n0\n0\n0\n0\n1\n",
-        err: "# finished 0\n",
-    },
-    Case {
-        words: &["x.c", "--moves", "4"],
-        file: LOOP,
-        status: 3,
-        out: "",
-        err: "# cut\n",
-    },
-    Case {
-        words: &["x.c"],
-        file: INDEX,
-        status: 1,
-        out: "",
-        err: "# trap index thread 0\n",
-    },
-    Case {
-        words: &["x.c"],
-        file: DEADLOCK,
-        status: 2,
-        out: "",
-        err: "# deadlock\n# thread 0 waits for thread 1\n# thread 1 waits for mutex a held by 0\n",
-    },
-    Case {
-        words: &[],
-        file: SUM,
-        status: 10,
-        out: "",
-        err: "usage: source_walk FILE [--moves N] [--objects N]\n",
-    },
-    Case {
-        words: &["x.c", "x.c"],
-        file: SUM,
-        status: 10,
-        out: "",
-        err: "usage: source_walk FILE [--moves N] [--objects N]\n",
-    },
-    Case {
-        words: &["x.c", "--workers", "2"],
-        file: SUM,
-        status: 10,
-        out: "",
-        err: "usage: source_walk FILE [--moves N] [--objects N]\n",
-    },
-    Case {
-        words: &["x.c", "--offer", "x.c@1"],
-        file: SUM,
-        status: 10,
-        out: "",
-        err: "usage: source_walk FILE [--moves N] [--objects N]\n",
-    },
-    Case {
-        words: &["x.c", "--journal"],
-        file: SUM,
-        status: 10,
-        out: "",
-        err: "usage: source_walk FILE [--moves N] [--objects N]\n",
-    },
-    Case {
-        words: &["none.c"],
-        file: SUM,
-        status: 12,
-        out: "",
-        err: "none.c: read fault\n",
-    },
-    Case {
-        words: &["x.c"],
-        file: "",
-        status: 11,
-        out: "",
-        err: "x.c:1:1: no main\n",
-    },
-    Case {
-        words: &["x.c"],
-        file: "int main(void) { return y; }",
-        status: 11,
-        out: "",
-        err: "x.c:1:25: unknown name\n",
-    },
+/// The words, the text of the one file, `x.c`, the prints that fail, and what it comes to.
+type Call = (&'static [&'static str], &'static str, &'static [u64], Came);
+
+static CALLS: [Call; 20] = [
+    (&["x.c"], SUM, &[], Finished("14\n")),
+    (
+        &["x.c"],
+        OVERFLOW,
+        &[],
+        Other(1, "a\n", "# trap overflow thread 0\n"),
+    ),
+    (&["x.c"], SIGNS, &[], Finished("0\n-3 -1\n0\n")),
+    (
+        &["x.c"],
+        LITERALS,
+        &[],
+        Finished("4294967295\n4294967295\n"),
+    ),
+    (
+        &["x.c"],
+        DEPTH,
+        &[],
+        Other(1, "ok\n", "# trap depth thread 0\n"),
+    ),
+    (
+        &["x.c", "--objects", "1"],
+        OBJECTS,
+        &[],
+        Other(1, "1\n0\n", "# trap stale thread 0\n"),
+    ),
+    (&["x.c"], LOCKS, &[], Finished("done\n")),
+    (
+        &["x.c"],
+        MANY,
+        &[],
+        Finished("0\n0\n0\n0\n0\n0\n0\n0\n0\n0\n0\n0\n0\n0\n0\n1\n"),
+    ),
+    (&["x.c", "--moves", "4"], LOOP, &[], Other(3, "", "# cut\n")),
+    (
+        &["x.c"],
+        INDEX,
+        &[],
+        Other(1, "", "# trap index thread 0\n"),
+    ),
+    (
+        &["x.c"],
+        DEADLOCK,
+        &[],
+        Other(
+            2,
+            "",
+            "# deadlock\n# thread 0 waits for thread 1\n# thread 1 waits for mutex a held by 0\n",
+        ),
+    ),
+    (&[], SUM, &[], Usage),
+    (&["x.c", "x.c"], SUM, &[], Usage),
+    (&["x.c", "--workers", "2"], SUM, &[], Usage),
+    (&["x.c", "--offer", "x.c@1"], SUM, &[], Usage),
+    (&["x.c", "--journal"], SUM, &[], Usage),
+    (&["none.c"], SUM, &[], Other(12, "", "none.c: read fault\n")),
+    (&["x.c"], "", &[], Other(11, "", "x.c:1:1: no main\n")),
+    (
+        &["x.c"],
+        "int main(void) { return y; }",
+        &[],
+        Other(11, "", "x.c:1:25: unknown name\n"),
+    ),
+    (&["x.c"], SUM, &[1], Other(13, "", "write fault\n")),
 ];
 
-/// What a command line came to.
+/// A status, with what is on standard output and on standard error.
 #[derive(Drop)]
 struct Seen {
     status: u8,
@@ -229,64 +168,93 @@ struct Seen {
     err: MemorySink,
 }
 
-/// Makes the call over one file in memory, `x.c`.
-fn call(alloc: Global, words: &[&str], file: &str, prints: &[u64]) -> Result<Seen, AllocError> {
+fn words_of(alloc: Global, words: &[&str]) -> Result<Vec<Text>, AllocError> {
     let mut texts = Vec::new(alloc);
     for word in words {
         texts.push(Text::of(alloc, word)?)?;
     }
-    let mut held = Vec::new(alloc);
-    held.push((
-        String::from_str(alloc, "x.c")?,
-        file.as_bytes().to_vec(alloc)?,
-    ))?;
-    let mut files = MemoryFiles::of(held, Vec::new(alloc));
+    Ok(texts)
+}
+
+fn file_of(alloc: Global, text: &str) -> Result<MemoryFiles, AllocError> {
+    let text = text.as_bytes().to_vec(alloc)?;
+    let files = vec![in alloc; (String::from_str(alloc, "x.c")?, text)]?;
+    Ok(MemoryFiles::of(files, Vec::new(alloc)))
+}
+
+// Makes the call over one file in memory, `x.c`.
+fn call(alloc: Global, words: &[&str], text: &str, prints: &[u64]) -> Result<Seen, AllocError> {
+    let words = words_of(alloc, words)?;
+    let mut files = file_of(alloc, text)?;
     let mut out = MemorySink::with_room(alloc, 1000, prints.to_vec(alloc)?)?;
     let mut err = MemorySink::with_room(alloc, 1000, Vec::new(alloc))?;
-    let status = walk_main(alloc, &texts, &mut files, &mut out, &mut err);
+    let status = walk_main(alloc, &words, &mut files, &mut out, &mut err);
     Ok(Seen { status, out, err })
 }
 
-#[test]
-fn each_text_comes_to_its_prints_and_ending(rt: HostRuntime) -> Result<(), Fail> {
-    for case in &CASES {
-        let seen = call(rt.alloc(), case.words, case.file, &[])?;
-        assert_eq!(rt; seen.status, case.status);
-        assert_eq!(rt; seen.out.bytes(), case.out.as_bytes());
-        assert_eq!(rt; seen.err.bytes(), case.err.as_bytes());
+impl Seen {
+    fn is(&self, status: u8, out: &str, err: &str) -> bool {
+        self.status == status
+            && self.out.bytes() == out.as_bytes()
+            && self.err.bytes() == err.as_bytes()
     }
-    Ok(())
+
+    fn came_to(&self, came: Came) -> bool {
+        match came {
+            Usage => self.is(10, "", USAGE),
+            Finished(out) => self.is(0, out, "# finished 0\n"),
+            Other(status, out, err) => self.is(status, out, err),
+        }
+    }
+}
+
+// The number of the first call that comes to something else.
+fn wrong_call(alloc: Global, calls: &[Call]) -> Result<Option<usize>, AllocError> {
+    for i in 0..calls.len() {
+        let (words, text, prints, came) = &calls[i];
+        if !call(alloc, words, text, prints)?.came_to(*came) {
+            return Ok(Some(i));
+        }
+    }
+    Ok(None)
 }
 
 #[test]
-fn an_output_that_fails_is_told(rt: HostRuntime) -> Result<(), Fail> {
-    let seen = call(rt.alloc(), &["x.c"], SUM, &[1])?;
-    assert_eq!(rt; seen.status, 13);
-    assert!(rt; seen.out.bytes().is_empty());
-    assert_eq!(rt; seen.err.bytes(), b"write fault\n".as_slice());
+fn each_call_comes_to_its_row(rt: HostRuntime) -> Result<(), Fail> {
+    assert_eq!(rt; wrong_call(rt.alloc(), &CALLS)?, None);
     Ok(())
 }
 
 /// The moves by which the threads of `LOCKS` take one mutex each and wait for the other's.
 const TOGETHER: [u8; 5] = [0, 0, 1, 0, 1];
 
-#[test]
-fn threads_that_hold_each_others_mutex_are_stuck(rt: HostRuntime) -> Result<(), Fail> {
-    let alloc = rt.alloc();
+fn start(alloc: Global) -> Result<SourceRun, Fail> {
     let Ok(text) = read_text(alloc, LOCKS.as_bytes()) else {
         return Err(Fail::new("the text has a fault"));
     };
-    let mut texts = Vec::new(alloc);
-    texts.push(text)?;
-    let mut run = SourceRun::new(alloc, texts, 4096, 16)?;
-    for slot in &TOGETHER {
-        assert_eq!(rt; run.state(), SourceState::Going);
-        assert_eq!(rt; run.step(SourceMove::Move(*slot))?, Stepped::Done);
+    Ok(SourceRun::new(alloc, vec![in alloc; text]?, 4096, 16)?)
+}
+
+// Whether the run is going before each of these moves, and makes it.
+fn makes(run: &mut SourceRun, slots: &[u8]) -> Result<bool, AllocError> {
+    for slot in slots {
+        if run.state() != SourceState::Going
+            || run.step(SourceMove::Move(*slot))? != Stepped::Done
+        {
+            return Ok(false);
+        }
     }
-    assert_eq!(rt; run.state(), SourceState::Stuck);
-    assert_eq!(rt; run.step(SourceMove::Move(0))?, Stepped::CannotMove);
-    assert_eq!(rt; run.waits(0), Some(SourceWait::Mutex("b", 1)));
-    assert_eq!(rt; run.waits(1), Some(SourceWait::Mutex("a", 0)));
+    Ok(true)
+}
+
+#[test]
+fn threads_that_hold_each_others_mutex_are_stuck(rt: HostRuntime) -> Result<(), Fail> {
+    let mut run = start(rt.alloc())?;
+    assert!(rt; makes(&mut run, &TOGETHER)?);
+    assert!(rt; run.state() == SourceState::Stuck);
+    assert!(rt; run.step(SourceMove::Move(0))? == Stepped::CannotMove);
+    assert!(rt; run.waits(0) == Some(SourceWait::Mutex("b", 1)));
+    assert!(rt; run.waits(1) == Some(SourceWait::Mutex("a", 0)));
     assert!(rt; run.output().is_empty());
     Ok(())
 }

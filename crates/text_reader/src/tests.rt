@@ -9,7 +9,7 @@ struct Case {
     at: usize,
 }
 
-const CASES: [Case; 9] = [
+static CASES: [Case; 9] = [
     Case {
         text: "int x = 08;",
         wrong: Wrong::BadLiteral,

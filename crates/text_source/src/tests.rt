@@ -13,7 +13,7 @@ struct Case {
     line: FaultLine,
 }
 
-const CASES: [Case; 7] = [
+static CASES: [Case; 7] = [
     Case {
         text: "int a;\n\n  @",
         line: FaultLine::Place(3, 3, PlaceWord::BadByte),

@@ -7,7 +7,8 @@ use crate::def::{
 };
 use crate::expr::Expr;
 use crate::name::CType;
-use crate::same::expr::{same_expr, same_exprs, same_type};
+use crate::same::ctype::same_type;
+use crate::same::expr::{same_expr, same_exprs};
 use crate::same::stmt::{same_block, same_declaration};
 use dsu_io::List;
 

@@ -1,20 +1,9 @@
 ghost use Rattle.std.specs.Prelude.{IsTrue, ◌≡◌, ◌↔◌, map};
-ghost use Rattle.c_tree.specs.Bare.{bare_arguments, bare_expr, bare_type};
+ghost use Rattle.c_tree.specs.Bare.{bare_arguments, bare_expr};
 
 use crate::expr::{Expr, ExprNode as Node};
-use crate::name::CType;
+use crate::same::ctype::same_type;
 use dsu_io::{Boxed, List};
-
-/// Whether two types are the same.
-pub fn same_type(a: &CType, b: &CType) -> bool
-    ensures { IsTrue result ↔ (bare_type a.now ≡ bare_type b.now) }
-{
-    match a {
-        CType::Integer(kind) => matches!(b, CType::Integer(other) if *other == *kind),
-        CType::Handle(name) => matches!(b, CType::Handle(other) if other.text == name.text),
-        CType::Thread => matches!(b, CType::Thread),
-    }
-}
 
 /// Whether two expressions are the same but for their places.
 #[cycle(same_expr)]
@@ -22,51 +11,128 @@ pub fn same_expr(a: &Expr, b: &Expr) -> bool
     ensures { IsTrue result ↔ (bare_expr a.now ≡ bare_expr b.now) }
 {
     match &a.node {
-        Node::Number(n) => matches!(&b.node, Node::Number(m) if *m == *n),
-        Node::Character(n) => matches!(&b.node, Node::Character(m) if *m == *n),
-        Node::Null => matches!(&b.node, Node::Null),
-        Node::Success => matches!(&b.node, Node::Success),
-        Node::Error => matches!(&b.node, Node::Error),
-        Node::Variable(name) => matches!(&b.node, Node::Variable(other) if *other == *name),
-        Node::Unary(op, x) => matches!(&b.node, Node::Unary(p, y) if *p == *op && same_part(x, y)),
-        Node::Step(op, x) => matches!(&b.node, Node::Step(p, y) if *p == *op && same_part(x, y)),
-        Node::Cast(to, x) =>
-            matches!(&b.node, Node::Cast(p, y) if same_type(to, p) && same_part(x, y)),
-        Node::Binary(op, x, y) =>
-            matches!(&b.node, Node::Binary(p, z, w) if *p == *op && same_part(x, z) && same_part(y, w)),
-        Node::And(x, y) => matches!(&b.node, Node::And(z, w) if same_part(x, z) && same_part(y, w)),
-        Node::Or(x, y) => matches!(&b.node, Node::Or(z, w) if same_part(x, z) && same_part(y, w)),
-        Node::Choice(x, y, z) =>
-            matches!(&b.node, Node::Choice(p, q, r) if same_part(x, p) && same_part(y, q) && same_part(z, r)),
-        Node::Assign(x, y) =>
-            matches!(&b.node, Node::Assign(z, w) if same_part(x, z) && same_part(y, w)),
-        Node::Update(op, x, y) =>
-            matches!(&b.node, Node::Update(p, z, w) if *p == *op && same_part(x, z) && same_part(y, w)),
-        Node::Call(name, x) =>
-            matches!(&b.node, Node::Call(other, y) if *other == *name && same_arguments(x, y)),
-        Node::Element(name, x) =>
-            matches!(&b.node, Node::Element(other, y) if *other == *name && same_part(x, y)),
-        Node::Arrow(x, name) =>
-            matches!(&b.node, Node::Arrow(y, other) if other.text == name.text && same_part(x, y)),
-        Node::Dot(x, name) =>
-            matches!(&b.node, Node::Dot(y, other) if other.text == name.text && same_part(x, y)),
+        Node::Number(n) => match &b.node {
+            Node::Number(m) => *m == *n,
+            _ => false,
+        },
+        Node::Character(n) => match &b.node {
+            Node::Character(m) => *m == *n,
+            _ => false,
+        },
+        Node::Null => match &b.node {
+            Node::Null => true,
+            _ => false,
+        },
+        Node::Success => match &b.node {
+            Node::Success => true,
+            _ => false,
+        },
+        Node::Error => match &b.node {
+            Node::Error => true,
+            _ => false,
+        },
+        Node::Variable(name) => match &b.node {
+            Node::Variable(other) => *other == *name,
+            _ => false,
+        },
+        Node::Unary(op, x) => match &b.node {
+            Node::Unary(p, y) => *p == *op && same_part(x, y),
+            _ => false,
+        },
+        Node::Step(op, x) => match &b.node {
+            Node::Step(p, y) => *p == *op && same_part(x, y),
+            _ => false,
+        },
+        Node::Cast(to, x) => match &b.node {
+            Node::Cast(p, y) => same_type(to, p) && same_part(x, y),
+            _ => false,
+        },
+        Node::Binary(op, x, y) => match &b.node {
+            Node::Binary(p, z, w) => *p == *op && same_part(x, z) && same_part(y, w),
+            _ => false,
+        },
+        Node::And(x, y) => match &b.node {
+            Node::And(z, w) => same_part(x, z) && same_part(y, w),
+            _ => false,
+        },
+        Node::Or(x, y) => match &b.node {
+            Node::Or(z, w) => same_part(x, z) && same_part(y, w),
+            _ => false,
+        },
+        Node::Choice(x, y, z) => match &b.node {
+            Node::Choice(p, q, r) => same_part(x, p) && same_part(y, q) && same_part(z, r),
+            _ => false,
+        },
+        Node::Assign(x, y) => match &b.node {
+            Node::Assign(z, w) => same_part(x, z) && same_part(y, w),
+            _ => false,
+        },
+        Node::Update(op, x, y) => match &b.node {
+            Node::Update(p, z, w) => *p == *op && same_part(x, z) && same_part(y, w),
+            _ => false,
+        },
+        Node::Call(name, x) => match &b.node {
+            Node::Call(other, y) => *other == *name && same_arguments(x, y),
+            _ => false,
+        },
+        Node::Element(name, x) => match &b.node {
+            Node::Element(other, y) => *other == *name && same_part(x, y),
+            _ => false,
+        },
+        Node::Arrow(x, name) => match &b.node {
+            Node::Arrow(y, other) => other.text == name.text && same_part(x, y),
+            _ => false,
+        },
+        Node::Dot(x, name) => match &b.node {
+            Node::Dot(y, other) => other.text == name.text && same_part(x, y),
+            _ => false,
+        },
         Node::Print {
-            format,
-            arguments,
+            format: f,
+            arguments: x,
             ..
-        } =>
-            matches!(&b.node, Node::Print { format: f, arguments: g, .. } if *f == *format && same_arguments(arguments, g)),
-        Node::Calloc(name) => matches!(&b.node, Node::Calloc(other) if other.text == name.text),
-        Node::Free(x) => matches!(&b.node, Node::Free(y) if same_part(x, y)),
-        Node::Create(x, name, y) =>
-            matches!(&b.node, Node::Create(z, other, w) if other.text == name.text && same_part(x, z) && same_part(y, w)),
-        Node::Join(x) => matches!(&b.node, Node::Join(y) if same_part(x, y)),
-        Node::JoinInto(x, y) =>
-            matches!(&b.node, Node::JoinInto(z, w) if same_part(x, z) && same_part(y, w)),
-        Node::InitMutex(name) =>
-            matches!(&b.node, Node::InitMutex(other) if other.text == name.text),
-        Node::Lock(name) => matches!(&b.node, Node::Lock(other) if other.text == name.text),
-        Node::Unlock(name) => matches!(&b.node, Node::Unlock(other) if other.text == name.text),
+        } => match &b.node {
+            Node::Print {
+                format: g,
+                arguments: y,
+                ..
+            } => *f == *g && same_arguments(x, y),
+            _ => false,
+        },
+        Node::Calloc(name) => match &b.node {
+            Node::Calloc(other) => other.text == name.text,
+            _ => false,
+        },
+        Node::Free(x) => match &b.node {
+            Node::Free(y) => same_part(x, y),
+            _ => false,
+        },
+        Node::Create(x, name, y) => match &b.node {
+            Node::Create(z, other, w) => other.text == name.text
+                && same_part(x, z)
+                && same_part(y, w),
+            _ => false,
+        },
+        Node::Join(x) => match &b.node {
+            Node::Join(y) => same_part(x, y),
+            _ => false,
+        },
+        Node::JoinInto(x, y) => match &b.node {
+            Node::JoinInto(z, w) => same_part(x, z) && same_part(y, w),
+            _ => false,
+        },
+        Node::InitMutex(name) => match &b.node {
+            Node::InitMutex(other) => other.text == name.text,
+            _ => false,
+        },
+        Node::Lock(name) => match &b.node {
+            Node::Lock(other) => other.text == name.text,
+            _ => false,
+        },
+        Node::Unlock(name) => match &b.node {
+            Node::Unlock(other) => other.text == name.text,
+            _ => false,
+        },
     }
 }
 

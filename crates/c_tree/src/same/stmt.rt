@@ -2,7 +2,8 @@ ghost use Rattle.std.specs.Prelude.{IsTrue, ◌≡◌, ◌↔◌, map, option_ma
 ghost use Rattle.c_tree.specs.Bare.{bare_block, bare_declaration, bare_expr, bare_stmt};
 
 use crate::expr::Expr;
-use crate::same::expr::{same_expr, same_type};
+use crate::same::ctype::same_type;
+use crate::same::expr::same_expr;
 use crate::stmt::{Declaration, Stmt, StmtNode as Node};
 use dsu_io::{Boxed, List};
 
@@ -12,25 +13,69 @@ pub fn same_stmt(a: &Stmt, b: &Stmt) -> bool
     ensures { IsTrue result ↔ (bare_stmt a.now ≡ bare_stmt b.now) }
 {
     match &a.node {
-        Node::Block(x) => matches!(&b.node, Node::Block(y) if same_block(x, y)),
-        Node::Empty => matches!(&b.node, Node::Empty),
-        Node::Evaluate(x) => matches!(&b.node, Node::Evaluate(y) if same_expr(x, y)),
-        Node::Declare(x) => matches!(&b.node, Node::Declare(y) if same_declaration(x, y)),
-        Node::If(x, s) => matches!(&b.node, Node::If(y, t) if same_expr(x, y) && same_inner(s, t)),
-        Node::IfElse(x, s, t) =>
-            matches!(&b.node, Node::IfElse(y, u, v) if same_expr(x, y) && same_inner(s, u) && same_inner(t, v)),
-        Node::While(x, s) =>
-            matches!(&b.node, Node::While(y, t) if same_expr(x, y) && same_inner(s, t)),
-        Node::DoWhile(s, x) =>
-            matches!(&b.node, Node::DoWhile(t, y) if same_expr(x, y) && same_inner(s, t)),
-        Node::For(first, test, step, s) =>
-            matches!(&b.node, Node::For(f, c, e, t) if same_block(first, f) && same_optional(test, c) && same_optional(step, e) && same_inner(s, t)),
-        Node::Break => matches!(&b.node, Node::Break),
-        Node::Continue => matches!(&b.node, Node::Continue),
-        Node::Return => matches!(&b.node, Node::Return),
-        Node::ReturnValue(x) => matches!(&b.node, Node::ReturnValue(y) if same_expr(x, y)),
-        Node::Update => matches!(&b.node, Node::Update),
-        Node::Transaction(x, _) => matches!(&b.node, Node::Transaction(y, _) if same_block(x, y)),
+        Node::Block(x) => match &b.node {
+            Node::Block(y) => same_block(x, y),
+            _ => false,
+        },
+        Node::Empty => match &b.node {
+            Node::Empty => true,
+            _ => false,
+        },
+        Node::Evaluate(x) => match &b.node {
+            Node::Evaluate(y) => same_expr(x, y),
+            _ => false,
+        },
+        Node::Declare(x) => match &b.node {
+            Node::Declare(y) => same_declaration(x, y),
+            _ => false,
+        },
+        Node::If(x, s) => match &b.node {
+            Node::If(y, t) => same_expr(x, y) && same_inner(s, t),
+            _ => false,
+        },
+        Node::IfElse(x, s, t) => match &b.node {
+            Node::IfElse(y, u, v) => same_expr(x, y) && same_inner(s, u) && same_inner(t, v),
+            _ => false,
+        },
+        Node::While(x, s) => match &b.node {
+            Node::While(y, t) => same_expr(x, y) && same_inner(s, t),
+            _ => false,
+        },
+        Node::DoWhile(s, x) => match &b.node {
+            Node::DoWhile(t, y) => same_expr(x, y) && same_inner(s, t),
+            _ => false,
+        },
+        Node::For(first, test, step, s) => match &b.node {
+            Node::For(f, c, e, t) => same_block(first, f)
+                && same_optional(test, c)
+                && same_optional(step, e)
+                && same_inner(s, t),
+            _ => false,
+        },
+        Node::Break => match &b.node {
+            Node::Break => true,
+            _ => false,
+        },
+        Node::Continue => match &b.node {
+            Node::Continue => true,
+            _ => false,
+        },
+        Node::Return => match &b.node {
+            Node::Return => true,
+            _ => false,
+        },
+        Node::ReturnValue(x) => match &b.node {
+            Node::ReturnValue(y) => same_expr(x, y),
+            _ => false,
+        },
+        Node::Update => match &b.node {
+            Node::Update => true,
+            _ => false,
+        },
+        Node::Transaction(x, _) => match &b.node {
+            Node::Transaction(y, _) => same_block(x, y),
+            _ => false,
+        },
     }
 }
 

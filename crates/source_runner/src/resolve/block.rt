@@ -2,21 +2,22 @@
 ghost use Rattle.std.specs.Prelude.{◌≡◌, ◌∷◌, [], map, option_map, IfOk, OnOk};
 ghost use Rattle.std.specs.Option.{option_map_or};
 ghost use Rattle.c_tree.specs.Bare.{bare_type, bare_expr, bare_stmt, bare_declaration};
-ghost use Rattle.c_types.specs.Resolved.{NoStatements, Convert, Declare};
+ghost use Rattle.c_types.specs.Resolved.{NoStatements, Constant, Convert, Declare, Evaluate, Return};
 ghost use Rattle.c_types.specs.Texts.{int};
-ghost use Rattle.c_types.specs.Resolution.{tree_of, declared_by, declaration as declaration_of};
+ghost use Rattle.c_types.specs.Resolution.{int_value, tree_of, declared_by, declaration as declaration_of};
 ghost use Rattle.source_runner.specs.Nodes.{Table, expression_at, expression_if, statement_at, statement_of, statements_at, statements_of};
 ghost use Rattle.source_runner.specs.Parts.{a_node, a_node_if, in_statement, in_statements};
 ghost use Rattle.source_runner.specs.Found.{Grows, IsIn, each_node, before};
 ghost use Rattle.source_runner.specs.Known.{known_of, locals_of, binding_of};
 ghost use Rattle.source_runner.specs.Trees.{table};
 
-use crate::node::{Node, NodeId, StatementNode, StatementsNode};
+use crate::node::{ExpressionNode, Node, NodeId, StatementNode, StatementsNode};
 use crate::resolve::expression::resolve;
-use crate::resolve::found::{converted, tree, value_type, word};
+use crate::resolve::found::{converted, expression, tree, value_type, word};
 use crate::resolve::known::{Known, Local};
 use crate::resolve::names::type_or_int;
 use crate::trees::Trees;
+use c_ints::Int;
 use c_tree::{CType, Declaration, Expr, Stmt, StmtNode};
 use std::alloc::{AllocError, Global};
 
@@ -192,4 +193,49 @@ pub(crate) fn declaration<'a>(
     let declared = value_type(trees, &declaration.declared)?;
     let name = word(trees, declaration.name.text.as_str())?;
     statement(trees, StatementNode::Declare(declared, name, value))
+}
+
+/// An expression whose value is dropped.
+pub(crate) fn evaluation(
+    trees: &mut Trees,
+    known: &Known,
+    locals: &[Local],
+    expr: &Expr,
+) -> Result<NodeId, AllocError>
+    ensures tree { IfOk result (λ id. (u : Table) → Grows (table trees.new) u
+        → statement_at u id ≡ Evaluate (tree_of (known_of known.now) (locals_of locals.now) (bare_expr expr.now))) }
+    ensures within { IfOk result (λ id. IsIn (table trees.new) (a_node id)) }
+    ensures grows { Grows (table trees.old) (table trees.new) }
+{
+    let x = evaluated(trees, known, locals, expr)?;
+    statement(trees, StatementNode::Evaluate(x))
+}
+
+/// A return without a value, which gives 0.
+pub(crate) fn return_zero(trees: &mut Trees) -> Result<NodeId, AllocError>
+    ensures tree { IfOk result (λ id. (u : Table) → Grows (table trees.new) u
+        → statement_at u id ≡ Return (Constant int_value)) }
+    ensures within { IfOk result (λ id. IsIn (table trees.new) (a_node id)) }
+    ensures grows { Grows (table trees.old) (table trees.new) }
+{
+    let x = expression(trees, ExpressionNode::Constant(Int::I32(0)))?;
+    statement(trees, StatementNode::Return(x))
+}
+
+/// A return with a value, converted to the type of the function's value.
+pub(crate) fn return_value(
+    trees: &mut Trees,
+    known: &Known,
+    locals: &[Local],
+    returned: Option<&CType>,
+    expr: &Expr,
+) -> Result<NodeId, AllocError>
+    ensures tree { IfOk result (λ id. (u : Table) → Grows (table trees.new) u
+        → statement_at u id ≡ Return (Convert (option_map_or (λ t. bare_type t.now) returned.entry int)
+        (tree_of (known_of known.now) (locals_of locals.now) (bare_expr expr.now)))) }
+    ensures within { IfOk result (λ id. IsIn (table trees.new) (a_node id)) }
+    ensures grows { Grows (table trees.old) (table trees.new) }
+{
+    let x = assigned(trees, known, locals, returned, expr)?;
+    statement(trees, StatementNode::Return(x))
 }

@@ -15,7 +15,7 @@ use c_tree::CType;
 use std::alloc::AllocError;
 
 /// What an expression is: a value by its tree, or a place, which is read where its value is asked.
-#[derive(Clone, Copy, Debug)]
+#[derive(Clone, Copy)]
 pub(crate) enum Found {
     Value(NodeId, ValueType),
     Located(Place, ValueType),

@@ -10,14 +10,14 @@ use c_tree::{Binding, CType, Def, DefKind};
 use std::alloc::{AllocError, Global};
 
 /// What the definitions of a text say of its names.
-#[derive(Debug, Drop)]
+#[derive(Drop)]
 pub struct Known<'a> {
     pub(crate) alloc: Global,
     definitions: &'a [Def],
 }
 
 /// A local variable, by the tree that declares it.
-#[derive(Clone, Copy, Debug)]
+#[derive(Clone, Copy)]
 pub(crate) struct Local<'a> {
     pub declared: &'a CType,
     pub name: &'a str,

@@ -1,24 +1,25 @@
 //! Statements and bodies, by the trees of a text.
 ghost use Rattle.std.specs.Prelude.{◌≡◌, Some, map, option_map, unwrap_or, IfOk, OnOk};
 ghost use Rattle.std.specs.Option.{option_map_or};
-ghost use Rattle.c_tree.specs.Bare.{bare_type, bare_stmt, bare_block, bare_binding, bare_function};
+ghost use Rattle.c_tree.specs.Bare.{bare_type, bare_expr, bare_stmt, bare_block, bare_binding, bare_function};
 ghost use Rattle.c_types.specs.Texts.{int};
-ghost use Rattle.c_types.specs.Resolution.{statement as statement_by, statements as statements_by, declared_by_all, resolved_body};
+ghost use Rattle.c_types.specs.Resolution.{tree_of, statement as statement_by, statements as statements_by, declared_by_all, resolved_body};
+ghost use Rattle.source_runner.specs.Forms.{of_guarded, of_nested};
 ghost use Rattle.source_runner.specs.Nodes.{Table, statement_at, statements_at};
 ghost use Rattle.source_runner.specs.Parts.{a_node};
 ghost use Rattle.source_runner.specs.Found.{Grows, IsIn};
 ghost use Rattle.source_runner.specs.Known.{known_of, locals_of, binding_of};
 ghost use Rattle.source_runner.specs.Trees.{table};
 
-use crate::node::{ExpressionNode, NodeId, StatementNode};
+use crate::node::{NodeId, StatementNode};
 use crate::resolve::block::{
-    assigned, copied, declaration, declare, evaluated, evaluated_if, linked, statement,
+    copied, declaration, declare, evaluated, evaluated_if, evaluation, linked, return_value,
+    return_zero, statement,
 };
-use crate::resolve::found::expression;
+use crate::resolve::form::{Guarded, Nested, made_of_guarded, made_of_nested};
 use crate::resolve::known::{Known, Local};
 use crate::trees::Trees;
-use c_ints::Int;
-use c_tree::{Binding, CType, Function, Stmt, StmtNode};
+use c_tree::{Binding, CType, Expr, Function, Stmt, StmtNode};
 use dsu_io::{Boxed, List};
 use std::alloc::{AllocError, Global};
 
@@ -38,36 +39,20 @@ fn resolve_statement<'a>(
     ensures grows { Grows (table trees.old) (table trees.new) }
 {
     match &stmt.node {
-        StmtNode::Block(body) => {
-            let list = block(trees, known, returned, locals, body)?;
-            statement(trees, StatementNode::Block(list))
-        }
+        StmtNode::Block(body) => nested(trees, known, returned, locals, body, Nested::Block),
         StmtNode::Empty => statement(trees, StatementNode::Empty),
-        StmtNode::Evaluate(e) => {
-            let x = evaluated(trees, known, locals, e)?;
-            statement(trees, StatementNode::Evaluate(x))
-        }
+        StmtNode::Evaluate(e) => evaluation(trees, known, locals, e),
         StmtNode::Declare(declared) => declaration(trees, known, locals, declared),
-        StmtNode::If(e, a) => {
-            let x = evaluated(trees, known, locals, e)?;
-            let y = inner(trees, known, returned, locals, a)?;
-            statement(trees, StatementNode::If(x, y))
-        }
+        StmtNode::If(e, a) => guarded(trees, known, returned, locals, a, e, Guarded::If),
         StmtNode::IfElse(e, a, b) => {
             let x = evaluated(trees, known, locals, e)?;
             let y = inner(trees, known, returned, locals, a)?;
             let z = inner(trees, known, returned, locals, b)?;
             statement(trees, StatementNode::IfElse(x, y, z))
         }
-        StmtNode::While(e, a) => {
-            let x = evaluated(trees, known, locals, e)?;
-            let y = inner(trees, known, returned, locals, a)?;
-            statement(trees, StatementNode::While(x, y))
-        }
+        StmtNode::While(e, a) => guarded(trees, known, returned, locals, a, e, Guarded::While),
         StmtNode::DoWhile(a, e) => {
-            let y = inner(trees, known, returned, locals, a)?;
-            let x = evaluated(trees, known, locals, e)?;
-            statement(trees, StatementNode::DoWhile(y, x))
+            guarded(trees, known, returned, locals, a, e, Guarded::DoWhile)
         }
         StmtNode::For(first, test, step, a) => {
             let mut scope = copied(known.alloc, locals)?;
@@ -79,18 +64,11 @@ fn resolve_statement<'a>(
         }
         StmtNode::Break => statement(trees, StatementNode::Break),
         StmtNode::Continue => statement(trees, StatementNode::Continue),
-        StmtNode::Return => {
-            let x = expression(trees, ExpressionNode::Constant(Int::I32(0)))?;
-            statement(trees, StatementNode::Return(x))
-        }
-        StmtNode::ReturnValue(e) => {
-            let x = assigned(trees, known, locals, returned, e)?;
-            statement(trees, StatementNode::Return(x))
-        }
+        StmtNode::Return => return_zero(trees),
+        StmtNode::ReturnValue(e) => return_value(trees, known, locals, returned, e),
         StmtNode::Update => statement(trees, StatementNode::UpdatePoint),
         StmtNode::Transaction(body, _) => {
-            let list = block(trees, known, returned, locals, body)?;
-            statement(trees, StatementNode::Transaction(list))
+            nested(trees, known, returned, locals, body, Nested::Transaction)
         }
     }
 }
@@ -110,6 +88,48 @@ fn inner<'a>(
     ensures grows { Grows (table trees.old) (table trees.new) }
 {
     resolve_statement(trees, known, returned, locals, stmt.get())
+}
+
+/// A form of a test and a statement.
+#[cycle(resolve_statement)]
+fn guarded<'a>(
+    trees: &mut Trees,
+    known: &Known,
+    returned: Option<&CType>,
+    locals: &[Local<'a>],
+    stmt: &'a Boxed<Stmt>,
+    test: &Expr,
+    form: Guarded,
+) -> Result<NodeId, AllocError>
+    ensures tree { IfOk result (λ id. (u : Table) → Grows (table trees.new) u
+        → statement_at u id ≡ of_guarded form (tree_of (known_of known.now) (locals_of locals.now) (bare_expr test.now))
+        (statement_by (known_of known.now) (option_map_or (λ t. bare_type t.now) returned.entry int) (locals_of locals.now) (bare_stmt stmt.now))) }
+    ensures within { IfOk result (λ id. IsIn (table trees.new) (a_node id)) }
+    ensures grows { Grows (table trees.old) (table trees.new) }
+{
+    let x = evaluated(trees, known, locals, test)?;
+    let y = inner(trees, known, returned, locals, stmt)?;
+    made_of_guarded(trees, form, x, y)
+}
+
+/// A form of a block.
+#[cycle(resolve_statement)]
+fn nested<'a>(
+    trees: &mut Trees,
+    known: &Known,
+    returned: Option<&CType>,
+    locals: &[Local<'a>],
+    list: &'a List<Stmt>,
+    form: Nested,
+) -> Result<NodeId, AllocError>
+    ensures tree { IfOk result (λ id. (u : Table) → Grows (table trees.new) u
+        → statement_at u id ≡ of_nested form
+        (statements_by (known_of known.now) (option_map_or (λ t. bare_type t.now) returned.entry int) (locals_of locals.now) (bare_block (map bare_stmt list.now)))) }
+    ensures within { IfOk result (λ id. IsIn (table trees.new) (a_node id)) }
+    ensures grows { Grows (table trees.old) (table trees.new) }
+{
+    let ss = block(trees, known, returned, locals, list)?;
+    made_of_nested(trees, form, ss)
 }
 
 /// The statements of a block. What they declare is known in it alone.

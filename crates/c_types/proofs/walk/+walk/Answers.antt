@@ -4,9 +4,10 @@ use Rattle.c_tree.specs.declared.stmt.StmtNode.TheVariants.{For}
 use Rattle.c_types.specs.Faults.{first, sooner}
 use Rattle.c_types.specs.Expressions.{is_condition}
 use Rattle.c_types.specs.Lookup.{Scopes}
-use Rattle.c_types.specs.Statements.{Walked, evaluated, in_block, in_order, walk}
+use Rattle.c_types.specs.Statements.{Walked, evaluated, in_block, in_loop, in_order, walk}
 use Rattle.c_types.specs.Views.{around_seen}
-use Rattle.c_types.proofs.Walks.{outside_of_all, faults_along, scopes_along, fault_of_if, fault_of_if_else, fault_of_while, fault_of_do, fault_of_for, sooner_is, turn, walk_of}
+use Rattle.c_types.proofs.Firsts.{first_append}
+use Rattle.c_types.proofs.Walks.{outside_of_all, faults_along, scopes_along, fault_of_if_else, fault_of_for, sooner_is, turn, walk_of}
 use Rattle.c_types.proofs.walk.+walk.Goals as goal
 
 pub block-leave-requires : goal.block-leave-requires
@@ -22,34 +23,21 @@ block-returns-clause-scopes t c =
     ∙ kept.outer
     ∙ ap (drop 1) c.in_ok-enter.ensures.entered
 
-pub statement-returns-in_ok-inner-in-If-clause-fault :
-    goal.statement-returns-in_ok-inner-in-If-clause-fault
-statement-returns-in_ok-inner-in-If-clause-fault t c =
-    sooner_is c.sooner.ensures c.in_ok-of_test-in-If.ensures c.in_ok-inner-in-If.ensures.fault
-    ∙ sym (fault_of_if c.args.stmt.now c.in-If.test c.in-If.body (around_seen c.args.around.now c.args.scopes.now) c.in-If.is)
+pub do_loop-returns-clause-fault : goal.do_loop-returns-clause-fault
+do_loop-returns-clause-fault t c =
+    let around = around_seen c.args.around.now c.args.scopes.now in
+    sooner_is c.sooner.ensures c.in_ok-of_body.ensures.fault
+    (c.in_ok-of_test.ensures
+    ∙ ap (λ scopes. first (evaluated is_condition (around_seen c.args.around.now scopes) c.args.test.now)) c.in_ok-of_body.ensures.scopes)
+    ∙ sym (first_append ((walk c.args.body.now (in_block (in_loop around))).faults) (evaluated is_condition around c.args.test.now))
 
 pub statement-returns-in_ok-of_otherwise-in-IfElse-clause-fault :
     goal.statement-returns-in_ok-of_otherwise-in-IfElse-clause-fault
 statement-returns-in_ok-of_otherwise-in-IfElse-clause-fault t c =
-    sooner_is c.sooner-in-IfElse-2.ensures c.in_ok-of_test-in-IfElse.ensures
-    (sooner_is c.sooner-in-IfElse.ensures c.in_ok-of_body-in-IfElse.ensures.fault
+    sooner_is c.sooner.ensures c.in_ok-of_then-in-IfElse.ensures.fault
     (c.in_ok-of_otherwise-in-IfElse.ensures.fault
-    ∙ ap (λ scopes. first ((walk c.in-IfElse.otherwise (in_block (around_seen c.args.around.now scopes))).faults)) c.in_ok-of_body-in-IfElse.ensures.scopes))
+    ∙ ap (λ scopes. first ((walk c.in-IfElse.otherwise (in_block (around_seen c.args.around.now scopes))).faults)) c.in_ok-of_then-in-IfElse.ensures.scopes)
     ∙ sym (fault_of_if_else c.args.stmt.now c.in-IfElse.test c.in-IfElse.body c.in-IfElse.otherwise (around_seen c.args.around.now c.args.scopes.now) c.in-IfElse.is)
-
-pub statement-returns-in_ok-repeated-in-While-clause-fault :
-    goal.statement-returns-in_ok-repeated-in-While-clause-fault
-statement-returns-in_ok-repeated-in-While-clause-fault t c =
-    sooner_is c.sooner-in-While.ensures c.in_ok-of_test-in-While.ensures c.in_ok-repeated-in-While.ensures.fault
-    ∙ sym (fault_of_while c.args.stmt.now c.in-While.test c.in-While.body (around_seen c.args.around.now c.args.scopes.now) c.in-While.is)
-
-pub statement-returns-in_ok-tested-in-DoWhile-clause-fault :
-    goal.statement-returns-in_ok-tested-in-DoWhile-clause-fault
-statement-returns-in_ok-tested-in-DoWhile-clause-fault t c =
-    sooner_is c.sooner-in-DoWhile.ensures c.in_ok-of_body-in-DoWhile.ensures.fault
-    (c.in_ok-tested-in-DoWhile.ensures
-    ∙ ap (λ scopes. first (evaluated is_condition (around_seen c.args.around.now scopes) c.in-DoWhile.test)) c.in_ok-of_body-in-DoWhile.ensures.scopes)
-    ∙ sym (fault_of_do c.args.stmt.now c.in-DoWhile.body c.in-DoWhile.test (around_seen c.args.around.now c.args.scopes.now) c.in-DoWhile.is)
 
 pub statement-leave-requires : goal.statement-leave-requires
 statement-leave-requires t c =

@@ -1,6 +1,6 @@
 use Rattle.c_tree.specs.Bare.{bare_binding}
 use Rattle.source_runner.specs.Definitions.{binding_of}
-use Rattle.source_runner.proofs.Kept.{grows_trans, mapped_once}
+use Rattle.source_runner.proofs.Kept.{grows_refl, grows_trans, mapped_once}
 use Rattle.source_runner.proofs.program.bindings.Goals as goal
 
 pub loop-one-preserved : goal.loop-one-preserved
@@ -11,3 +11,15 @@ loop-one-preserved c = record {
       c.in_ok-push.ensures.items c.loop-one-test.true c.one-item.is (c.loop-one.invariant.made u (grows_trans _ _ u c.declared_binding.ensures.grows g))
       (c.in_ok-binding.ensures.binding u g);
 }
+
+pub returns-in_err-bindings-clause-grows : goal.returns-in_err-bindings-clause-grows
+returns-in_err-bindings-clause-grows c = grows_refl _
+
+pub returns-in_err-binding-clause-grows : goal.returns-in_err-binding-clause-grows
+returns-in_err-binding-clause-grows c = grows_trans _ _ _ c.loop-one.invariant.grows c.in_err-binding.ensures.grows
+
+pub returns-in_err-push-clause-grows : goal.returns-in_err-push-clause-grows
+returns-in_err-push-clause-grows c = grows_trans _ _ _ c.loop-one.invariant.grows c.in_ok-binding.ensures.grows
+
+pub returns-clause-grows : goal.returns-clause-grows
+returns-clause-grows c = c.loop-one.invariant.grows

@@ -13,3 +13,12 @@ unfolding made
 returns-clause-binding c = λ u g.
     let named = c.in_ok-name.ensures.word u (grows_trans _ _ u c.value_type.ensures.grows g) ∙ c.as_str.ensures in
     ap (made (type_of u c.in_ok-declared.declared)) named ∙ ap (λ d. made d c.args.declared.now.name.text) (c.in_ok-declared.ensures.declared u g)
+
+pub returns-in_err-name-clause-grows : goal.returns-in_err-name-clause-grows
+returns-in_err-name-clause-grows c = c.in_err-name.ensures.grows
+
+pub returns-in_err-declared-clause-grows : goal.returns-in_err-declared-clause-grows
+returns-in_err-declared-clause-grows c = grows_trans _ _ _ c.in_ok-name.ensures.grows c.in_err-declared.ensures.grows
+
+pub returns-clause-grows : goal.returns-clause-grows
+returns-clause-grows c = grows_trans _ _ _ c.in_ok-name.ensures.grows c.in_ok-declared.ensures.grows

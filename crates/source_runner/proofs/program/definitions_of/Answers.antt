@@ -36,3 +36,12 @@ loop-definition-preserved c =
                 (added_none u look ds before now own longer (defines_none u (known_of c.of-known.result) c.in_ok-made.field-0 own w.in_default.is told) name so_far)
           ];
     }
+
+pub returns-in_err-made-clause-grows : goal.returns-in_err-made-clause-grows
+returns-in_err-made-clause-grows c = grows_trans _ _ _ c.loop-definition.invariant.grows c.in_err-made.ensures.grows
+
+pub returns-in_err-push-clause-grows : goal.returns-in_err-push-clause-grows
+returns-in_err-push-clause-grows c = grows_trans _ _ _ c.loop-definition.invariant.grows c.in_ok-made.ensures.grows
+
+pub returns-clause-grows : goal.returns-clause-grows
+returns-clause-grows c = c.loop-definition.invariant.grows

@@ -19,3 +19,18 @@ returns-clause-made c = λ u g.
         body = c.in_ok-body.ensures.body u g0;
       };
     }
+
+pub returns-in_err-body-clause-grows : goal.returns-in_err-body-clause-grows
+returns-in_err-body-clause-grows c = c.in_err-body.ensures.grows
+
+pub returns-in_err-name-clause-grows : goal.returns-in_err-name-clause-grows
+returns-in_err-name-clause-grows c = grows_trans _ _ _ c.in_ok-body.ensures.grows c.in_err-name.ensures.grows
+
+pub returns-in_err-parameters-clause-grows : goal.returns-in_err-parameters-clause-grows
+returns-in_err-parameters-clause-grows c = grows_trans _ _ _ c.in_ok-body.ensures.grows (grows_trans _ _ _ c.in_ok-name.ensures.grows c.in_err-parameters.ensures.grows)
+
+pub returns-in_err-result-clause-grows : goal.returns-in_err-result-clause-grows
+returns-in_err-result-clause-grows c = grows_trans _ _ _ c.in_ok-body.ensures.grows (grows_trans _ _ _ c.in_ok-name.ensures.grows (grows_trans _ _ _ c.in_ok-parameters.ensures.grows c.in_err-result.ensures.grows))
+
+pub returns-clause-grows : goal.returns-clause-grows
+returns-clause-grows c = grows_trans _ _ _ c.in_ok-body.ensures.grows (grows_trans _ _ _ c.in_ok-name.ensures.grows (grows_trans _ _ _ c.in_ok-parameters.ensures.grows c.in_ok-result.ensures.grows))

@@ -36,3 +36,12 @@ loop-definition-preserved c =
                 (told_none (cells_of u) cells_at_first cs before now own longer so_far (ap (option_map (cells_of u)) (sym w.in_default.is) ∙ told))
           ];
     }
+
+pub returns-in_err-cells-clause-grows : goal.returns-in_err-cells-clause-grows
+returns-in_err-cells-clause-grows c = grows_trans _ _ _ c.loop-definition.invariant.grows c.in_err-cells.ensures.grows
+
+pub returns-in_err-push-clause-grows : goal.returns-in_err-push-clause-grows
+returns-in_err-push-clause-grows c = grows_trans _ _ _ c.loop-definition.invariant.grows c.in_ok-cells.ensures.grows
+
+pub returns-clause-grows : goal.returns-clause-grows
+returns-clause-grows c = c.loop-definition.invariant.grows

@@ -1,7 +1,7 @@
 use Rattle.std.proofs.Common.{map, ◌∙◌}
 use Rattle.c_tree.specs.Bare.{bare_binding}
 use Rattle.source_runner.specs.Trees.{table}
-use Rattle.source_runner.proofs.Kept.{grows_trans}
+use Rattle.source_runner.proofs.Kept.{grows_refl, grows_trans}
 use Rattle.source_runner.proofs.Defining.{struct_ok}
 use Rattle.source_runner.proofs.program.struct_of.Goals as goal
 
@@ -12,3 +12,15 @@ returns-clause-made c =
     made.name made.parameters made.body made.result made.members
     (λ u g. c.in_ok-members.ensures.bindings u (grows_trans _ _ u made.grows g))
     (λ u g. c.in_ok-name-2.ensures.word u (grows_trans _ _ u c.bindings.ensures.grows (grows_trans _ _ u made.grows g)) ∙ c.as_str.ensures.value ∙ c.in_ok-name.ensures)
+
+pub returns-in_err-name-clause-grows : goal.returns-in_err-name-clause-grows
+returns-in_err-name-clause-grows c = grows_refl _
+
+pub returns-in_err-name-2-clause-grows : goal.returns-in_err-name-2-clause-grows
+returns-in_err-name-2-clause-grows c = c.in_err-name-2.ensures.grows
+
+pub returns-in_err-members-clause-grows : goal.returns-in_err-members-clause-grows
+returns-in_err-members-clause-grows c = grows_trans _ _ _ c.in_ok-name-2.ensures.grows c.in_err-members.ensures.grows
+
+pub returns-clause-grows : goal.returns-clause-grows
+returns-clause-grows c = grows_trans _ _ _ c.in_ok-name-2.ensures.grows (grows_trans _ _ _ c.in_ok-members.ensures.grows c.without_body.ensures.grows)

@@ -1,7 +1,8 @@
-use Rattle.std.proofs.Common.{rules, ◌≡◌, map, ◌<◌, length, arith, ap, sym, ◌∙◌, refl}
+use Rattle.std.proofs.Common.{rules, ◌≡◌, map, ◌<◌, length, arith, ap, sym, ◌∙◌}
 use Rattle.c_tree.specs.Bare.{bare_block, bare_stmt}
 use Rattle.c_tree.proofs.Lists.{equal_at}
 use Rattle.c_tree.proofs.Stmts.{block_once, of_transaction}
+use Rattle.c_tree.proofs.StmtForms.{same_form}
 use Rattle.c_tree.proofs.same.stmt.+same_stmt.Goals as goal
 
 pub same_block-returns : goal.same_block-returns
@@ -22,20 +23,135 @@ same_stmts-returns-then-not-same_stmt t c = (
       search (rules, r),
 )
 
-pub same_stmt-returns-in-Transaction-matches : goal.same_stmt-returns-in-Transaction-matches
-same_stmt-returns-in-Transaction-matches t c =
+pub same_stmt-returns-in-Transaction-node : goal.same_stmt-returns-in-Transaction-node
+same_stmt-returns-in-Transaction-node t c =
     let p = of_transaction _ _ _ c.in-Transaction.is in
-    let q = of_transaction _ _ _ c.in-Transaction-matches.is in
-    (λ h. search (rules, p, q), λ e. refl)
-
-pub same_stmt-returns-in_default-matches-14 : goal.same_stmt-returns-in_default-matches-14
-same_stmt-returns-in_default-matches-14 t c =
-    let p = of_transaction _ _ _ c.in-Transaction.is in
-    let q = of_transaction _ _ _ c.in-Transaction-matches.is in (
-      λ h. cc,
+    let q = of_transaction _ _ _ c.in-Transaction-node.is in (
+      λ h.
+          let r = c.same_block-in-Transaction-node.ensures.0 h in
+          search (rules, p, q, r),
       λ e.
           let k = sym p ∙ e ∙ q in
-          let j : bare_block (map bare_stmt c.in-Transaction.x) ≡ bare_block (map bare_stmt c.in-Transaction-matches.y) = cc in
-          let r = c.same_block-in-Transaction.ensures.1 j in
-          search (rules, r),
+          let j : bare_block (map bare_stmt c.in-Transaction.x) ≡ bare_block (map bare_stmt c.in-Transaction-node.y) = cc in
+          c.same_block-in-Transaction-node.ensures.1 j,
     )
+
+pub same_stmt-returns-in_default : goal.same_stmt-returns-in_default
+same_stmt-returns-in_default t c = (
+  λ h. cc,
+  λ e.
+      let same = same_form _ _ _ c.in-Block.is e in
+      absurd (c.in_default.not-Block same.0 same.1),
+)
+
+pub same_stmt-returns-in_default-node : goal.same_stmt-returns-in_default-node
+same_stmt-returns-in_default-node t c = (
+  λ h. cc,
+  λ e.
+      let same = same_form _ _ _ c.in-Empty.is e in
+      absurd (c.in_default-node.not-Empty same),
+)
+
+pub same_stmt-returns-in_default-node-2 : goal.same_stmt-returns-in_default-node-2
+same_stmt-returns-in_default-node-2 t c = (
+  λ h. cc,
+  λ e.
+      let same = same_form _ _ _ c.in-Evaluate.is e in
+      absurd (c.in_default-node-2.not-Evaluate same.0 same.1),
+)
+
+pub same_stmt-returns-in_default-node-3 : goal.same_stmt-returns-in_default-node-3
+same_stmt-returns-in_default-node-3 t c = (
+  λ h. cc,
+  λ e.
+      let same = same_form _ _ _ c.in-Declare.is e in
+      absurd (c.in_default-node-3.not-Declare same.0 same.1),
+)
+
+pub same_stmt-returns-in_default-node-4 : goal.same_stmt-returns-in_default-node-4
+same_stmt-returns-in_default-node-4 t c = (
+  λ h. cc,
+  λ e.
+      let same = same_form _ _ _ c.in-If.is e in
+      absurd (c.in_default-node-4.not-If same.0 same.1 same.2),
+)
+
+pub same_stmt-returns-in_default-node-5 : goal.same_stmt-returns-in_default-node-5
+same_stmt-returns-in_default-node-5 t c = (
+  λ h. cc,
+  λ e.
+      let same = same_form _ _ _ c.in-IfElse.is e in
+      absurd (c.in_default-node-5.not-IfElse same.0 same.1 same.2 same.3),
+)
+
+pub same_stmt-returns-in_default-node-6 : goal.same_stmt-returns-in_default-node-6
+same_stmt-returns-in_default-node-6 t c = (
+  λ h. cc,
+  λ e.
+      let same = same_form _ _ _ c.in-While.is e in
+      absurd (c.in_default-node-6.not-While same.0 same.1 same.2),
+)
+
+pub same_stmt-returns-in_default-node-7 : goal.same_stmt-returns-in_default-node-7
+same_stmt-returns-in_default-node-7 t c = (
+  λ h. cc,
+  λ e.
+      let same = same_form _ _ _ c.in-DoWhile.is e in
+      absurd (c.in_default-node-7.not-DoWhile same.0 same.1 same.2),
+)
+
+pub same_stmt-returns-in_default-node-8 : goal.same_stmt-returns-in_default-node-8
+same_stmt-returns-in_default-node-8 t c = (
+  λ h. cc,
+  λ e.
+      let same = same_form _ _ _ c.in-For.is e in
+      absurd (c.in_default-node-8.not-For same.0 same.1 same.2 same.3 same.4),
+)
+
+pub same_stmt-returns-in_default-node-9 : goal.same_stmt-returns-in_default-node-9
+same_stmt-returns-in_default-node-9 t c = (
+  λ h. cc,
+  λ e.
+      let same = same_form _ _ _ c.in-Break.is e in
+      absurd (c.in_default-node-9.not-Break same),
+)
+
+pub same_stmt-returns-in_default-node-10 : goal.same_stmt-returns-in_default-node-10
+same_stmt-returns-in_default-node-10 t c = (
+  λ h. cc,
+  λ e.
+      let same = same_form _ _ _ c.in-Continue.is e in
+      absurd (c.in_default-node-10.not-Continue same),
+)
+
+pub same_stmt-returns-in_default-node-11 : goal.same_stmt-returns-in_default-node-11
+same_stmt-returns-in_default-node-11 t c = (
+  λ h. cc,
+  λ e.
+      let same = same_form _ _ _ c.in-Return.is e in
+      absurd (c.in_default-node-11.not-Return same),
+)
+
+pub same_stmt-returns-in_default-node-12 : goal.same_stmt-returns-in_default-node-12
+same_stmt-returns-in_default-node-12 t c = (
+  λ h. cc,
+  λ e.
+      let same = same_form _ _ _ c.in-ReturnValue.is e in
+      absurd (c.in_default-node-12.not-ReturnValue same.0 same.1),
+)
+
+pub same_stmt-returns-in_default-node-13 : goal.same_stmt-returns-in_default-node-13
+same_stmt-returns-in_default-node-13 t c = (
+  λ h. cc,
+  λ e.
+      let same = same_form _ _ _ c.in-Update.is e in
+      absurd (c.in_default-node-13.not-Update same),
+)
+
+pub same_stmt-returns-in_default-node-14 : goal.same_stmt-returns-in_default-node-14
+same_stmt-returns-in_default-node-14 t c = (
+  λ h. cc,
+  λ e.
+      let same = same_form _ _ _ c.in-Transaction.is e in
+      absurd (c.in_default-node-14.not-Transaction same.0 same.1 same.2),
+)

@@ -23,3 +23,15 @@ returns-clause-tree c =
     let g1 = grows_trans _ _ u c.in_ok-to.ensures.grows g2 in
     ap (λ type. Convert type (found u c.in_ok-found.found).tree) (c.in_ok-to.ensures.declared u g2)
     ∙ ap (λ (r : Resolved). Convert (option_map_or (λ t. bare_type t.now) c.args.to int) r.tree) (c.in_ok-found.ensures.found u g1))
+
+pub returns-in_err-found-clause-grows : goal.returns-in_err-found-clause-grows
+returns-in_err-found-clause-grows c = c.in_err-found.ensures.grows
+
+pub returns-in_err-to-clause-grows : goal.returns-in_err-to-clause-grows
+returns-in_err-to-clause-grows c = grows_trans _ _ _ c.in_ok-found.ensures.grows c.in_err-to.ensures.grows
+
+pub returns-clause-grows : goal.returns-clause-grows
+returns-clause-grows c = grows_trans _ _ _ c.in_ok-found.ensures.grows (grows_trans _ _ _ c.in_ok-to.ensures.grows c.converted.ensures.grows)
+
+pub returns-clause-within : goal.returns-clause-within
+returns-clause-within c = c.converted.ensures.within

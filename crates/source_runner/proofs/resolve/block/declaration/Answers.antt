@@ -24,3 +24,18 @@ returns-clause-tree c =
     ap (λ type. Declare type (word u c.in_ok-name.name) (expression_if u c.in_ok-value.value)) (c.in_ok-declared.ensures.declared u g2)
     ∙ ap (λ name. Declare (bare_type d.declared) name (expression_if u c.in_ok-value.value)) (c.in_ok-name.ensures.word u g3 ∙ c.as_str.ensures)
     ∙ c.in_ok-value.ensures.tree u g1)
+
+pub returns-in_err-value-clause-grows : goal.returns-in_err-value-clause-grows
+returns-in_err-value-clause-grows c = c.in_err-value.ensures.grows
+
+pub returns-in_err-declared-clause-grows : goal.returns-in_err-declared-clause-grows
+returns-in_err-declared-clause-grows c = grows_trans _ _ _ c.in_ok-value.ensures.grows c.in_err-declared.ensures.grows
+
+pub returns-in_err-name-clause-grows : goal.returns-in_err-name-clause-grows
+returns-in_err-name-clause-grows c = grows_trans _ _ _ c.in_ok-value.ensures.grows (grows_trans _ _ _ c.in_ok-declared.ensures.grows c.in_err-name.ensures.grows)
+
+pub returns-clause-grows : goal.returns-clause-grows
+returns-clause-grows c = grows_trans _ _ _ c.in_ok-value.ensures.grows (grows_trans _ _ _ c.in_ok-declared.ensures.grows (grows_trans _ _ _ c.in_ok-name.ensures.grows c.statement.ensures.grows))
+
+pub returns-clause-within : goal.returns-clause-within
+returns-clause-within c = c.statement.ensures.within

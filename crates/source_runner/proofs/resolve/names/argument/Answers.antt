@@ -4,7 +4,8 @@ use Rattle.c_tree.specs.Bare.{bare_binding}
 use Rattle.c_types.specs.Resolved.{Convert}
 use Rattle.source_runner.specs.Nodes.{expression_at}
 use Rattle.source_runner.specs.Found.{given}
-use Rattle.source_runner.proofs.Kept.{grows_trans, later_as}
+use Rattle.source_runner.specs.Parts.{a_node, in_type}
+use Rattle.source_runner.proofs.Kept.{grows_trans, later_as, in_later, both_in}
 use Rattle.source_runner.proofs.resolve.names.argument.Goals as goal
 
 pub returns-in_ok-to-in-Some-clause-tree : goal.returns-in_ok-to-in-Some-clause-tree
@@ -13,3 +14,16 @@ returns-in_ok-to-in-Some-clause-tree c =
     (λ u g.
     ap (λ type. Convert type (expression_at u c.args.given_tree)) (c.in_ok-to-in-Some.ensures.declared u (grows_trans _ _ u c.expression.ensures.grows g))
     ∙ ap (λ (p : Option (Bor Binding)). given (option_map (λ b. bare_binding b.now) p) (expression_at u c.args.given_tree)) (sym c.in-Some.is))
+
+pub returns-in_err-to-in-Some-clause-grows : goal.returns-in_err-to-in-Some-clause-grows
+returns-in_err-to-in-Some-clause-grows c = c.in_err-to-in-Some.ensures.grows
+
+pub returns-in_ok-to-in-Some-clause-grows : goal.returns-in_ok-to-in-Some-clause-grows
+returns-in_ok-to-in-Some-clause-grows c = grows_trans _ _ _ c.in_ok-to-in-Some.ensures.grows c.expression.ensures.grows
+
+pub returns-in_ok-to-in-Some-clause-within : goal.returns-in_ok-to-in-Some-clause-within
+returns-in_ok-to-in-Some-clause-within c = c.expression.ensures.within
+
+pub expression-requires : goal.expression-requires
+expression-requires c =
+    both_in _ (in_type c.in_ok-to-in-Some.to) (a_node c.args.given_tree) c.in_ok-to-in-Some.ensures.within (in_later _ _ (a_node c.args.given_tree) c.in_ok-to-in-Some.ensures.grows c.requires)

@@ -24,3 +24,18 @@ returns-clause-found c =
     let e2 = c.in_ok-declared.ensures.declared u g2 ∙ c.result_type.ensures in
     let e3 = c.in_ok-name.ensures.word u g3 in
     cc)
+
+pub returns-in_err-list-clause-grows : goal.returns-in_err-list-clause-grows
+returns-in_err-list-clause-grows c = c.in_err-list.ensures.grows
+
+pub returns-in_err-declared-clause-grows : goal.returns-in_err-declared-clause-grows
+returns-in_err-declared-clause-grows c = grows_trans _ _ _ c.in_ok-list.ensures.grows c.in_err-declared.ensures.grows
+
+pub returns-in_err-name-clause-grows : goal.returns-in_err-name-clause-grows
+returns-in_err-name-clause-grows c = grows_trans _ _ _ c.in_ok-list.ensures.grows (grows_trans _ _ _ c.in_ok-declared.ensures.grows c.in_err-name.ensures.grows)
+
+pub returns-clause-grows : goal.returns-clause-grows
+returns-clause-grows c = grows_trans _ _ _ c.in_ok-list.ensures.grows (grows_trans _ _ _ c.in_ok-declared.ensures.grows (grows_trans _ _ _ c.in_ok-name.ensures.grows c.value.ensures.grows))
+
+pub returns-clause-within : goal.returns-clause-within
+returns-clause-within c = c.value.ensures.within

@@ -5,7 +5,7 @@ use Rattle.source_runner.specs.Nodes.{expression_at}
 use Rattle.source_runner.specs.Parts.{nothing, a_word, a_node, in_place, both}
 use Rattle.source_runner.specs.Found.{found, in_found, given}
 use Rattle.source_runner.specs.Known.{known_of}
-use Rattle.source_runner.proofs.Kept.{grows_trans, in_later, both_in, right_in, later_as}
+use Rattle.source_runner.proofs.Kept.{grows_trans, in_later, both_in, left_in, right_in, later_as}
 use Rattle.source_runner.proofs.Resolving.{handed_given}
 use Rattle.source_runner.proofs.resolve.names.create.Goals as goal
 
@@ -38,3 +38,33 @@ returns-clause-found c =
     ∙ handed_given (parameters_of (known_of c.args.known.now c.args.name.now)) (expression_at u c.in_ok-value_tree.value_tree)
     ∙ ap (handed (parameters_of (known_of c.args.known.now c.args.name.now))) e2 in
     cc)
+
+pub place-requires : goal.place-requires
+place-requires c = left_in _ (in_found c.args.thread) (in_found c.args.handed_over) c.requires
+
+pub argument-requires : goal.argument-requires
+argument-requires c = c.in_ok-value_tree.ensures.within
+
+pub returns-in_err-place-clause-grows : goal.returns-in_err-place-clause-grows
+returns-in_err-place-clause-grows c = c.in_err-place.ensures.grows
+
+pub returns-in_err-value_tree-clause-grows : goal.returns-in_err-value_tree-clause-grows
+returns-in_err-value_tree-clause-grows c = grows_trans _ _ _ c.in_ok-place.ensures.grows c.in_err-value_tree.ensures.grows
+
+pub returns-in_err-passed-clause-grows : goal.returns-in_err-passed-clause-grows
+returns-in_err-passed-clause-grows c =
+    grows_trans _ _ _ c.in_ok-place.ensures.grows
+    (grows_trans _ _ _ c.in_ok-value_tree.ensures.grows c.in_err-passed.ensures.grows)
+
+pub returns-in_err-name-clause-grows : goal.returns-in_err-name-clause-grows
+returns-in_err-name-clause-grows c =
+    grows_trans _ _ _ c.in_ok-place.ensures.grows
+    (grows_trans _ _ _ c.in_ok-value_tree.ensures.grows
+    (grows_trans _ _ _ c.in_ok-passed.ensures.grows c.in_err-name.ensures.grows))
+
+pub returns-clause-grows : goal.returns-clause-grows
+returns-clause-grows c =
+    grows_trans _ _ _ c.in_ok-place.ensures.grows
+    (grows_trans _ _ _ c.in_ok-value_tree.ensures.grows
+    (grows_trans _ _ _ c.in_ok-passed.ensures.grows
+    (grows_trans _ _ _ c.in_ok-name.ensures.grows c.value.ensures.grows)))

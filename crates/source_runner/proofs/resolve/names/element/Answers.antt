@@ -18,3 +18,15 @@ returns-clause-within c =
     both_in _ (both (a_word c.in_ok-name.name) (a_node c.in_ok-index.index)) (in_type c.in_ok-declared.declared)
     (both_in _ (a_word c.in_ok-name.name) (a_node c.in_ok-index.index) c.in_ok-name.ensures.within i)
     (in_later _ _ _ c.in_ok-name.ensures.grows c.in_ok-declared.ensures.within)
+
+pub returns-in_err-index-clause-grows : goal.returns-in_err-index-clause-grows
+returns-in_err-index-clause-grows c = c.in_err-index.ensures.grows
+
+pub returns-in_err-declared-clause-grows : goal.returns-in_err-declared-clause-grows
+returns-in_err-declared-clause-grows c = grows_trans _ _ _ c.in_ok-index.ensures.grows c.in_err-declared.ensures.grows
+
+pub returns-in_err-name-clause-grows : goal.returns-in_err-name-clause-grows
+returns-in_err-name-clause-grows c = grows_trans _ _ _ c.in_ok-index.ensures.grows (grows_trans _ _ _ c.in_ok-declared.ensures.grows c.in_err-name.ensures.grows)
+
+pub returns-clause-grows : goal.returns-clause-grows
+returns-clause-grows c = grows_trans _ _ _ c.in_ok-index.ensures.grows (grows_trans _ _ _ c.in_ok-declared.ensures.grows c.in_ok-name.ensures.grows)

@@ -36,3 +36,18 @@ returns-clause-within c =
     both_in _ (both (a_word c.in_ok-tag.tag) (both (a_node c.in_ok-handle.handle) (a_word c.in_ok-name.name))) (in_type c.in_ok-declared.declared)
     (both_in _ (a_word c.in_ok-tag.tag) (both (a_node c.in_ok-handle.handle) (a_word c.in_ok-name.name)) tag
     (both_in _ (a_node c.in_ok-handle.handle) (a_word c.in_ok-name.name) handle c.in_ok-name.ensures.within)) type
+
+pub returns-in_err-tag-clause-grows : goal.returns-in_err-tag-clause-grows
+returns-in_err-tag-clause-grows c = c.in_err-tag.ensures.grows
+
+pub returns-in_err-declared-clause-grows : goal.returns-in_err-declared-clause-grows
+returns-in_err-declared-clause-grows c = grows_trans _ _ _ c.in_ok-tag.ensures.grows c.in_err-declared.ensures.grows
+
+pub returns-in_err-handle-clause-grows : goal.returns-in_err-handle-clause-grows
+returns-in_err-handle-clause-grows c = grows_trans _ _ _ c.in_ok-tag.ensures.grows (grows_trans _ _ _ c.in_ok-declared.ensures.grows c.in_err-handle.ensures.grows)
+
+pub returns-in_err-name-clause-grows : goal.returns-in_err-name-clause-grows
+returns-in_err-name-clause-grows c = grows_trans _ _ _ c.in_ok-tag.ensures.grows (grows_trans _ _ _ c.in_ok-declared.ensures.grows (grows_trans _ _ _ c.in_ok-handle.ensures.grows c.in_err-name.ensures.grows))
+
+pub returns-clause-grows : goal.returns-clause-grows
+returns-clause-grows c = grows_trans _ _ _ c.in_ok-tag.ensures.grows (grows_trans _ _ _ c.in_ok-declared.ensures.grows (grows_trans _ _ _ c.in_ok-handle.ensures.grows c.in_ok-name.ensures.grows))

@@ -7,7 +7,7 @@ use Rattle.c_types.specs.Texts.{int, bound, bound_type, members_of}
 use Rattle.source_runner.specs.Nodes.{type_of}
 use Rattle.source_runner.specs.Known.{known_of}
 use Rattle.source_runner.specs.Trees.{table}
-use Rattle.source_runner.proofs.Kept.{grows_trans, later_as, word_kept}
+use Rattle.source_runner.proofs.Kept.{grows_refl, grows_trans, later_as, word_kept}
 use Rattle.source_runner.proofs.Resolving.{or_same}
 use Rattle.source_runner.proofs.resolve.names.member_type.Goals as goal
 
@@ -22,3 +22,12 @@ returns-clause-declared c =
     ∙ ap (λ ms. bound_type ms name) c.members.ensures
     ∙ ap (λ (key : Bytes). bound_type (members_of (look key)) name) (c.as_str.ensures.value ∙ c.in_ok-key.ensures)
     ∙ ap (λ (tag : Bytes). bound_type (members_of (look (struct_name tag))) name) (c.text.ensures ∙ sym kept))
+
+pub returns-in_err-key-clause-grows : goal.returns-in_err-key-clause-grows
+returns-in_err-key-clause-grows c = grows_refl _
+
+pub returns-clause-grows : goal.returns-clause-grows
+returns-clause-grows c = c.type_or_int.ensures.grows
+
+pub returns-clause-within : goal.returns-clause-within
+returns-clause-within c = c.type_or_int.ensures.within

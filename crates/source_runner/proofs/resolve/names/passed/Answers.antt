@@ -36,3 +36,15 @@ loop-i-preserved c =
           (let long = length-map ids (expression_at u) in omega (arith, within, long)) (sym (get_or-map (expression_at u) ids k first e within))
           (c.loop-i.invariant.tree u (grows_trans _ _ u c.argument_before.ensures.grows g));
     }
+
+pub returns-in_err-list-clause-grows : goal.returns-in_err-list-clause-grows
+returns-in_err-list-clause-grows c = c.in_err-list.ensures.grows
+
+pub returns-in_err-list-2-clause-grows : goal.returns-in_err-list-2-clause-grows
+returns-in_err-list-2-clause-grows c = grows_trans _ _ _ c.loop-i.invariant.grows c.in_err-list-2.ensures.grows
+
+pub returns-clause-grows : goal.returns-clause-grows
+returns-clause-grows c = c.loop-i.invariant.grows
+
+pub returns-clause-within : goal.returns-clause-within
+returns-clause-within c = c.loop-i.invariant.within

@@ -1,7 +1,8 @@
 use Rattle.c_tree.specs.Bare.{bare_type}
 use Rattle.c_types.specs.Texts.{bound}
+use Rattle.source_runner.specs.Parts.{a_word, in_type}
 use Rattle.source_runner.specs.Known.{known_of, locals_of}
-use Rattle.source_runner.proofs.Kept.{grows_trans}
+use Rattle.source_runner.proofs.Kept.{grows_trans, in_later, both_in}
 use Rattle.source_runner.proofs.Resolving.{local_variable, global_variable}
 use Rattle.source_runner.proofs.resolve.names.variable.Goals as goal
 
@@ -19,3 +20,31 @@ returns-in_ok-name-in-None-clause-found c = λ u g.
     let e3 = global_variable (known_of c.args.known.now) c.args.name.now (bound (locals_of c.args.locals.now) c.args.name.now) c.in-None.ensures in
     let e4 = c.global_type.ensures in
     cc
+
+pub returns-in_err-declared-in-Some-clause-grows : goal.returns-in_err-declared-in-Some-clause-grows
+returns-in_err-declared-in-Some-clause-grows c = c.in_err-declared-in-Some.ensures.grows
+
+pub returns-in_err-name-in-Some-clause-grows : goal.returns-in_err-name-in-Some-clause-grows
+returns-in_err-name-in-Some-clause-grows c = grows_trans _ _ _ c.in_ok-declared-in-Some.ensures.grows c.in_err-name-in-Some.ensures.grows
+
+pub returns-in_ok-name-in-Some-clause-grows : goal.returns-in_ok-name-in-Some-clause-grows
+returns-in_ok-name-in-Some-clause-grows c = grows_trans _ _ _ c.in_ok-declared-in-Some.ensures.grows c.in_ok-name-in-Some.ensures.grows
+
+pub returns-in_err-declared-in-None-clause-grows : goal.returns-in_err-declared-in-None-clause-grows
+returns-in_err-declared-in-None-clause-grows c = c.in_err-declared-in-None.ensures.grows
+
+pub returns-in_err-name-in-None-clause-grows : goal.returns-in_err-name-in-None-clause-grows
+returns-in_err-name-in-None-clause-grows c = grows_trans _ _ _ c.in_ok-declared-in-None.ensures.grows c.in_err-name-in-None.ensures.grows
+
+pub returns-in_ok-name-in-None-clause-grows : goal.returns-in_ok-name-in-None-clause-grows
+returns-in_ok-name-in-None-clause-grows c = grows_trans _ _ _ c.in_ok-declared-in-None.ensures.grows c.in_ok-name-in-None.ensures.grows
+
+pub returns-in_ok-name-in-Some-clause-within : goal.returns-in_ok-name-in-Some-clause-within
+returns-in_ok-name-in-Some-clause-within c =
+    both_in _ (a_word c.in_ok-name-in-Some.name) (in_type c.in_ok-declared-in-Some.declared) c.in_ok-name-in-Some.ensures.within
+    (in_later _ _ (in_type c.in_ok-declared-in-Some.declared) c.in_ok-name-in-Some.ensures.grows c.in_ok-declared-in-Some.ensures.within)
+
+pub returns-in_ok-name-in-None-clause-within : goal.returns-in_ok-name-in-None-clause-within
+returns-in_ok-name-in-None-clause-within c =
+    both_in _ (a_word c.in_ok-name-in-None.name) (in_type c.in_ok-declared-in-None.declared) c.in_ok-name-in-None.ensures.within
+    (in_later _ _ (in_type c.in_ok-declared-in-None.declared) c.in_ok-name-in-None.ensures.grows c.in_ok-declared-in-None.ensures.within)

@@ -1,6 +1,6 @@
-use Rattle.source_runner.specs.Parts.{in_type, both}
+use Rattle.source_runner.specs.Parts.{in_type, both, a_node}
 use Rattle.source_runner.specs.Found.{found, in_found}
-use Rattle.source_runner.proofs.Kept.{grows_trans, in_later, both_in, left_in, right_in, later_as}
+use Rattle.source_runner.proofs.Kept.{grows_trans, in_later, both_in, left_in, right_in, later_as, alone_in}
 use Rattle.source_runner.proofs.resolve.operator.binary.Goals as goal
 
 pub side-requires : goal.side-requires
@@ -35,3 +35,20 @@ returns-clause-found c =
     let e9 = c.kind-2.ensures u in
     let e10 = c.binary_operator_kind-kind.ensures in
     cc)
+
+pub returns-in_err-left-clause-grows : goal.returns-in_err-left-clause-grows
+returns-in_err-left-clause-grows c = c.in_err-left.ensures.grows
+
+pub returns-in_err-right-clause-grows : goal.returns-in_err-right-clause-grows
+returns-in_err-right-clause-grows c = grows_trans _ _ _ c.in_ok-left.ensures.grows c.in_err-right.ensures.grows
+
+pub returns-clause-grows : goal.returns-clause-grows
+returns-clause-grows c = grows_trans _ _ _ c.in_ok-left.ensures.grows (grows_trans _ _ _ c.in_ok-right.ensures.grows c.value.ensures.grows)
+
+pub returns-clause-within : goal.returns-clause-within
+returns-clause-within c = c.value.ensures.within
+
+pub value-requires : goal.value-requires
+value-requires c =
+    alone_in _ (both (a_node c.in_ok-left.left) (a_node c.in_ok-right.right))
+    (both_in _ (a_node c.in_ok-left.left) (a_node c.in_ok-right.right) (in_later _ _ (a_node c.in_ok-left.left) c.in_ok-right.ensures.grows c.in_ok-left.ensures.within) c.in_ok-right.ensures.within)

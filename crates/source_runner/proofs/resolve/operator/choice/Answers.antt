@@ -55,3 +55,22 @@ returns-clause-found c =
     let e5 = c.declared-2.ensures.declared u in
     let e6 = c.common_type-declared.ensures.declared u in
     cc)
+
+pub returns-in_err-condition-clause-grows : goal.returns-in_err-condition-clause-grows
+returns-in_err-condition-clause-grows c = c.in_err-condition.ensures.grows
+
+pub returns-in_err-first-clause-grows : goal.returns-in_err-first-clause-grows
+returns-in_err-first-clause-grows c = grows_trans _ _ _ c.in_ok-condition.ensures.grows c.in_err-first.ensures.grows
+
+pub returns-in_err-second-clause-grows : goal.returns-in_err-second-clause-grows
+returns-in_err-second-clause-grows c = grows_trans _ _ _ c.in_ok-condition.ensures.grows (grows_trans _ _ _ c.in_ok-first.ensures.grows c.in_err-second.ensures.grows)
+
+pub returns-clause-grows : goal.returns-clause-grows
+returns-clause-grows c = grows_trans _ _ _ c.in_ok-condition.ensures.grows (grows_trans _ _ _ c.in_ok-first.ensures.grows (grows_trans _ _ _ c.in_ok-second.ensures.grows c.value.ensures.grows))
+
+pub returns-clause-within : goal.returns-clause-within
+returns-clause-within c = c.value.ensures.within
+
+pub tree-requires : goal.tree-requires
+tree-requires c =
+    left_in _ (in_found c.args.c) (both (in_found c.args.a) (in_found c.args.b)) c.requires

@@ -1,5 +1,6 @@
-use Rattle.source_runner.specs.Found.{found}
-use Rattle.source_runner.proofs.Kept.{grows_trans, later_as}
+use Rattle.source_runner.specs.Found.{found, in_found}
+use Rattle.source_runner.specs.Parts.{a_word, a_node, both}
+use Rattle.source_runner.proofs.Kept.{grows_trans, later_as, in_later, both_in, alone_in}
 use Rattle.source_runner.proofs.resolve.operator.free.Goals as goal
 
 pub tag-requires : goal.tag-requires
@@ -15,3 +16,24 @@ returns-clause-found c =
     let e2 = c.in_ok-object.ensures.tree u g2 in
     let e3 = c.declared.ensures.declared u in
     cc)
+
+pub returns-in_err-tag-clause-grows : goal.returns-in_err-tag-clause-grows
+returns-in_err-tag-clause-grows c = c.in_err-tag.ensures.grows
+
+pub returns-in_err-object-clause-grows : goal.returns-in_err-object-clause-grows
+returns-in_err-object-clause-grows c = grows_trans _ _ _ c.in_ok-tag.ensures.grows c.in_err-object.ensures.grows
+
+pub returns-clause-grows : goal.returns-clause-grows
+returns-clause-grows c = grows_trans _ _ _ c.in_ok-tag.ensures.grows (grows_trans _ _ _ c.in_ok-object.ensures.grows c.value.ensures.grows)
+
+pub returns-clause-within : goal.returns-clause-within
+returns-clause-within c = c.value.ensures.within
+
+pub tree-requires : goal.tree-requires
+tree-requires c =
+    in_later _ _ (in_found c.args.a) c.in_ok-tag.ensures.grows c.requires
+
+pub value-requires : goal.value-requires
+value-requires c =
+    alone_in _ (both (a_word c.in_ok-tag.tag) (a_node c.in_ok-object.object))
+    (both_in _ (a_word c.in_ok-tag.tag) (a_node c.in_ok-object.object) (in_later _ _ (a_word c.in_ok-tag.tag) c.in_ok-object.ensures.grows c.in_ok-tag.ensures.within) c.in_ok-object.ensures.within)

@@ -1,5 +1,6 @@
 use Rattle.source_runner.specs.Found.{found}
-use Rattle.source_runner.proofs.Kept.{grows_trans, later_as}
+use Rattle.source_runner.specs.Parts.{a_node}
+use Rattle.source_runner.proofs.Kept.{grows_trans, later_as, alone_in}
 use Rattle.source_runner.proofs.resolve.operator.unary.Goals as goal
 
 pub returns-clause-found : goal.returns-clause-found
@@ -12,3 +13,16 @@ returns-clause-found c =
     let e3 = c.kind.ensures u in
     let e4 = c.unary_operator_kind-kind.ensures in
     cc)
+
+pub returns-in_err-operand-clause-grows : goal.returns-in_err-operand-clause-grows
+returns-in_err-operand-clause-grows c = c.in_err-operand.ensures.grows
+
+pub returns-clause-grows : goal.returns-clause-grows
+returns-clause-grows c = grows_trans _ _ _ c.in_ok-operand.ensures.grows c.value.ensures.grows
+
+pub returns-clause-within : goal.returns-clause-within
+returns-clause-within c = c.value.ensures.within
+
+pub value-requires : goal.value-requires
+value-requires c =
+    alone_in _ (a_node c.in_ok-operand.operand) c.in_ok-operand.ensures.within

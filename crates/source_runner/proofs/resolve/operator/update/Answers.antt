@@ -25,3 +25,19 @@ returns-clause-found c =
     let e2 = c.in_ok-operand.ensures.tree u g2 in
     let e3 = c.declared-declared.ensures.declared u in
     cc)
+
+pub returns-in_err-place-clause-grows : goal.returns-in_err-place-clause-grows
+returns-in_err-place-clause-grows c = c.in_err-place.ensures.grows
+
+pub returns-in_err-operand-clause-grows : goal.returns-in_err-operand-clause-grows
+returns-in_err-operand-clause-grows c = grows_trans _ _ _ c.in_ok-place.ensures.grows c.in_err-operand.ensures.grows
+
+pub returns-clause-grows : goal.returns-clause-grows
+returns-clause-grows c = grows_trans _ _ _ c.in_ok-place.ensures.grows (grows_trans _ _ _ c.in_ok-operand.ensures.grows c.value.ensures.grows)
+
+pub returns-clause-within : goal.returns-clause-within
+returns-clause-within c = c.value.ensures.within
+
+pub place-requires : goal.place-requires
+place-requires c =
+    left_in _ (in_found c.args.a) (in_found c.args.b) c.requires

@@ -1,0 +1,23 @@
+//! Tests of the front's crates by their public calls: what no clause says, that the calls succeed with ample memory, and
+//! that the definitions which the clauses cite mean what they should, on small texts and on values chosen by hand.
+//!
+//! - `lexer`: tokens and their faults
+//! - `scopes`: declarations in nested tables
+//! - `trees`: which definitions are the same, and copies
+//! - `expressions`: how expressions are read
+//! - `programs`: how whole texts are read, and their faults of syntax
+//! - `types`: the faults of types that texts have, and the texts that have none
+#![tactic(auto)]
+
+#[cfg(test)]
+mod expressions;
+#[cfg(test)]
+mod lexer;
+#[cfg(test)]
+mod programs;
+#[cfg(test)]
+mod scopes;
+#[cfg(test)]
+mod trees;
+#[cfg(test)]
+mod types;

@@ -1,0 +1,6 @@
+mod Sums
+mod Entries
+mod Kept
+mod Calls
+mod Giving
+mod Making

@@ -1,0 +1,11 @@
+//! Tests of the top layer: what no clause of `dsu_cli` and `dsu_report` says, over values that were
+//! chosen by hand, by their public calls alone.
+//!
+//! - `command_line`: `dsu_cli`
+//! - `reports`: `dsu_report`
+#![tactic(auto)]
+
+#[cfg(test)]
+mod command_line;
+#[cfg(test)]
+mod reports;
