@@ -296,14 +296,19 @@ fn operators_join_two_operands(rt: HostRuntime) -> Result<(), Fail> {
     Ok(())
 }
 
+/// Whether three operands group from the left exactly where the first operator's level is no higher.
+fn bind_by_levels(alloc: Global, x: &str, low: u32, y: &str, high: u32) -> Result<bool, Fail> {
+    let left = groups_left(alloc, x, y)?;
+    let right = groups_right(alloc, x, y)?;
+    Ok(left == (low <= high) && right == (low > high))
+}
+
 #[test]
 fn operators_bind_by_their_levels(rt: HostRuntime) -> Result<(), Fail> {
     for (x, low, _) in JOINTS.iter() {
         for (y, high, _) in JOINTS.iter() {
-            let left = groups_left(rt.alloc(), x, y)?;
-            assert_eq!(rt; left, low <= high, "{x} {y}");
-            let right = groups_right(rt.alloc(), x, y)?;
-            assert_eq!(rt; right, low > high, "{x} {y}");
+            let is_bound = bind_by_levels(rt.alloc(), x, *low, y, *high)?;
+            assert!(rt; is_bound, "{x} {y}");
         }
     }
     Ok(())
@@ -566,13 +571,20 @@ fn fault_of_nest(
     Ok(read(alloc, &text, 0)?.err())
 }
 
+/// Whether an expression that is nested 64 times is read, and with one level more stops as too deep at a token.
+fn has_64_levels(alloc: Global, open: &str, close: &str, place: usize) -> Result<bool, Fail> {
+    if fault_of_nest(alloc, 64, open, close)?.is_some() {
+        return Ok(false);
+    }
+    let more = fault_of_nest(alloc, 65, open, close)?;
+    Ok(more == Some(SyntaxFault::TooDeep(place)))
+}
+
 #[test]
 fn sixty_four_levels_are_read(rt: HostRuntime) -> Result<(), Fail> {
     for (open, close, place) in NESTS.iter() {
-        let most = fault_of_nest(rt.alloc(), 64, open, close)?;
-        assert_eq!(rt; most, None, "{open}");
-        let more = fault_of_nest(rt.alloc(), 65, open, close)?;
-        assert_eq!(rt; more, Some(SyntaxFault::TooDeep(*place)), "{open}");
+        let holds = has_64_levels(rt.alloc(), open, close, *place)?;
+        assert!(rt; holds, "{open}");
     }
     Ok(())
 }

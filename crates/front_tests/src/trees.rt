@@ -1,12 +1,18 @@
 //! Trees: which definitions are the same, and what a copy holds.
-use c_lexer::lex;
+use c_expr_parser::SyntaxFault;
+use c_lexer::{Token, lex};
 use c_parser::parse;
-use c_tree::{Def, same_def};
-use std::alloc::Global;
+use c_tree::{Def, Program, same_def};
+use std::alloc::{AllocError, Global};
 use std::test::Fail;
 
-/// Definitions that differ pairwise, each in two spellings at other places, with the form of its node.
-static SAMPLES: [(&str, &str, &str); 91] = [
+/// A definition in two spellings at other places, with the form of its node. No two samples of all tables are the same.
+///
+/// The tables are handed to the functions below as one list: a function that names a table is proved over all of its text.
+type Sample = (&'static str, &'static str, &'static str);
+
+/// Definitions of each kind.
+static DEFINITIONS: [Sample; 16] = [
     (
         "struct T { int a; int b; };",
         " struct T { int a, b; };",
@@ -55,6 +61,10 @@ static SAMPLES: [(&str, &str, &str); 91] = [
         " dsu_transform struct T { a = (1); }",
         "TransformStruct(StructTransform",
     ),
+];
+
+/// Constants, names and operators with one operand.
+static OPERANDS: [Sample; 22] = [
     // Constants and names.
     (
         "dsu_transform g = 97;",
@@ -167,6 +177,10 @@ static SAMPLES: [(&str, &str, &str); 91] = [
         " dsu_transform g = (struct T*) 1;",
         "node: Cast(Handle(",
     ),
+];
+
+/// Operators with more operands, calls, elements and fields.
+static OPERATORS: [Sample; 21] = [
     // More operands.
     (
         "dsu_transform g = 1 + 2;",
@@ -274,6 +288,10 @@ static SAMPLES: [(&str, &str, &str); 91] = [
         " dsu_transform g = ((1).f);",
         "node: Dot(",
     ),
+];
+
+/// Calls of the library, and statements without statements in them.
+static SIMPLE: [Sample; 17] = [
     // Calls of the library.
     (
         "dsu_transform g = calloc(1, sizeof(struct m));",
@@ -361,6 +379,10 @@ static SAMPLES: [(&str, &str, &str); 91] = [
         " int f(int a, int b) { int v = (0); }",
         "node: Declare(",
     ),
+];
+
+/// Statements with statements in them.
+static NESTED: [Sample; 15] = [
     // Statements with statements in them.
     (
         "int f(int a, int b) { { } }",
@@ -439,14 +461,71 @@ static SAMPLES: [(&str, &str, &str); 91] = [
     ),
 ];
 
+/// Some samples with those of one table after them.
+fn with_definitions(before: Vec<Sample>) -> Result<Vec<Sample>, Fail> {
+    let mut samples = before;
+    for sample in DEFINITIONS.iter() {
+        samples.push(*sample)?;
+    }
+    Ok(samples)
+}
+
+/// Some samples with those of one table after them.
+fn with_operands(before: Vec<Sample>) -> Result<Vec<Sample>, Fail> {
+    let mut samples = before;
+    for sample in OPERANDS.iter() {
+        samples.push(*sample)?;
+    }
+    Ok(samples)
+}
+
+/// Some samples with those of one table after them.
+fn with_operators(before: Vec<Sample>) -> Result<Vec<Sample>, Fail> {
+    let mut samples = before;
+    for sample in OPERATORS.iter() {
+        samples.push(*sample)?;
+    }
+    Ok(samples)
+}
+
+/// Some samples with those of one table after them.
+fn with_simple(before: Vec<Sample>) -> Result<Vec<Sample>, Fail> {
+    let mut samples = before;
+    for sample in SIMPLE.iter() {
+        samples.push(*sample)?;
+    }
+    Ok(samples)
+}
+
+/// Some samples with those of one table after them.
+fn with_nested(before: Vec<Sample>) -> Result<Vec<Sample>, Fail> {
+    let mut samples = before;
+    for sample in NESTED.iter() {
+        samples.push(*sample)?;
+    }
+    Ok(samples)
+}
+
+/// The samples of all tables.
+fn all_samples(alloc: Global) -> Result<Vec<Sample>, Fail> {
+    let samples = with_definitions(Vec::new(alloc))?;
+    let samples = with_operands(samples)?;
+    let samples = with_operators(samples)?;
+    let samples = with_simple(samples)?;
+    with_nested(samples)
+}
+
 fn contains(shown: &str, part: &str) -> bool {
     shown.contains(part)
 }
 
-/// The one definition that a text is.
-fn definition(alloc: Global, text: &str) -> Result<Def, Fail> {
-    let tokens = lex(alloc, text.as_bytes())?;
-    let program = parse(alloc, &tokens)?;
+/// The program that some tokens are. All tests call `parse` here, since each caller of it is dear to prove.
+fn read(alloc: Global, tokens: &[Token]) -> Result<Program, SyntaxFault> {
+    parse(alloc, tokens)
+}
+
+/// The last definition of a program.
+fn last(program: Program) -> Result<Def, Fail> {
     let mut definitions = program.definitions.into_vec();
     match definitions.pop() {
         Some(only) => Ok(only),
@@ -454,33 +533,91 @@ fn definition(alloc: Global, text: &str) -> Result<Def, Fail> {
     }
 }
 
+/// The one definition that some tokens are.
+fn definition_of(alloc: Global, tokens: &[Token]) -> Result<Def, Fail> {
+    last(read(alloc, tokens)?)
+}
+
+/// The one definition that a text is.
+fn definition(alloc: Global, text: &str) -> Result<Def, Fail> {
+    let tokens = lex(alloc, text.as_bytes())?;
+    definition_of(alloc, &tokens)
+}
+
+/// Adds the one definition that a text is.
+fn add(alloc: Global, text: &str, definitions: &mut Vec<Def>) -> Result<(), Fail> {
+    let one = definition(alloc, text)?;
+    definitions.push(one)?;
+    Ok(())
+}
+
 /// The definitions of the first spellings.
-fn firsts(alloc: Global) -> Result<Vec<Def>, Fail> {
+fn firsts(alloc: Global, samples: &[Sample]) -> Result<Vec<Def>, Fail> {
     let mut definitions = Vec::new(alloc);
-    for (text, _, _) in SAMPLES.iter() {
-        definitions.push(definition(alloc, text)?)?;
+    for (text, _, _) in samples {
+        add(alloc, text, &mut definitions)?;
     }
     Ok(definitions)
 }
 
 /// The definitions of the second spellings.
-fn seconds(alloc: Global) -> Result<Vec<Def>, Fail> {
+fn seconds(alloc: Global, samples: &[Sample]) -> Result<Vec<Def>, Fail> {
     let mut definitions = Vec::new(alloc);
-    for (_, text, _) in SAMPLES.iter() {
-        definitions.push(definition(alloc, text)?)?;
+    for (_, text, _) in samples {
+        add(alloc, text, &mut definitions)?;
     }
     Ok(definitions)
 }
 
-#[test]
-fn definitions_are_the_same_at_other_places_alone(rt: HostRuntime) -> Result<(), Fail> {
-    let left = firsts(rt.alloc())?;
-    let right = seconds(rt.alloc())?;
-    for (i, a) in left.iter().enumerate() {
-        for (j, b) in right.iter().enumerate() {
-            assert_eq!(rt; same_def(a, b), i == j, "samples {i} and {j}");
+/// The first of some definitions that is the same as one, or their number.
+fn place_of(one: &Def, others: &[Def]) -> usize {
+    for (place, other) in others.iter().enumerate() {
+        if same_def(one, other) {
+            return place;
         }
     }
+    others.len()
+}
+
+/// How many of some definitions are the same as one.
+fn count_of(one: &Def, others: &[Def]) -> usize {
+    let mut count = 0usize;
+    for other in others {
+        if same_def(one, other) {
+            count = count.saturating_add(1);
+        }
+    }
+    count
+}
+
+/// The first definition that is the same as another than the one at its place.
+fn first_mismatch(left: &[Def], right: &[Def]) -> Option<usize> {
+    for (place, one) in left.iter().enumerate() {
+        if place_of(one, right) != place || count_of(one, right) != 1 {
+            return Some(place);
+        }
+    }
+    None
+}
+
+/// The same of the first spellings, given their definitions, and the second ones.
+fn mismatch(alloc: Global, left: &[Def], samples: &[Sample]) -> Result<Option<usize>, Fail> {
+    let right = seconds(alloc, samples)?;
+    Ok(first_mismatch(left, &right))
+}
+
+/// The same of the two spellings.
+fn spelling_mismatch(alloc: Global, samples: &[Sample]) -> Result<Option<usize>, Fail> {
+    let left = firsts(alloc, samples)?;
+    mismatch(alloc, &left, samples)
+}
+
+#[test]
+fn definitions_are_the_same_at_other_places_alone(rt: HostRuntime) -> Result<(), Fail> {
+    let samples = all_samples(rt.alloc())?;
+    assert_eq!(rt; samples.len(), 91);
+    let found = spelling_mismatch(rt.alloc(), &samples)?;
+    assert_eq!(rt; found, None);
     Ok(())
 }
 
@@ -491,13 +628,24 @@ fn are_printed(alloc: Global, a: &Def, b: &Def, part: &str) -> Result<bool, Fail
     Ok(x == y && contains(x.as_str(), part))
 }
 
+/// A copy. All tests call `copy_def` here, since what it promises is dear to carry along.
+fn copy_of(alloc: Global, sample: &Def) -> Result<Def, AllocError> {
+    sample.copy_def(alloc)
+}
+
+/// Whether two definitions are the same, places and all, and are printed with a part.
+fn are_alike(alloc: Global, copy: &Def, sample: &Def, part: &str) -> Result<bool, Fail> {
+    if same_def(copy, sample) {
+        are_printed(alloc, copy, sample, part)
+    } else {
+        Ok(false)
+    }
+}
+
 /// Whether a copy of a definition is the same, places and all, and is printed with a part.
 fn is_copied(alloc: Global, sample: &Def, part: &str) -> Result<bool, Fail> {
-    let copy = sample.copy_def(alloc)?;
-    if !same_def(&copy, sample) {
-        return Ok(false);
-    }
-    are_printed(alloc, &copy, sample, part)
+    let copy = copy_of(alloc, sample)?;
+    are_alike(alloc, &copy, sample, part)
 }
 
 /// The same of the definition that a text is.
@@ -506,11 +654,20 @@ fn is_copied_from(alloc: Global, text: &str, part: &str) -> Result<bool, Fail> {
     is_copied(alloc, &sample, part)
 }
 
+/// The first sample whose copy doesn't hold its places, or `None`.
+fn first_not_copied(alloc: Global, samples: &[Sample]) -> Result<Option<usize>, Fail> {
+    for (place, (text, _, form)) in samples.iter().enumerate() {
+        if !is_copied_from(alloc, text, form)? {
+            return Ok(Some(place));
+        }
+    }
+    Ok(None)
+}
+
 #[test]
 fn copies_hold_the_same_places(rt: HostRuntime) -> Result<(), Fail> {
-    for (text, _, form) in SAMPLES.iter() {
-        let holds = is_copied_from(rt.alloc(), text, form)?;
-        assert!(rt; holds, "{text}");
-    }
+    let samples = all_samples(rt.alloc())?;
+    let found = first_not_copied(rt.alloc(), &samples)?;
+    assert_eq!(rt; found, None);
     Ok(())
 }
