@@ -3,8 +3,8 @@ use Rattle.std.specs.Prelude.{ℕ, List, ◌++◌, codes}
 use Rattle.std.specs.Fmt.{decimal}
 use Rattle.c_types.specs.declared.fault.TypeKind.{TypeKind}
 use Rattle.c_types.specs.declared.fault.TypeKind.TheVariants.{UnknownName, DeclaredTwice, WrongType, WrongCount, NotPlace, OutsideLoop, NoMain, BadFormat, LeavesTransaction, OverLimit, UnknownField, BadTransformer}
-use Rattle.dsu_report.specs.declared.fault.PlaceWord.{PlaceWord}
-use Rattle.dsu_report.specs.declared.fault.PlaceWord.TheVariants.{BadByte, BadLiteral, Directive, TooMany, Syntax, TooDeep, Kind}
+use Rattle.c_front.specs.declared.fault.FaultKind.{FaultKind}
+use Rattle.c_front.specs.declared.fault.FaultKind.TheVariants.{BadByte, BadLiteral, Directive, TooMany, Syntax, TooDeep, Kind}
 use Rattle.dsu_report.specs.declared.fault.LineWord.{LineWord}
 use Rattle.dsu_report.specs.declared.fault.LineWord.TheVariants.{Header, NoEvent, CannotHappen}
 use Rattle.dsu_report.specs.declared.fault.FaultLine.{FaultLine}
@@ -36,7 +36,7 @@ kind_word UnknownField = codes "unknown field"
 kind_word BadTransformer = codes "bad transformer"
 
 -- the words of what is wrong at a place
-abbrev pub place_word : PlaceWord → List ℕ
+abbrev pub place_word : FaultKind → List ℕ
 place_word BadByte = codes "bad byte"
 place_word BadLiteral = codes "bad literal"
 place_word Directive = codes "directive"

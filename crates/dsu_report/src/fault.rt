@@ -2,26 +2,8 @@
 ghost use Rattle.std.specs.Prelude.{◌≡◌};
 ghost use Rattle.dsu_report.specs.Faults.{kind_word, place_word, line_word};
 
+use c_front::FaultKind;
 use c_types::TypeKind;
-
-/// What is wrong at a place of a text.
-#[derive(Clone, Copy, Debug, PartialEq, Eq)]
-pub enum PlaceWord {
-    /// A byte that begins no token.
-    BadByte,
-    /// A constant or a string that is malformed.
-    BadLiteral,
-    /// A line that begins with `#` and isn't one of the include lines.
-    Directive,
-    /// More tokens than a text may have.
-    TooMany,
-    /// A token that doesn't follow those before it.
-    Syntax,
-    /// A token that nests too deep.
-    TooDeep,
-    /// A fault of the types.
-    Kind(TypeKind),
-}
 
 /// What is wrong in a line of a journal.
 #[derive(Clone, Copy, Debug, PartialEq, Eq)]
@@ -40,7 +22,7 @@ pub enum FaultLine {
     /// The words name no command: the usage text.
     Usage,
     /// A text has a fault at a line and a column, both counted from 1.
-    Place(u32, u32, PlaceWord),
+    Place(u32, u32, FaultKind),
     /// The file couldn't be read.
     Unread,
     /// The file is longer than it may be.
@@ -74,17 +56,17 @@ fn words_for_kind(kind: TypeKind) -> &'static str
 }
 
 /// The words of what is wrong at a place.
-pub(crate) fn words_at_place(word: PlaceWord) -> &'static str
+pub(crate) fn words_at_place(word: FaultKind) -> &'static str
     ensures { result.now ≡ place_word word }
 {
     match word {
-        PlaceWord::BadByte => "bad byte",
-        PlaceWord::BadLiteral => "bad literal",
-        PlaceWord::Directive => "directive",
-        PlaceWord::TooMany => "too many tokens",
-        PlaceWord::Syntax => "syntax",
-        PlaceWord::TooDeep => "nested too deep",
-        PlaceWord::Kind(kind) => words_for_kind(kind),
+        FaultKind::BadByte => "bad byte",
+        FaultKind::BadLiteral => "bad literal",
+        FaultKind::Directive => "directive",
+        FaultKind::TooMany => "too many tokens",
+        FaultKind::Syntax => "syntax",
+        FaultKind::TooDeep => "nested too deep",
+        FaultKind::Kind(kind) => words_for_kind(kind),
     }
 }
 

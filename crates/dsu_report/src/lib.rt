@@ -17,7 +17,7 @@ mod status;
 mod write;
 
 pub use ending::{trap_word, write_ending};
-pub use fault::{FaultLine, LineWord, PlaceWord};
+pub use fault::{FaultLine, LineWord};
 pub use place::{Place, place_of};
 pub use status::ending_status;
 pub use write::{USAGE, write_fault};

@@ -4,11 +4,11 @@ use Rattle.dsu_io.specs.Files.{IsContent}
 use Rattle.c_ints.specs.declared.int.Int.{Int}
 use Rattle.c_ints.specs.declared.operator.ArithTrap.{ArithTrap}
 use Rattle.c_tree.specs.declared.def.Program.{Program}
-use Rattle.text_reader.specs.Accepted.{Accepted}
+use Rattle.c_front.specs.Accepted.{Accepted}
 use Rattle.dsu_report.specs.declared.fault.FaultLine.{FaultLine}
 use Rattle.dsu_report.specs.declared.fault.FaultLine.TheVariants.{Write, Memory}
 use Rattle.dsu_report.specs.Statuses.{status_of_line}
-use Rattle.text_source.specs.Sources.{text_limit, IsShort, IsFirstOf, IsOfSource}
+use Rattle.program_file.specs.Sources.{text_limit, IsShort, IsFirstOf, IsOfSource}
 use Rattle.dsu_run.specs.declared.fault.Fault.{Fault}
 use Rattle.dsu_run.specs.declared.fault.Fault.TheVariants.{Refused, Told}
 use Rattle.dsu_run.specs.declared.request.Request.TheVariants.{Run, Check}

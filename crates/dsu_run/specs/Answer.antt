@@ -14,16 +14,14 @@ use Rattle.bytecode.specs.declared.run.Ending.TheVariants.{Finished, Trap, Deadl
 use Rattle.bytecode.specs.Trap.{trap_of}
 use Rattle.c_tree.specs.declared.def.Program.{Program}
 use Rattle.c_types.specs.Definitions.{names_of}
-use Rattle.text_reader.specs.declared.fault.Wrong.{Wrong}
-use Rattle.text_reader.specs.Accepted.{Accepted, FirstFault}
+use Rattle.c_front.specs.Accepted.{Accepted}
 use Rattle.dsu_cli.specs.declared.job.CliFault.{CliFault}
 use Rattle.dsu_cli.specs.declared.job.CliFault.TheVariants.{Usage as NoCommand, Memory as NoMemory}
 use Rattle.dsu_report.specs.declared.fault.FaultLine.{FaultLine}
 use Rattle.dsu_report.specs.declared.fault.FaultLine.TheVariants.{Usage, Write, Memory}
 use Rattle.dsu_report.specs.Endings.{report_text}
 use Rattle.dsu_report.specs.Statuses.{status_of_line, status_of_ending}
-use Rattle.text_source.specs.Lines.{line_of}
-use Rattle.text_source.specs.Sources.{text_limit}
+use Rattle.program_file.specs.Sources.{text_limit, IsFirstLine}
 use Rattle.dsu_run.specs.declared.request.Request.{Request}
 use Rattle.dsu_run.specs.declared.request.Request.TheVariants.{Run, Check}
 use Rattle.dsu_run.specs.declared.fault.Fault.{Fault}
@@ -46,7 +44,7 @@ pub record HoldsForm (content : Option (List ℕ)) (e : Formula) : Type 0 where
 
 -- the fault for which a text is refused: its first; or, of a text to run, that it isn't of the form
 abbrev pub IsFaultOf : Request → List ℕ → Fault → Type 0
-IsFaultOf request text (Told line) = (what : Wrong) × (at : ℕ) × FirstFault text what at × (line ≡ line_of text what at)
+IsFaultOf request text (Told line) = IsFirstLine text line
 IsFaultOf (Run file) text Refused = (program : Program) × Accepted text program × ((e : Formula) → IsForm text e → ⊥)
 IsFaultOf (Check file) text Refused = ⊥
 

@@ -2,10 +2,10 @@ ghost use Rattle.std.specs.Prelude.{◌≡◌, ◌≢◌, ◌⊎◌, ◌≤◌, 
 ghost use Rattle.dsu_io.specs.Causes.{Rose};
 ghost use Rattle.c_tree.specs.declared.def.Program.{Program};
 ghost use Rattle.c_types.specs.Definitions.{Types, names_of};
-ghost use Rattle.text_reader.specs.declared.fault.Wrong.{Wrong};
-ghost use Rattle.text_reader.specs.Accepted.{Accepted, FirstFault};
-ghost use Rattle.text_source.specs.Lines.{line_of};
-ghost use Rattle.text_source.specs.Sources.{Exceeds};
+ghost use Rattle.c_front.specs.declared.fault.FaultKind.{FaultKind};
+ghost use Rattle.c_front.specs.Accepted.{Accepted, FirstFault};
+ghost use Rattle.program_file.specs.Lines.{line_of};
+ghost use Rattle.program_file.specs.Sources.{Exceeds};
 ghost use Rattle.dsu_run.specs.declared.request.Request.{Request};
 ghost use Rattle.dsu_run.specs.Answer.{Holds, IsRefused, status_of, IsStatus, IsRun, IsExcused, Faulted, Checked, NamesFailed};
 ghost use Rattle.dsu_run.specs.Names.{given};
@@ -17,7 +17,7 @@ use c_tree::{DefKind, Program};
 use dsu_io::{Files, Sink};
 use dsu_report::FaultLine;
 use std::alloc::Global;
-use text_source::{TEXT_LIMIT, source_of};
+use program_file::{TEXT_LIMIT, source_of};
 
 // How many names a definition gives its text: one where it is of a function, a global, an array, a mutex or a
 // struct.
@@ -93,7 +93,7 @@ pub fn check_file<F: Files, O: Sink, E: Sink>(
         → length text ≤ TEXT_LIMIT → Accepted text program
         → IsExcused result.status ⊎ Checked (names_of program.definitions) result.status result.ending result.history.items
         (O.told out) (O.told result.out) (E.told err.old) (E.told err.new) }
-    ensures first { (text : List ℕ) (what : Wrong) (at : ℕ) → F.content files.old file.now ≡ Some text
+    ensures first { (text : List ℕ) (what : FaultKind) (at : ℕ) → F.content files.old file.now ≡ Some text
         → length text ≤ TEXT_LIMIT → FirstFault text what at
         → IsExcused result.status ⊎ ((result.status ≡ 11) × Faulted (Fault.Told (line_of text what at)) file.now result.ending result.history.items
         (E.told err.old) (E.told err.new) (E.faults err.old) (E.faults err.new)) }

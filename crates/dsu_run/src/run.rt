@@ -1,10 +1,10 @@
 ghost use Rattle.std.specs.Prelude.{◌≡◌, ◌≢◌, ◌⊎◌, ◌≤◌, List, ℕ, length, IfOk, IfErr, IsErrOf, Some};
 ghost use Rattle.dsu_io.specs.Causes.{Rose};
 ghost use Rattle.c_tree.specs.declared.def.Program.{Program};
-ghost use Rattle.text_reader.specs.declared.fault.Wrong.{Wrong};
-ghost use Rattle.text_reader.specs.Accepted.{Accepted, FirstFault};
-ghost use Rattle.text_source.specs.Lines.{line_of};
-ghost use Rattle.text_source.specs.Sources.{Exceeds};
+ghost use Rattle.c_front.specs.declared.fault.FaultKind.{FaultKind};
+ghost use Rattle.c_front.specs.Accepted.{Accepted, FirstFault};
+ghost use Rattle.program_file.specs.Lines.{line_of};
+ghost use Rattle.program_file.specs.Sources.{Exceeds};
 ghost use Rattle.dsu_run.specs.declared.request.Request.{Request};
 ghost use Rattle.dsu_run.specs.Form.{Formula, value, IsForm};
 ghost use Rattle.dsu_run.specs.Answer.{HoldsForm, IsRefused, status_of, status_of_run, whole_history, Ran, PrintFailed, ReportFailed, IsRun, IsStatus, IsExcused, Faulted};
@@ -19,7 +19,7 @@ use c_ints::{ArithTrap, Int};
 use dsu_io::{Files, Sink};
 use dsu_report::{FaultLine, ending_status, write_ending};
 use std::alloc::{AllocError, Global};
-use text_source::{TEXT_LIMIT, source_of};
+use program_file::{TEXT_LIMIT, source_of};
 
 /// A run before anything of it is told: what its expression came to, and its events.
 #[derive(Drop)]
@@ -124,7 +124,7 @@ pub fn run_file<F: Files, O: Sink, E: Sink>(
         → length text ≤ TEXT_LIMIT → Accepted text program → IsForm text e
         → IsExcused result.status ⊎ Ran (value e) result.status result.ending result.history.items
         (O.told out) (O.told result.out) (E.told err.old) (E.told err.new) }
-    ensures first { (text : List ℕ) (what : Wrong) (at : ℕ) → F.content files.old file.now ≡ Some text
+    ensures first { (text : List ℕ) (what : FaultKind) (at : ℕ) → F.content files.old file.now ≡ Some text
         → length text ≤ TEXT_LIMIT → FirstFault text what at
         → IsExcused result.status ⊎ ((result.status ≡ 11) × Faulted (Fault.Told (line_of text what at)) file.now result.ending result.history.items
         (E.told err.old) (E.told err.new) (E.faults err.old) (E.faults err.new)) }

@@ -7,7 +7,7 @@ use bytecode::{Ending, Event, TrapKind};
 use dsu_io::{MemoryFiles, MemorySink, Text};
 use std::alloc::{AllocError, Global};
 use std::test::Fail;
-use text_source::TEXT_LIMIT;
+use program_file::TEXT_LIMIT;
 
 const P1: &str = "int main(void) { printf(\"%d\\n\", 2+3*4); return 0; }";
 

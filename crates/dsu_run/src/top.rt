@@ -2,10 +2,10 @@ ghost use Rattle.std.specs.Prelude.{◌≡◌, ◌≢◌, ◌⊎◌, ◌≤◌, 
 ghost use Rattle.dsu_io.specs.Causes.{Rose};
 ghost use Rattle.c_tree.specs.declared.def.Program.{Program};
 ghost use Rattle.c_types.specs.Definitions.{names_of};
-ghost use Rattle.text_reader.specs.declared.fault.Wrong.{Wrong};
-ghost use Rattle.text_reader.specs.Accepted.{Accepted, FirstFault};
-ghost use Rattle.text_source.specs.Lines.{line_of};
-ghost use Rattle.text_source.specs.Sources.{Exceeds};
+ghost use Rattle.c_front.specs.declared.fault.FaultKind.{FaultKind};
+ghost use Rattle.c_front.specs.Accepted.{Accepted, FirstFault};
+ghost use Rattle.program_file.specs.Lines.{line_of};
+ghost use Rattle.program_file.specs.Sources.{Exceeds};
 ghost use Rattle.dsu_run.specs.declared.request.Request.{Request};
 ghost use Rattle.dsu_run.specs.Form.{Formula, value, IsForm};
 ghost use Rattle.dsu_run.specs.Words.{asked, file_of, file_at_fault};
@@ -19,7 +19,7 @@ use crate::run::run_file;
 use dsu_io::{Files, Sink, Text};
 use dsu_report::FaultLine;
 use std::alloc::Global;
-use text_source::TEXT_LIMIT;
+use program_file::TEXT_LIMIT;
 
 /// Does what the words of a command line say. `run FILE` reads the file from `files`, runs its text, prints on
 /// `out` and reports on `err`; `check FILE` reads it and prints on `out` how many names its text has. The words
@@ -52,7 +52,7 @@ pub fn dsu_main<F: Files, O: Sink, E: Sink>(
         (O.told out) (O.told result.out) (E.told err.old) (E.told err.new) }
 
     // The first fault of a told text is told, unless a file or memory fails.
-    ensures first { (request : Request) (text : List ℕ) (what : Wrong) (at : ℕ) → asked words.now ≡ Some request
+    ensures first { (request : Request) (text : List ℕ) (what : FaultKind) (at : ℕ) → asked words.now ≡ Some request
         → F.content files.old (file_of request) ≡ Some text → length text ≤ TEXT_LIMIT → FirstFault text what at
         → IsExcused result.status ⊎ ((result.status ≡ 11)
         × Faulted (Fault.Told (line_of text what at)) (file_of request) result.ending result.history.items

@@ -7,8 +7,8 @@ use Rattle.std.proofs.Math.Nat.{le-max_left, le-max_right, le_trans}
 use Rattle.std.proofs.lemmas.Bool.Decides.{nat_tests}
 use Rattle.c_tree.specs.BareExpr.{Bytes}
 use Rattle.c_tree.specs.BareDef.{BareDef}
-use Rattle.c_types.specs.Names.{name_set, is_among}
-use Rattle.c_types.specs.Texts.{definition, names}
+use Rattle.c_semantics.specs.Names.{name_set, is_among}
+use Rattle.c_semantics.specs.Texts.{definition, names}
 use Rattle.source_model.specs.Versions.{Entry, Versioned, Table, Disjoint, DisjointFrom, Apart, AllApart, belongs, greatest_of, latest, current, first_entry, first_table, Fate, Stays, New, Gone, fate, extended, followed, next_line, table_names, next_table}
 use Rattle.source_model.proofs.Greatest.{among_greatest, none_below_zero, less_by_one}
 

@@ -7,11 +7,11 @@ use Rattle.c_ints.specs.Number.{number}
 use Rattle.bytecode.specs.Skeleton.{Skeleton, CheckIn, Print, Back, Return}
 use Rattle.c_tree.specs.BareExpr.{Integer}
 use Rattle.c_tree.specs.BareDef.{BareDef}
-use Rattle.c_types.specs.Texts.{definition}
-use Rattle.c_types.specs.Values.{Value, Number, int_of}
-use Rattle.c_types.specs.Changes.{changed, interface, added}
-use Rattle.c_types.specs.Transformers.{transformed, transformed_global}
-use Rattle.c_types.specs.Skeletons.{skeleton_of, direct_uses, check_ins}
+use Rattle.c_semantics.specs.Texts.{definition}
+use Rattle.c_semantics.specs.Values.{Value, Number, int_of}
+use Rattle.c_semantics.specs.Changes.{changed, interface, added}
+use Rattle.c_semantics.specs.Transformers.{transformed, transformed_global}
+use Rattle.c_semantics.specs.Skeletons.{skeleton_of, direct_uses, check_ins}
 use Rattle.source_model.specs.Texts.{Text}
 use Rattle.source_model.specs.Store.{Body, store}
 use Rattle.source_model.proofs.Texts.{text_with, counting, calling, calling_2, connection, connection_2, connection_3, other_kind_of}

@@ -5,8 +5,8 @@ use Rattle.std.specs.Fmt.{digits}
 use Rattle.bytecode.specs.declared.trap.TrapKind.TheVariants.{Divide, Shift, Null, Stale, Depth, Relock, Unlock, MutexHeld, Join}
 use Rattle.c_ints.specs.declared.operator.BinOp.TheVariants.{Div, Shl}
 use Rattle.c_tree.specs.BareDef.{BareDef}
-use Rattle.c_types.specs.Threads.{Use}
-use Rattle.c_types.specs.Changes.{changed, interface}
+use Rattle.c_semantics.specs.Threads.{Use}
+use Rattle.c_semantics.specs.Changes.{changed, interface}
 use Rattle.source_model.specs.Runs.{SourceMove, Move, Install, State, Finished, Trapped, Stuck, source_run}
 use Rattle.source_model.proofs.Runs.{seen, alone, seen_at_the_end, with_objects}
 use Rattle.source_model.proofs.Texts.{connection, connection_2}

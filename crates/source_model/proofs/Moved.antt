@@ -7,10 +7,10 @@ use Rattle.bytecode.specs.declared.trap.TrapKind.{TrapKind}
 use Rattle.bytecode.specs.declared.trap.TrapKind.TheVariants.{Null, Stale, Index, Depth, Relock, Unlock as NotHeld, MutexHeld, Join as NotJoined}
 use Rattle.c_ints.specs.Number.{value_of}
 use Rattle.c_tree.specs.BareExpr.{Bytes}
-use Rattle.c_types.specs.Values.{Value, Number, Reference, Started, ThreadRef, int_of}
-use Rattle.c_types.specs.Stops.{Stop, ReadGlobal, WriteGlobal, ReadElement, WriteElement, ReadField, WriteField, New, Free, Print, InitMutex, Lock, Unlock, Spawn, Join, Call, Return, Back, Begin, End, Update}
-use Rattle.c_types.specs.Pieces.{Halt, Stopped, Trapped, Nothing}
-use Rattle.c_types.specs.Threads.{Frame, Enter, Thread}
+use Rattle.c_semantics.specs.Values.{Value, Number, Reference, Started, ThreadRef, int_of}
+use Rattle.c_semantics.specs.Stops.{Stop, ReadGlobal, WriteGlobal, ReadElement, WriteElement, ReadField, WriteField, New, Free, Print, InitMutex, Lock, Unlock, Spawn, Join, Call, Return, Back, Begin, End, Update}
+use Rattle.c_semantics.specs.Pieces.{Halt, Stopped, Trapped, Nothing}
+use Rattle.c_semantics.specs.Threads.{Frame, Enter, Thread}
 use Rattle.source_model.specs.Worlds.{World, Object, Slot, Live, Over, Closed, in_slot, with_slot, with_thread, is_over, cells_of, with_cells, live_objects, released}
 use Rattle.source_model.specs.Worlds as world
 use Rattle.source_model.specs.Uses.{using, use_at, is_right, recorded, marked}

@@ -1,7 +1,7 @@
 -- The laws of local evaluation.
 use Rattle.std.proofs.Common.{refl}
-use Rattle.c_types.specs.Pieces.{Halt, Stopped, Trapped, Nothing}
-use Rattle.c_types.specs.Evaluation.{local}
+use Rattle.c_semantics.specs.Pieces.{Halt, Stopped, Trapped, Nothing}
+use Rattle.c_semantics.specs.Evaluation.{local}
 use Rattle.source_model.specs.EvaluationLaws.{Ends, at_a_stop, with_a_trap, with_nothing, AlwaysEnds, Makes, ExpressionsInOrder, Accesses, PlacesStop, Does, StatementsAsPieces}
 use Rattle.source_model.specs.EvaluationLaws as laws
 

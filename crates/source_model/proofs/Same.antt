@@ -18,7 +18,7 @@ use Rattle.c_tree.specs.BareExpr.{Bytes, BareType, Integer, Handle, Thread, Bare
 use Rattle.c_tree.specs.BareExpr as e
 use Rattle.c_tree.specs.BareStmt.{BareDeclaration, BareStmt, BareStmts, NoStmts, StmtThen}
 use Rattle.c_tree.specs.BareStmt as s
-use Rattle.c_types.specs.Same.{same_kind, same_int, binary_number, unary_number, step_number, same_option, same_type, same_expr, same_exprs, same_declaration, same_stmt, same_stmts}
+use Rattle.c_semantics.specs.Same.{same_kind, same_int, binary_number, unary_number, step_number, same_option, same_type, same_expr, same_exprs, same_declaration, same_stmt, same_stmts}
 use Rattle.source_model.specs.ChangeLaws.{SameDecides}
 use Rattle.source_model.proofs.Sets.{no, left_of, right_of, both_hold}
 

@@ -3,10 +3,10 @@ use Rattle.std.proofs.Common.{◌≡◌, ℕ, Bool, true, false, List, [], ◌�
 use Rattle.std.specs.Prelude.{if◌then◌else◌}
 use Rattle.bytecode.specs.declared.trap.TrapKind.TheVariants.{Join as NotJoined}
 use Rattle.c_tree.specs.BareExpr.{Bytes}
-use Rattle.c_types.specs.Values.{ThreadRef, Value, Number, Reference, Started}
-use Rattle.c_types.specs.Stops.{Stop, ReadGlobal, WriteGlobal, ReadElement, WriteElement, ReadField, WriteField, New, Free, Print, InitMutex, Lock, Unlock, Spawn, Join, Call, Return, Back, Begin, End, Update}
-use Rattle.c_types.specs.Pieces.{Halt, Stopped, Trapped, Nothing}
-use Rattle.c_types.specs.Threads.{Frame, Enter, Thread, next_of}
+use Rattle.c_semantics.specs.Values.{ThreadRef, Value, Number, Reference, Started}
+use Rattle.c_semantics.specs.Stops.{Stop, ReadGlobal, WriteGlobal, ReadElement, WriteElement, ReadField, WriteField, New, Free, Print, InitMutex, Lock, Unlock, Spawn, Join, Call, Return, Back, Begin, End, Update}
+use Rattle.c_semantics.specs.Pieces.{Halt, Stopped, Trapped, Nothing}
+use Rattle.c_semantics.specs.Threads.{Frame, Enter, Thread, next_of}
 use Rattle.source_model.specs.Worlds.{World, Slot, Live, Over, in_slot, holder_of, is_over}
 use Rattle.source_model.specs.Worlds as world
 use Rattle.source_model.specs.Moves.{Standing, is_others, join_slot, join, traps, with_use, stop_made, behind, in_frames, thread_move, move_of}

@@ -3,9 +3,9 @@ use Rattle.std.specs.Prelude.{◌≡◌, IsTrue, Decides, List}
 use Rattle.c_tree.specs.BareExpr.{Bytes}
 use Rattle.c_tree.specs.BareDef.{BareDef}
 use Rattle.c_tree.specs.BareStmt.{BareStmts}
-use Rattle.c_types.specs.Same.{same_stmts}
-use Rattle.c_types.specs.Names.{is_among}
-use Rattle.c_types.specs.Changes.{changed, interface, same_definition, same_interface}
+use Rattle.c_semantics.specs.Same.{same_stmts}
+use Rattle.c_semantics.specs.Names.{is_among}
+use Rattle.c_semantics.specs.Changes.{changed, interface, same_definition, same_interface}
 
 -- equal definitions have equal interfaces
 abbrev pub DefinitionsHaveInterfaces : Type 0

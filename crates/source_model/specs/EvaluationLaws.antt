@@ -5,14 +5,14 @@ use Rattle.c_ints.specs.declared.operator.BinOp.{BinOp}
 use Rattle.c_ints.specs.declared.operator.UnOp.{UnOp}
 use Rattle.bytecode.specs.declared.trap.TrapKind.{TrapKind}
 use Rattle.c_tree.specs.BareExpr.{Bytes, BareType}
-use Rattle.c_types.specs.Values.{Value, Number, int_of, is_true}
-use Rattle.c_types.specs.Resolved.{Expression, Expressions, Place, Statement, Statements, NoExpressions, ExpressionThen, NoStatements, StatementThen}
-use Rattle.c_types.specs.Resolved as made
-use Rattle.c_types.specs.Points.{size, size_all, size_parts, size_read, size_stmt, size_stmts}
-use Rattle.c_types.specs.Stops.{Stop}
-use Rattle.c_types.specs.Stops as stop
-use Rattle.c_types.specs.Pieces.{Loop, Piece, Scopes, Halt, Stopped, Trapped, Nothing, Compute, Arguments, Parts, Get, Set, Again, Tuck, Lift, Apply, Combine, ConvertTo, Drop, Put, Created, AndThen, OrElse, Choose, Then, ThenElse, Turn, Do, Sequence, Close, Cycle, Behind, Edge, Until, At, body_at, step_at, back_at}
-use Rattle.c_types.specs.Evaluation.{local, count, loop_of, one, open_scope}
+use Rattle.c_semantics.specs.Values.{Value, Number, int_of, is_true}
+use Rattle.c_semantics.specs.Resolved.{Expression, Expressions, Place, Statement, Statements, NoExpressions, ExpressionThen, NoStatements, StatementThen}
+use Rattle.c_semantics.specs.Resolved as made
+use Rattle.c_semantics.specs.Points.{size, size_all, size_parts, size_read, size_stmt, size_stmts}
+use Rattle.c_semantics.specs.Stops.{Stop}
+use Rattle.c_semantics.specs.Stops as stop
+use Rattle.c_semantics.specs.Pieces.{Loop, Piece, Scopes, Halt, Stopped, Trapped, Nothing, Compute, Arguments, Parts, Get, Set, Again, Tuck, Lift, Apply, Combine, ConvertTo, Drop, Put, Created, AndThen, OrElse, Choose, Then, ThenElse, Turn, Do, Sequence, Close, Cycle, Behind, Edge, Until, At, body_at, step_at, back_at}
+use Rattle.c_semantics.specs.Evaluation.{local, count, loop_of, one, open_scope}
 
 -- how local evaluation ends
 pub data Ends : Halt → Type 0 where

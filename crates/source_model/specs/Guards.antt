@@ -4,10 +4,10 @@ use Rattle.std.specs.Prelude.{ℕ, zero, suc, ◌-◌, ◌==◌, nat_lt, nat_le,
 use Rattle.std.specs.Option.{is_some, is_none, option_map_or}
 use Rattle.c_tree.specs.BareExpr.{Bytes}
 use Rattle.c_tree.specs.BareDef.{BareDef}
-use Rattle.c_types.specs.Changes.{changed, interface}
-use Rattle.c_types.specs.Stops.{Stop, Return, Begin, End, Update}
-use Rattle.c_types.specs.Pieces.{Halt, Stopped}
-use Rattle.c_types.specs.Threads.{Frame, Enter, next_of}
+use Rattle.c_semantics.specs.Changes.{changed, interface}
+use Rattle.c_semantics.specs.Stops.{Stop, Return, Begin, End, Update}
+use Rattle.c_semantics.specs.Pieces.{Halt, Stopped}
+use Rattle.c_semantics.specs.Threads.{Frame, Enter, next_of}
 use Rattle.con_freeness.specs.Verdicts.{Verdict, Admitted, Refused}
 use Rattle.source_model.specs.declared.patch.NotPatch.{NotPatch}
 use Rattle.source_model.specs.Worlds.{World, Slot, Free, Live, Over, Limits, in_slot, first_world}

@@ -2,12 +2,12 @@
 use Rattle.std.specs.Prelude.{Bool, true, false, List, map, filter, filter_map, Option, Some, None, option_map, if◌then◌else◌}
 use Rattle.c_tree.specs.BareExpr.{Bytes}
 use Rattle.c_tree.specs.BareDef.{BareDef, Mutex, Global, Array}
-use Rattle.c_types.specs.Names.{struct_name}
-use Rattle.c_types.specs.Texts.{defined, definition, members_of}
-use Rattle.c_types.specs.Values.{Value}
-use Rattle.c_types.specs.Changes.{same_interface}
-use Rattle.c_types.specs.Constants.{initial_cells}
-use Rattle.c_types.specs.Transformers.{transformed, transformed_global, zero_fields}
+use Rattle.c_semantics.specs.Names.{struct_name}
+use Rattle.c_semantics.specs.Texts.{defined, definition, members_of}
+use Rattle.c_semantics.specs.Values.{Value}
+use Rattle.c_semantics.specs.Changes.{same_interface}
+use Rattle.c_semantics.specs.Constants.{initial_cells}
+use Rattle.c_semantics.specs.Transformers.{transformed, transformed_global, zero_fields}
 use Rattle.source_model.specs.Versions.{current, next_table}
 use Rattle.source_model.specs.Worlds.{World, Cells, Object, cells_of}
 

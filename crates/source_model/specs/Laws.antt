@@ -2,7 +2,7 @@
 use Rattle.std.specs.Prelude.{◌≡◌, ◌≢◌, ℕ, ◌≤◌, IsTrue, List, ◌++◌, Contains, Some, None}
 use Rattle.std.specs.Option.{option_and_then}
 use Rattle.c_tree.specs.BareDef.{BareDef}
-use Rattle.c_types.specs.Threads.{Thread}
+use Rattle.c_semantics.specs.Threads.{Thread}
 use Rattle.source_model.specs.Versions.{Entry, Versioned, Table, AllApart, current}
 use Rattle.source_model.specs.Worlds.{World, Limits, Live, in_slot}
 use Rattle.source_model.specs.Moves.{move}

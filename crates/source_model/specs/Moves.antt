@@ -4,15 +4,15 @@ use Rattle.bytecode.specs.declared.trap.TrapKind.{TrapKind}
 use Rattle.bytecode.specs.declared.trap.TrapKind.TheVariants.{Null, Stale, Index, Depth, Relock, Unlock as NotHeld, MutexHeld, Join as NotJoined}
 use Rattle.c_ints.specs.Number.{value_of}
 use Rattle.c_tree.specs.BareExpr.{Bytes}
-use Rattle.c_types.specs.Names.{struct_name}
-use Rattle.c_types.specs.Texts.{members_of}
-use Rattle.c_types.specs.Values.{ThreadRef, Value, Number, Reference, Started, int_of}
-use Rattle.c_types.specs.Stops.{Stop, ReadGlobal, WriteGlobal, ReadElement, WriteElement, ReadField, WriteField, New, Free, Print, InitMutex, Lock, Unlock, Spawn, Join, Call, Return, Back, Begin, End, Update}
-use Rattle.c_types.specs.Pieces.{Piece, Variable, Scopes, Halt, Stopped, Nothing}
-use Rattle.c_types.specs.Pieces as halt
-use Rattle.c_types.specs.Evaluation.{in_scope, with_value}
-use Rattle.c_types.specs.Threads.{Frame, Enter, Thread, started, entered, next_of}
-use Rattle.c_types.specs.Transformers.{zero_fields, first_cell}
+use Rattle.c_semantics.specs.Names.{struct_name}
+use Rattle.c_semantics.specs.Texts.{members_of}
+use Rattle.c_semantics.specs.Values.{ThreadRef, Value, Number, Reference, Started, int_of}
+use Rattle.c_semantics.specs.Stops.{Stop, ReadGlobal, WriteGlobal, ReadElement, WriteElement, ReadField, WriteField, New, Free, Print, InitMutex, Lock, Unlock, Spawn, Join, Call, Return, Back, Begin, End, Update}
+use Rattle.c_semantics.specs.Pieces.{Piece, Variable, Scopes, Halt, Stopped, Nothing}
+use Rattle.c_semantics.specs.Pieces as halt
+use Rattle.c_semantics.specs.Evaluation.{in_scope, with_value}
+use Rattle.c_semantics.specs.Threads.{Frame, Enter, Thread, started, entered, next_of}
+use Rattle.c_semantics.specs.Transformers.{zero_fields, first_cell}
 use Rattle.source_model.specs.Versions.{current}
 use Rattle.source_model.specs.Worlds.{World, Object, Slot, Live, Over, Finish, Finished, Trapped, now, is_over, in_slot, with_slot, with_thread, cells_of, with_cells, holder_of, with_holder, released, live_objects}
 use Rattle.source_model.specs.Worlds as world

@@ -3,8 +3,8 @@ use Rattle.std.specs.Prelude.{ℕ, ◌==◌, nat_le, nat_lt, Bool, false, not, �
 use Rattle.std.specs.Option.{option_or}
 use Rattle.c_tree.specs.BareExpr.{Bytes}
 use Rattle.c_tree.specs.BareDef.{BareDef, Mutex, Function, Global, Array}
-use Rattle.c_types.specs.Names.{name_set}
-use Rattle.c_types.specs.Texts.{definition, names}
+use Rattle.c_semantics.specs.Names.{name_set}
+use Rattle.c_semantics.specs.Texts.{definition, names}
 use Rattle.source_model.specs.declared.patch.NotPatch.{NotPatch}
 use Rattle.source_model.specs.declared.patch.NotPatch.TheVariants.{Versions, Names, Kind, Transform, StoreFull}
 use Rattle.source_model.specs.Texts.{Text}

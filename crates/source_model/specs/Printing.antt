@@ -3,7 +3,7 @@ use Rattle.std.specs.Prelude.{ℕ, ◌==◌, List, [], ◌∷◌, ◌++◌, if�
 use Rattle.std.specs.Fmt.{signed_decimal}
 use Rattle.c_ints.specs.Number.{value_of}
 use Rattle.c_tree.specs.BareExpr.{Bytes}
-use Rattle.c_types.specs.Values.{Value, Number}
+use Rattle.c_semantics.specs.Values.{Value, Number}
 
 -- whether the byte before was part of a conversion that isn't complete
 pub data Reading : Type 0 where

@@ -4,7 +4,7 @@ use Rattle.std.specs.Option.{is_some, option_and_then}
 use Rattle.std.specs.List.{list_any, range_with_len}
 use Rattle.bytecode.specs.declared.trap.TrapKind.{TrapKind}
 use Rattle.c_tree.specs.BareDef.{BareDef}
-use Rattle.c_types.specs.Threads.{Record, Thread}
+use Rattle.c_semantics.specs.Threads.{Record, Thread}
 use Rattle.source_model.specs.Worlds.{World, Slot, Live, Free, Over, Finish, Closed, Limits, is_over, first_world}
 use Rattle.source_model.specs.Worlds as world
 use Rattle.source_model.specs.Moves.{move}

@@ -2,7 +2,7 @@
 use Rattle.std.specs.Prelude.{ℕ, zero, suc, ◌==◌, Bool, false, List, [], ◌∷◌, ◌++◌, map, filter, slice_get, Option}
 use Rattle.std.specs.Option.{option_map_or}
 use Rattle.std.specs.List.{list_any, list_all, range_with_len}
-use Rattle.c_types.specs.Threads.{Use, Record}
+use Rattle.c_semantics.specs.Threads.{Use, Record}
 use Rattle.source_model.specs.Versions.{Table, entries_of, current, greatest_of}
 use Rattle.source_model.specs.Worlds.{World, Slot, Free, Live, Over}
 

@@ -5,10 +5,10 @@ use Rattle.std.specs.List.{list_any}
 use Rattle.bytecode.specs.Skeleton.{Skeleton}
 use Rattle.c_tree.specs.BareExpr.{Bytes}
 use Rattle.c_tree.specs.BareDef.{BareDef, Function}
-use Rattle.c_types.specs.Names.{is_among}
-use Rattle.c_types.specs.Texts.{definition, names}
-use Rattle.c_types.specs.Changes.{changed, interface}
-use Rattle.c_types.specs.Skeletons.{skeleton_of, direct_uses, check_ins, is_check_in_kind}
+use Rattle.c_semantics.specs.Names.{is_among}
+use Rattle.c_semantics.specs.Texts.{definition, names}
+use Rattle.c_semantics.specs.Changes.{changed, interface}
+use Rattle.c_semantics.specs.Skeletons.{skeleton_of, direct_uses, check_ins, is_check_in_kind}
 use Rattle.source_model.specs.Texts.{Text}
 
 -- a body: its function, the version that brought it, its skeleton and its number of tokens

@@ -1,10 +1,10 @@
 -- The uses of names: when one is a misuse, and the record of a transaction.
 use Rattle.std.specs.Prelude.{◌≡◌, ℕ, zero, suc, Bool, true, [], ◌∷◌, ◌++◌, Contains, All, slice_get, Option, Some, None, unwrap_or, if◌then◌else◌}
 use Rattle.c_tree.specs.BareExpr.{Bytes}
-use Rattle.c_types.specs.Changes.{same_interface, agree}
-use Rattle.c_types.specs.Stops.{Stop, ReadGlobal, WriteGlobal, ReadElement, WriteElement, ReadField, WriteField, New, Free, Print, InitMutex, Lock, Unlock, Spawn, Join, Call, Return, Back, Begin, End, Update}
-use Rattle.c_types.specs.Names.{struct_name}
-use Rattle.c_types.specs.Threads.{Use, Record, Thread}
+use Rattle.c_semantics.specs.Changes.{same_interface, agree}
+use Rattle.c_semantics.specs.Stops.{Stop, ReadGlobal, WriteGlobal, ReadElement, WriteElement, ReadField, WriteField, New, Free, Print, InitMutex, Lock, Unlock, Spawn, Join, Call, Return, Back, Begin, End, Update}
+use Rattle.c_semantics.specs.Names.{struct_name}
+use Rattle.c_semantics.specs.Threads.{Use, Record, Thread}
 use Rattle.source_model.specs.Versions.{Entry, Table, entries_of, entry_in, in_version, current}
 use Rattle.source_model.specs.Worlds.{World}
 

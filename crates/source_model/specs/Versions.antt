@@ -5,9 +5,9 @@ use Rattle.std.specs.Option.{option_map_or}
 use Rattle.std.specs.List.{list_any}
 use Rattle.c_tree.specs.BareExpr.{Bytes}
 use Rattle.c_tree.specs.BareDef.{BareDef}
-use Rattle.c_types.specs.Names.{name_set, is_among}
-use Rattle.c_types.specs.Texts.{Definitions, definition, names}
-use Rattle.c_types.specs.Changes.{changed}
+use Rattle.c_semantics.specs.Names.{name_set, is_among}
+use Rattle.c_semantics.specs.Texts.{Definitions, definition, names}
+use Rattle.c_semantics.specs.Changes.{changed}
 
 -- a definition with its versions
 pub record Entry : Type 0 where

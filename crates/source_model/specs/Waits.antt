@@ -1,10 +1,10 @@
 -- What a thread waits for.
 use Rattle.std.specs.Prelude.{◌≡◌, ℕ, ◌==◌, Bool, false, List, [], ◌∷◌, Option, Some, None, if◌then◌else◌}
 use Rattle.c_tree.specs.BareExpr.{Bytes}
-use Rattle.c_types.specs.Stops.{Stop, Lock, Join}
-use Rattle.c_types.specs.Values.{ThreadRef, Value, Started}
-use Rattle.c_types.specs.Pieces.{Halt, Stopped}
-use Rattle.c_types.specs.Threads.{Frame, Enter, next_of}
+use Rattle.c_semantics.specs.Stops.{Stop, Lock, Join}
+use Rattle.c_semantics.specs.Values.{ThreadRef, Value, Started}
+use Rattle.c_semantics.specs.Pieces.{Halt, Stopped}
+use Rattle.c_semantics.specs.Threads.{Frame, Enter, next_of}
 use Rattle.source_model.specs.Moves.{is_others, move}
 use Rattle.source_model.specs.Worlds.{World, Slot, Live, in_slot, holder_of}
 

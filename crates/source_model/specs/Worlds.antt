@@ -4,11 +4,11 @@ use Rattle.std.specs.Option.{option_map_or, is_some}
 use Rattle.bytecode.specs.declared.trap.TrapKind.{TrapKind}
 use Rattle.c_tree.specs.BareExpr.{Bytes}
 use Rattle.c_tree.specs.BareDef.{BareDef, Global, Array}
-use Rattle.c_types.specs.Texts.{Definitions}
-use Rattle.c_types.specs.Values.{Value}
-use Rattle.c_types.specs.Pieces.{Variable}
-use Rattle.c_types.specs.Threads.{Record, Enter, Thread, started}
-use Rattle.c_types.specs.Constants.{initial_cells}
+use Rattle.c_semantics.specs.Texts.{Definitions}
+use Rattle.c_semantics.specs.Values.{Value}
+use Rattle.c_semantics.specs.Pieces.{Variable}
+use Rattle.c_semantics.specs.Threads.{Record, Enter, Thread, started}
+use Rattle.c_semantics.specs.Constants.{initial_cells}
 use Rattle.source_model.specs.Versions.{Table, current, in_version, first_table}
 
 -- a global variable, which has one cell, or an array

@@ -1,11 +1,10 @@
 //! The source machine: what a run of a text is, with its threads and the installs of newer texts.
 //!
-//! It is definitions, for the contracts of whatever runs texts. What one thread does by itself is said in the `specs/`
-//! of `c_types`: `Texts`, `Resolved`, `Resolution` (a function's tree with its names resolved), `Values`, `Points`,
-//! `Stops`, `Pieces`, `Evaluation` (local evaluation), `Skeletons`, `Threads`. Here stand `Versions` (definitions by name
-//! and version), `Worlds`, `Uses` (misuse and records), `Printing`, `Moves`, `Waits` (what a thread waits for), `Installs` and `Runs`; then `Texts`, `Store`,
-//! `Patches`, `Answers`, `Guards` and `Journals` for check-ins and offers. `Laws`, `EvaluationLaws` and `JournalLaws` say what shows that
-//! they mean what is meant, and the calls of `laws` carry them. In `proofs/` small texts are run by the definitions.
+//! It is definitions, for the contracts of whatever runs texts. What one thread does by itself is defined in
+//! `c_semantics`. Here are `Versions` (definitions by name and version), `Worlds`, `Uses` (misuse and records), `Printing`,
+//! `Moves`, `Waits` (what a thread waits for), `Installs` and `Runs`; then `Texts`, `Store`, `Patches`, `Answers`, `Guards`
+//! and `Journals` for check-ins and offers. `Laws`, `EvaluationLaws` and `JournalLaws` state what shows that they mean what
+//! is meant, and the calls of `laws` carry them. In `proofs/` small texts are run by the definitions.
 //!
 //! Read in this order: `patch` (why a text is no patch), `answer` (what is answered to an offer), `laws`.
 #![tactic(auto)]

@@ -3,7 +3,7 @@ use Rattle.std.proofs.Common.{◌≡◌, ℕ, zero, suc, ◌+◌, ◌-◌, ◌�
 use Rattle.std.specs.Prelude.{filter_map, option_map, replicate, slice_index_or}
 use Rattle.std.proofs.lemmas.List.{replicate-append-replicate}
 use Rattle.c_tree.specs.BareDef.{BareDef}
-use Rattle.c_types.specs.Threads.{started}
+use Rattle.c_semantics.specs.Threads.{started}
 use Rattle.source_model.specs.Worlds.{World, Limits, cells_at_first, first_world, main_enter}
 use Rattle.source_model.specs.Worlds as world
 use Rattle.source_runner.specs.declared.machine.Machine.{Machine}

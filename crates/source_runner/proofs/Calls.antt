@@ -3,8 +3,8 @@ use Rattle.std.proofs.Common.{◌≡◌, ℕ, zero, suc, Bool, List, [], ◌∷�
 use Rattle.std.specs.Prelude.{Vec, ℤ}
 use Rattle.std.specs.declared.alloc.Global.{Global}
 use Rattle.c_tree.specs.BareDef.{BareDef}
-use Rattle.c_types.specs.Values.{Value as Seen}
-use Rattle.c_types.specs.Threads.{Frame as SeenFrame, Thread as SeenThread}
+use Rattle.c_semantics.specs.Values.{Value as Seen}
+use Rattle.c_semantics.specs.Threads.{Frame as SeenFrame, Thread as SeenThread}
 use Rattle.source_model.specs.Worlds.{World, with_thread, with_slot}
 use Rattle.source_model.specs.Worlds as world
 use Rattle.source_model.specs.Moves.{call, finish_thread, gone_on, arguments_of, number_of, return, return_to}

@@ -7,9 +7,9 @@ use Rattle.std.proofs.lemmas.List.Folds.{find-append}
 use Rattle.c_ints.specs.declared.kind.Kind.TheVariants.{I32}
 use Rattle.c_tree.specs.BareExpr.{Bytes}
 use Rattle.c_tree.specs.BareDef.{BareBinding, BareDef, Struct}
-use Rattle.c_types.specs.Names.{struct_name}
-use Rattle.c_types.specs.Resolved.{NoStatements}
-use Rattle.c_types.specs.Texts.{Definitions, defined, defines, definition}
+use Rattle.c_semantics.specs.Names.{struct_name}
+use Rattle.c_semantics.specs.Resolved.{NoStatements}
+use Rattle.c_semantics.specs.Texts.{Definitions, defined, defines, definition}
 use Rattle.source_runner.specs.declared.node.ValueType.TheVariants.{Integer}
 use Rattle.source_runner.specs.declared.program.Binding.{Binding}
 use Rattle.source_runner.specs.declared.program.Definition.{Definition}

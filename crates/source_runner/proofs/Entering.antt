@@ -2,10 +2,10 @@
 use Rattle.std.proofs.Common.{◌≡◌, ℕ, zero, suc, ◌-◌, ◌<◌, ◌≤◌, List, [], ◌∷◌, ◌++◌, length, get_or, drop, refl, sym, ap, ◌∙◌, arith}
 use Rattle.std.specs.Prelude.{slice_get, unwrap_or, Result, Ok, Err, OnOk}
 use Rattle.std.proofs.lemmas.List.{drop_all, length-map}
-use Rattle.c_types.specs.Values.{Value, zero_of}
-use Rattle.c_types.specs.Pieces.{Scopes, Variable}
-use Rattle.c_types.specs.Evaluation.{declared}
-use Rattle.c_types.specs.Threads.{bind}
+use Rattle.c_semantics.specs.Values.{Value, zero_of}
+use Rattle.c_semantics.specs.Pieces.{Scopes, Variable}
+use Rattle.c_semantics.specs.Evaluation.{declared}
+use Rattle.c_semantics.specs.Threads.{bind}
 use Rattle.source_runner.specs.declared.program.Binding.{Binding}
 use Rattle.source_runner.specs.declared.work.Local.{Local}
 use Rattle.source_runner.specs.declared.work.Local.TheVariants.{Block, Variable as VariableIs}

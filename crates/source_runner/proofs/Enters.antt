@@ -2,8 +2,8 @@
 use Rattle.std.proofs.Common.{◌≡◌, ℕ, ◌==◌, Bool, true, false, List, ◌∷◌, length, map, reverse, Option, Some, None, refl, sym, ap, ap₂, ◌∙◌, if◌then◌else◌}
 use Rattle.c_tree.specs.BareDef.{BareDef}
 use Rattle.bytecode.specs.declared.trap.TrapKind.TheVariants.{Depth}
-use Rattle.c_types.specs.Texts.{Definitions, definition}
-use Rattle.c_types.specs.Threads.{Frame as SeenFrame, Enter as SeenEnter, Thread as SeenThread, entered}
+use Rattle.c_semantics.specs.Texts.{Definitions, definition}
+use Rattle.c_semantics.specs.Threads.{Frame as SeenFrame, Enter as SeenEnter, Thread as SeenThread, entered}
 use Rattle.source_model.specs.Versions.{Table as Versioned, current, first_table}
 use Rattle.source_model.specs.Worlds.{World, Trapped, with_thread}
 use Rattle.source_model.specs.Uses.{is_right, marked, recorded}

@@ -4,11 +4,11 @@ use Rattle.std.specs.Prelude.{codes}
 use Rattle.c_ints.specs.declared.int.Int.TheVariants.{I32}
 use Rattle.c_ints.specs.declared.operator.BinOp.TheVariants.{Add, Mul}
 use Rattle.c_tree.specs.BareExpr.{Bytes}
-use Rattle.c_types.specs.Resolved as tree
-use Rattle.c_types.specs.Stops as stop
-use Rattle.c_types.specs.Values as value
-use Rattle.c_types.specs.Pieces.{Drop, Stopped}
-use Rattle.c_types.specs.Evaluation.{local, look_up}
+use Rattle.c_semantics.specs.Resolved as tree
+use Rattle.c_semantics.specs.Stops as stop
+use Rattle.c_semantics.specs.Values as value
+use Rattle.c_semantics.specs.Pieces.{Drop, Stopped}
+use Rattle.c_semantics.specs.Evaluation.{local, look_up}
 use Rattle.source_runner.specs.declared.node.Entry.{Entry}
 use Rattle.source_runner.specs.declared.node.Place.TheVariants.{Local}
 use Rattle.source_runner.specs.declared.node.ExpressionNode.TheVariants.{Constant, Read, Binary, Assign, Print}

@@ -4,12 +4,12 @@ use Rattle.std.proofs.lemmas.List.{set_split, drop_more, map-append, map-set}
 use Rattle.bytecode.specs.declared.trap.TrapKind.{TrapKind}
 use Rattle.c_tree.specs.BareExpr.{Bytes}
 use Rattle.c_tree.specs.BareDef.{BareDef}
-use Rattle.c_types.specs.Evaluation.{in_scope, with_value}
-use Rattle.c_types.specs.Stops.{ReadField, WriteField, New}
-use Rattle.c_types.specs.Names.{struct_name}
-use Rattle.c_types.specs.Texts.{definition, members_of}
-use Rattle.c_types.specs.Transformers.{zero_fields}
-use Rattle.c_types.specs.Values.{Value as Seen, Reference, int_of}
+use Rattle.c_semantics.specs.Evaluation.{in_scope, with_value}
+use Rattle.c_semantics.specs.Stops.{ReadField, WriteField, New}
+use Rattle.c_semantics.specs.Names.{struct_name}
+use Rattle.c_semantics.specs.Texts.{definition, members_of}
+use Rattle.c_semantics.specs.Transformers.{zero_fields}
+use Rattle.c_semantics.specs.Values.{Value as Seen, Reference, int_of}
 use Rattle.source_model.specs.Worlds.{World}
 use Rattle.source_model.specs.Worlds as world
 use Rattle.source_model.specs.Moves.{Standing, goes_on, traps, on_object, with_object, read_field, write_field, release, new_object}

@@ -11,10 +11,10 @@ use Rattle.c_ints.specs.declared.kind.Kind.TheVariants.{I8, U8, I16, U16, I32, U
 use Rattle.c_ints.specs.Number.{value_of}
 use Rattle.c_tree.specs.BareExpr.{Bytes, BareType, Integer, Handle, Thread}
 use Rattle.c_tree.specs.BareDef.{BareBinding, BareDef, Struct, Forward, Mutex, Function, Prototype, Global, Array, TransformStruct, TransformGlobal}
-use Rattle.c_types.specs.Names.{with_name, name_set, is_among, precedes}
-use Rattle.c_types.specs.Texts.{defined, definition, names}
-use Rattle.c_types.specs.Same.{same_kind, same_type, same_binding, same_list, same_option}
-use Rattle.c_types.specs.Changes.{same_interface, agree}
+use Rattle.c_semantics.specs.Names.{with_name, name_set, is_among, precedes}
+use Rattle.c_semantics.specs.Texts.{defined, definition, names}
+use Rattle.c_semantics.specs.Same.{same_kind, same_type, same_binding, same_list, same_option}
+use Rattle.c_semantics.specs.Changes.{same_interface, agree}
 use Rattle.source_model.specs.Versions.{Entry, Versioned, entries_of, belongs, entry_in, in_version, current, latest, first_entry, first_table}
 use Rattle.source_model.specs.Uses.{is_right, use_of}
 use Rattle.source_runner.specs.declared.program.Definition.{Definition}

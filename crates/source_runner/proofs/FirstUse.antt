@@ -3,7 +3,7 @@ use Rattle.std.proofs.Common.{◌≡◌, ℕ, ◌==◌, Bool, true, false, ◌&&
 use Rattle.std.specs.Option.{is_some}
 use Rattle.c_tree.specs.BareExpr.{Bytes}
 use Rattle.c_tree.specs.BareDef.{BareDef}
-use Rattle.c_types.specs.Texts.{Definitions, definition}
+use Rattle.c_semantics.specs.Texts.{Definitions, definition}
 use Rattle.source_model.specs.Versions.{Table, current, first_table, in_version}
 use Rattle.source_model.specs.Worlds.{World, now}
 use Rattle.source_model.specs.Uses.{use_of, is_right}

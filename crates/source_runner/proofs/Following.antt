@@ -1,12 +1,12 @@
 -- What a step of a piece does, from what the call does that makes it.
 use Rattle.std.proofs.Common.{◌≡◌, ℕ, ◌+◌, ◌<◌, ◌≤◌, List, ◌∷◌, ◌++◌, map, true, Option, if◌then◌else◌, sym, ap, ◌∙◌, arith}
 use Rattle.std.specs.Prelude.{Result, Ok, Err, IfOk, OnOk}
-use Rattle.c_types.specs.Values.{Value, is_true}
-use Rattle.c_types.specs.Resolved.{Expression, Statement, DoWhile}
-use Rattle.c_types.specs.Stops as stop
-use Rattle.c_types.specs.Points.{size, size_stmt}
-use Rattle.c_types.specs.Pieces.{Piece, Scopes, Stopped, Repeat, Do}
-use Rattle.c_types.specs.Evaluation.{Next, local, ways, choose, repeated}
+use Rattle.c_semantics.specs.Values.{Value, is_true}
+use Rattle.c_semantics.specs.Resolved.{Expression, Statement, DoWhile}
+use Rattle.c_semantics.specs.Stops as stop
+use Rattle.c_semantics.specs.Points.{size, size_stmt}
+use Rattle.c_semantics.specs.Pieces.{Piece, Scopes, Stopped, Repeat, Do}
+use Rattle.c_semantics.specs.Evaluation.{Next, local, ways, choose, repeated}
 use Rattle.source_runner.specs.declared.piece.Piece.{Piece as PieceNode}
 use Rattle.source_runner.specs.declared.work.Halt.{Halt as End}
 use Rattle.source_runner.specs.declared.work.Jump.{Jump}

@@ -11,12 +11,12 @@ use Rattle.c_ints.specs.Number.{value_of}
 use Rattle.bytecode.specs.declared.trap.TrapKind.TheVariants.{Index}
 use Rattle.c_tree.specs.BareExpr.{Bytes}
 use Rattle.c_tree.specs.BareDef.{BareDef}
-use Rattle.c_types.specs.Stops.{ReadGlobal, ReadElement, WriteElement}
-use Rattle.c_types.specs.Values.{Value as Seen, Number, int_of}
+use Rattle.c_semantics.specs.Stops.{ReadGlobal, ReadElement, WriteElement}
+use Rattle.c_semantics.specs.Values.{Value as Seen, Number, int_of}
 use Rattle.source_model.specs.Worlds.{World, with_cells, with_cells_in, cells_of as cells_in}
 use Rattle.source_model.specs.Worlds as world
 use Rattle.source_model.specs.Moves.{in_bounds, goes_on, traps, read_element, write_element}
-use Rattle.c_types.specs.Transformers.{first_cell}
+use Rattle.c_semantics.specs.Transformers.{first_cell}
 use Rattle.source_runner.specs.declared.value.Value.{Value}
 use Rattle.source_runner.specs.declared.value.Value.TheVariants.{Number as NumberIs, Reference, Started}
 use Rattle.source_runner.specs.declared.store.Store.{Store}

@@ -3,8 +3,8 @@ use Rattle.std.proofs.Common.{◌≡◌, ℕ, not, if◌then◌else◌, List, []
 use Rattle.bytecode.specs.declared.trap.TrapKind.TheVariants.{Relock, Unlock as NotHeld, MutexHeld}
 use Rattle.c_tree.specs.BareExpr.{Bytes}
 use Rattle.c_tree.specs.BareDef.{BareDef}
-use Rattle.c_types.specs.Stops.{InitMutex, Lock, Unlock}
-use Rattle.c_types.specs.Values.{int_of}
+use Rattle.c_semantics.specs.Stops.{InitMutex, Lock, Unlock}
+use Rattle.c_semantics.specs.Values.{int_of}
 use Rattle.source_model.specs.Worlds.{World, holder_of, with_holder, released}
 use Rattle.source_model.specs.Moves.{initialise, lock, unlock, goes_on, traps}
 use Rattle.source_runner.specs.declared.value.Value.{Value}

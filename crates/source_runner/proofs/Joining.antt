@@ -2,9 +2,9 @@
 use Rattle.std.proofs.Common.{◌≡◌, ℕ, ◌==◌, Bool, true, false, List, ◌∷◌, drop, ◌⊎◌, inl, inr, Option, Some, None, option_map, if◌then◌else◌, refl, sym, ap, subst, ◌∙◌}
 use Rattle.std.proofs.lemmas.Bool.{eq-eqb, ne_eqb}
 use Rattle.c_tree.specs.BareDef.{BareDef}
-use Rattle.c_types.specs.Values.{Value as Seen}
-use Rattle.c_types.specs.Values as value
-use Rattle.c_types.specs.Threads.{Thread as SeenThread}
+use Rattle.c_semantics.specs.Values.{Value as Seen}
+use Rattle.c_semantics.specs.Values as value
+use Rattle.c_semantics.specs.Threads.{Thread as SeenThread}
 use Rattle.bytecode.specs.declared.trap.TrapKind.TheVariants.{Join as NotJoined}
 use Rattle.source_model.specs.Worlds.{World, in_slot, with_slot}
 use Rattle.source_model.specs.Worlds as world

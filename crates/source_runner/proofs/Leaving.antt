@@ -1,7 +1,7 @@
 -- What a jump leaves behind.
 use Rattle.std.proofs.Common.{◌≡◌, ℕ, List, [], ◌∷◌, refl}
-use Rattle.c_types.specs.Pieces.{Piece}
-use Rattle.c_types.specs.Evaluation.{Ways, ways, local, closing, close_scope}
+use Rattle.c_semantics.specs.Pieces.{Piece}
+use Rattle.c_semantics.specs.Evaluation.{Ways, ways, local, closing, close_scope}
 use Rattle.source_runner.specs.declared.node.NodeId.{NodeId}
 use Rattle.source_runner.specs.declared.node.StatementNode.{StatementNode}
 use Rattle.source_runner.specs.declared.node.StatementNode.TheVariants as stmt

@@ -4,8 +4,8 @@ use Rattle.std.specs.Prelude.{◌==◌, filter, slice_get, slice_index_or}
 use Rattle.std.specs.List.{list_any, list_all, range_with_len}
 use Rattle.std.specs.Option.{option_map_or}
 use Rattle.c_tree.specs.BareDef.{BareDef}
-use Rattle.c_types.specs.Texts.{definition}
-use Rattle.c_types.specs.Threads.{Use, Record}
+use Rattle.c_semantics.specs.Texts.{definition}
+use Rattle.c_semantics.specs.Threads.{Use, Record}
 use Rattle.source_model.specs.Versions.{Entry, current, entries_of, first_table, greatest_of}
 use Rattle.source_model.specs.Worlds.{World, Closed, is_over}
 use Rattle.source_model.specs.Worlds as world

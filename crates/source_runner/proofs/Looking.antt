@@ -6,7 +6,7 @@ use Rattle.std.proofs.lemmas.List.{take_all}
 use Rattle.std.proofs.lemmas.List.FromFn.{get_or-range_with_len, length-range_with_len}
 use Rattle.std.proofs.lemmas.List.Folds.{list_any_at, list_any_more}
 use Rattle.c_tree.specs.BareDef.{BareDef}
-use Rattle.c_types.specs.Threads.{Thread as SeenThread}
+use Rattle.c_semantics.specs.Threads.{Thread as SeenThread}
 use Rattle.source_model.specs.Guards.{frames_lead, move_leads}
 use Rattle.source_model.specs.Moves.{stop_made, thread_move}
 use Rattle.source_model.specs.Worlds.{World, in_slot, is_over}

@@ -2,8 +2,8 @@
 use Rattle.std.proofs.Common.{◌≡◌, ℕ, ◌<◌, ◌≤◌, Bool, true, false, ◌&&◌, IsTrue, nat_lt, List, [], ◌∷◌, ◌++◌, Option, Some, None, refl, ap, rules, arith, tests}
 use Rattle.c_tree.specs.BareExpr.{Bytes, BareType}
 use Rattle.c_tree.specs.BareExpr as type
-use Rattle.c_types.specs.Resolved.{Expression, Expressions, Statement, Statements}
-use Rattle.c_types.specs.Resolved as tree
+use Rattle.c_semantics.specs.Resolved.{Expression, Expressions, Statement, Statements}
+use Rattle.c_semantics.specs.Resolved as tree
 use Rattle.source_runner.specs.declared.node.NodeId.{NodeId}
 use Rattle.source_runner.specs.declared.node.ValueType.{ValueType}
 use Rattle.source_runner.specs.declared.node.ValueType.TheVariants.{Integer, Handle, Thread}

@@ -2,7 +2,7 @@
 use Rattle.std.proofs.Common.{◌≡◌, ℕ, ◌+◌, ◌-◌, ◌≤◌, min, Bool, true, false, cond, List, [], ◌∷◌, ◌++◌, length, map, reverse, get_or, take, drop, set, filter, refl, sym, ap, ◌∙◌, arith}
 use Rattle.std.proofs.lemmas.List.{take_more, take_more_set, take_all, take_at, drop_at, take_min, drop_min, take-append-drop, take-map, length-reverse, length-drop, length-map, length-set, length-take, get_or-take, take-take, map-append, append-nil, reverse-append, reverse-reverse}
 use Rattle.std.proofs.lemmas.List.Elements.{filter-append}
-use Rattle.c_types.specs.Values.{Value as Seen}
+use Rattle.c_semantics.specs.Values.{Value as Seen}
 use Rattle.source_runner.specs.declared.value.Value.{Value as Held}
 use Rattle.source_runner.specs.Values.{seen}
 use Rattle.source_runner.specs.Work.{newest}

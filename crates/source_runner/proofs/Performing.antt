@@ -1,9 +1,9 @@
 -- How a stop is made of a thread with what is shared.
 use Rattle.std.proofs.Common.{◌≡◌, ℕ, ◌==◌, true, false, List, Result, IfOk, sym, ap, subst, ◌∙◌, rules, tests}
 use Rattle.c_tree.specs.BareDef.{BareDef}
-use Rattle.c_types.specs.Texts.{definition}
-use Rattle.c_types.specs.Stops.{Stop}
-use Rattle.c_types.specs.Values.{Value as Seen}
+use Rattle.c_semantics.specs.Texts.{definition}
+use Rattle.c_semantics.specs.Stops.{Stop}
+use Rattle.c_semantics.specs.Values.{Value as Seen}
 use Rattle.source_model.specs.Worlds.{World, now}
 use Rattle.source_model.specs.Moves.{Standing, goes_on, perform}
 use Rattle.source_runner.specs.declared.value.Value.{Value}

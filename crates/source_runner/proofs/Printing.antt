@@ -2,8 +2,8 @@
 use Rattle.std.proofs.Common.{◌≡◌, ℕ, List, ◌∷◌, ◌++◌, drop, refl}
 use Rattle.c_tree.specs.BareExpr.{Bytes}
 use Rattle.c_tree.specs.BareDef.{BareDef}
-use Rattle.c_types.specs.Stops.{Print}
-use Rattle.c_types.specs.Values.{int_of}
+use Rattle.c_semantics.specs.Stops.{Print}
+use Rattle.c_semantics.specs.Values.{int_of}
 use Rattle.source_model.specs.Worlds.{World}
 use Rattle.source_model.specs.Moves.{arguments_of}
 use Rattle.source_model.specs.Printing.{printed}

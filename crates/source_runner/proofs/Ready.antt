@@ -1,8 +1,8 @@
 -- A thread that stands behind a stop, with its private work done.
 use Rattle.std.proofs.Common.{◌≡◌, Bool, List, Some, refl, subst}
 use Rattle.c_tree.specs.BareDef.{BareDef}
-use Rattle.c_types.specs.Threads.{Thread as SeenThread}
-use Rattle.c_types.specs.Evaluation.{local}
+use Rattle.c_semantics.specs.Threads.{Thread as SeenThread}
+use Rattle.c_semantics.specs.Evaluation.{local}
 use Rattle.source_runner.specs.declared.work.Halt.{Halt}
 use Rattle.source_runner.specs.declared.work.Work.{Work}
 use Rattle.source_runner.specs.declared.thread.Frame.{Frame}

@@ -8,9 +8,9 @@ use Rattle.c_tree.specs.BareExpr.{Bytes, BareType, BareExpr}
 use Rattle.c_tree.specs.declared.stmt.Stmt.{Stmt}
 use Rattle.c_tree.specs.Bare.{bare_arguments, bare_stmt, bare_block}
 use Rattle.c_tree.specs.BareDef.{BareBinding}
-use Rattle.c_types.specs.Resolved.{Expression, Expressions, Statement, Statements, Local as LocalPlace, Global, NoExpressions, ExpressionThen, NoStatements, StatementThen}
-use Rattle.c_types.specs.Texts.{Definitions, global_type}
-use Rattle.c_types.specs.Resolution.{located, variable, handed, passed, tree_of, resolved_all, declared_by, declared_by_all, statement, statements}
+use Rattle.c_semantics.specs.Resolved.{Expression, Expressions, Statement, Statements, Local as LocalPlace, Global, NoExpressions, ExpressionThen, NoStatements, StatementThen}
+use Rattle.c_semantics.specs.Texts.{Definitions, global_type}
+use Rattle.c_semantics.specs.Resolution.{located, variable, handed, passed, tree_of, resolved_all, declared_by, declared_by_all, statement, statements}
 use Rattle.source_runner.specs.declared.resolve.known.Local.{Local}
 use Rattle.source_runner.specs.Found.{given, listed, before}
 use Rattle.source_runner.specs.Known.{binding_of, locals_of}

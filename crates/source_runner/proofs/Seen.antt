@@ -2,8 +2,8 @@
 use Rattle.std.proofs.Common.{◌≡◌, ℕ, ◌+◌, ◌-◌, zero, suc, ◌<◌, List, ◌∷◌, ◌++◌, length, take, drop, replicate, get_or, map, refl, sym, ap, ◌∙◌}
 use Rattle.std.proofs.lemmas.List.{map-append, length-map, take-map, drop-map, drop_more}
 use Rattle.c_tree.specs.BareExpr.{BareType}
-use Rattle.c_types.specs.Values.{Value, zero_of}
-use Rattle.c_types.specs.Constants.{filled}
+use Rattle.c_semantics.specs.Values.{Value, zero_of}
+use Rattle.c_semantics.specs.Constants.{filled}
 use Rattle.source_runner.specs.declared.value.Value.{Value as Held}
 use Rattle.source_runner.specs.Values.{seen}
 

@@ -1,8 +1,8 @@
 -- How many points a tree has, by those of its parts.
 use Rattle.std.proofs.Common.{◌≡◌, ℕ, suc, ◌+◌, length, Option, Some, None, refl, sym, ◌∙◌, arith, length-append}
 use Rattle.std.proofs.lemmas.List.{length-map}
-use Rattle.c_types.specs.Resolved.{Expression, Statement, Statements, Block, Empty, Evaluate, Declare, If, IfElse, While, DoWhile, For, Break, Continue, Return, UpdatePoint, Transaction, NoStatements, StatementThen}
-use Rattle.c_types.specs.Points.{of_expression, at_depth, evaluated, evaluated_if, of_statement, of_statements, size, size_if, size_stmt, size_stmts}
+use Rattle.c_semantics.specs.Resolved.{Expression, Statement, Statements, Block, Empty, Evaluate, Declare, If, IfElse, While, DoWhile, For, Break, Continue, Return, UpdatePoint, Transaction, NoStatements, StatementThen}
+use Rattle.c_semantics.specs.Points.{of_expression, at_depth, evaluated, evaluated_if, of_statement, of_statements, size, size_if, size_stmt, size_stmts}
 
 -- an expression has as many points at each depth
 pub evaluated_count : (d : ℕ) (e : Expression) → length (evaluated d e) ≡ size e

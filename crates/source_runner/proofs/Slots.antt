@@ -4,7 +4,7 @@ use Rattle.std.specs.Prelude.{Vec}
 use Rattle.std.specs.declared.alloc.Global.{Global}
 use Rattle.std.proofs.lemmas.List.{length-set}
 use Rattle.c_tree.specs.BareDef.{BareDef}
-use Rattle.c_types.specs.Threads.{Thread as SeenThread}
+use Rattle.c_semantics.specs.Threads.{Thread as SeenThread}
 use Rattle.source_model.specs.Worlds.{World, is_over, in_slot, with_slot}
 use Rattle.source_model.specs.Worlds as world
 use Rattle.source_runner.specs.declared.thread.Slot.{Slot}

@@ -6,9 +6,9 @@ use Rattle.std.specs.declared.alloc.Global.{Global}
 use Rattle.std.proofs.lemmas.List.{get_or-set_other, length-set}
 use Rattle.std.proofs.lemmas.List.Recursion.{is_position_or_len}
 use Rattle.c_tree.specs.BareDef.{BareDef}
-use Rattle.c_types.specs.Values.{Value as Seen, ThreadRef as SeenRef}
-use Rattle.c_types.specs.Values as value
-use Rattle.c_types.specs.Threads.{Enter as SeenEnter, Thread as SeenThread, started}
+use Rattle.c_semantics.specs.Values.{Value as Seen, ThreadRef as SeenRef}
+use Rattle.c_semantics.specs.Values as value
+use Rattle.c_semantics.specs.Threads.{Enter as SeenEnter, Thread as SeenThread, started}
 use Rattle.source_model.specs.Worlds.{World, is_over, in_slot, with_slot, with_thread}
 use Rattle.source_model.specs.Worlds as world
 use Rattle.source_model.specs.Moves.{Standing, goes_on, gone_on, is_free, spawn, start_in}

@@ -1,9 +1,9 @@
 -- A piece means what the pieces mean of which it is made, and weighs more.
 use Rattle.std.proofs.Common.{◌≡◌, ℕ, ◌+◌, ◌<◌, List, [], ◌∷◌, ◌++◌, Option, Some, None, refl, arith}
-use Rattle.c_types.specs.Values.{Value}
-use Rattle.c_types.specs.Resolved.{Expression, Expressions, Place, Statement, Statements, Constant, Read, Unary, Binary, Convert, And, Or, Choice, Assign, Update, Postfix, Call, Print, New, Free, Create, Join, JoinInto, InitMutex, Lock, Unlock, NoExpressions, ExpressionThen, Local, Global, Element, Field, Block, Empty, Evaluate, Declare, If, IfElse, While, DoWhile, For, Break, Continue, Return, UpdatePoint, Transaction, NoStatements, StatementThen}
-use Rattle.c_types.specs.Pieces.{Loop, Piece, Scopes, Compute, Arguments, Parts, Do, Sequence, Cycle, Behind}
-use Rattle.c_types.specs.Evaluation.{local}
+use Rattle.c_semantics.specs.Values.{Value}
+use Rattle.c_semantics.specs.Resolved.{Expression, Expressions, Place, Statement, Statements, Constant, Read, Unary, Binary, Convert, And, Or, Choice, Assign, Update, Postfix, Call, Print, New, Free, Create, Join, JoinInto, InitMutex, Lock, Unlock, NoExpressions, ExpressionThen, Local, Global, Element, Field, Block, Empty, Evaluate, Declare, If, IfElse, While, DoWhile, For, Break, Continue, Return, UpdatePoint, Transaction, NoStatements, StatementThen}
+use Rattle.c_semantics.specs.Pieces.{Loop, Piece, Scopes, Compute, Arguments, Parts, Do, Sequence, Cycle, Behind}
+use Rattle.c_semantics.specs.Evaluation.{local}
 use Rattle.source_runner.specs.Steps.{expression_pieces, arguments_pieces, place_pieces, statement_pieces, statement_scopes, statements_pieces, cycle_pieces, behind_pieces}
 use Rattle.source_runner.specs.Weights.{of_expression, of_expressions, of_parts, of_option, of_statement, of_statements, weight}
 

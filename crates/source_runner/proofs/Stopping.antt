@@ -7,9 +7,9 @@ use Rattle.std.specs.Prelude.{Vec}
 use Rattle.std.proofs.lemmas.List.Elements.{All-append, All-cons, All-nil}
 use Rattle.c_tree.specs.BareExpr.{Bytes}
 use Rattle.c_tree.specs.BareDef.{BareDef}
-use Rattle.c_types.specs.Stops.{Stop as SeenStop}
-use Rattle.c_types.specs.Pieces.{Halt as SeenHalt}
-use Rattle.c_types.specs.Threads.{Frame as SeenFrame, Record, Thread as SeenThread}
+use Rattle.c_semantics.specs.Stops.{Stop as SeenStop}
+use Rattle.c_semantics.specs.Pieces.{Halt as SeenHalt}
+use Rattle.c_semantics.specs.Threads.{Frame as SeenFrame, Record, Thread as SeenThread}
 use Rattle.source_model.specs.Versions as versions
 use Rattle.source_model.specs.Versions.{first_table}
 use Rattle.bytecode.specs.declared.trap.TrapKind.{TrapKind}

@@ -4,7 +4,7 @@ use Rattle.std.specs.Prelude.{Vec}
 use Rattle.std.specs.declared.alloc.AllocError.{AllocError}
 use Rattle.std.specs.declared.alloc.Global.{Global}
 use Rattle.c_tree.specs.BareDef.{BareDef}
-use Rattle.c_types.specs.Threads.{Frame as SeenFrame, Thread as SeenThread, next_of}
+use Rattle.c_semantics.specs.Threads.{Frame as SeenFrame, Thread as SeenThread, next_of}
 use Rattle.source_model.specs.Worlds.{World}
 use Rattle.source_model.specs.Moves.{gone_on, perform}
 use Rattle.source_runner.specs.declared.value.Value.{Value}

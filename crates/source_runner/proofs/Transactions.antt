@@ -4,7 +4,7 @@ use Rattle.std.proofs.lemmas.List.Elements.{All-nil}
 use Rattle.std.specs.Prelude.{Vec}
 use Rattle.std.specs.declared.alloc.Global.{Global}
 use Rattle.c_tree.specs.BareDef.{BareDef}
-use Rattle.c_types.specs.Threads.{Record, Thread as SeenThread}
+use Rattle.c_semantics.specs.Threads.{Record, Thread as SeenThread}
 use Rattle.source_model.specs.Worlds.{World, with_thread}
 use Rattle.source_model.specs.Worlds as world
 use Rattle.source_model.specs.Moves.{begin_at, end_at, gone_on}

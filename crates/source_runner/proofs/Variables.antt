@@ -4,9 +4,9 @@ use Rattle.std.specs.Prelude.{bytes_eq, find}
 use Rattle.std.specs.Option.{option_map, option_or, is_some}
 use Rattle.std.proofs.lemmas.List.{take_more, drop_more, set_split}
 use Rattle.c_tree.specs.BareExpr.{Bytes}
-use Rattle.c_types.specs.Values.{Value}
-use Rattle.c_types.specs.Pieces.{Variable, Scopes, Nothing}
-use Rattle.c_types.specs.Evaluation.{Next, look_up, stored, declared, in_scope, with_value, close_scope}
+use Rattle.c_semantics.specs.Values.{Value}
+use Rattle.c_semantics.specs.Pieces.{Variable, Scopes, Nothing}
+use Rattle.c_semantics.specs.Evaluation.{Next, look_up, stored, declared, in_scope, with_value, close_scope}
 use Rattle.source_runner.specs.declared.work.Local.{Local}
 use Rattle.source_runner.specs.declared.work.Local.TheVariants.{Block, Variable as VariableIs}
 use Rattle.source_runner.specs.declared.words.Word.{Word}

@@ -3,10 +3,10 @@ use Rattle.std.specs.Prelude.{◌≡◌, List, [], map, Option, Some, None, find
 use Rattle.std.specs.Option.{option_map_or, is_some}
 use Rattle.c_tree.specs.BareExpr.{Bytes, BareType}
 use Rattle.c_tree.specs.BareDef.{BareBinding, BareDef}
-use Rattle.c_types.specs.Resolved.{Statements, NoStatements}
-use Rattle.c_types.specs.Resolution.{resolved_body}
-use Rattle.c_types.specs.Texts as texts
-use Rattle.c_types.specs.Texts.{Definitions, defined, definition, result_type, int}
+use Rattle.c_semantics.specs.Resolved.{Statements, NoStatements}
+use Rattle.c_semantics.specs.Resolution.{resolved_body}
+use Rattle.c_semantics.specs.Texts as texts
+use Rattle.c_semantics.specs.Texts.{Definitions, defined, definition, result_type, int}
 use Rattle.source_runner.specs.declared.program.Binding.{Binding}
 use Rattle.source_runner.specs.declared.program.Definition.{Definition}
 use Rattle.source_runner.specs.Nodes.{Table, word, type_of, statements_at}

@@ -2,10 +2,10 @@
 use Rattle.c_ints.specs.Arithmetic.{unary_kind}
 use Rattle.c_tree.specs.BareExpr.{Integer}
 use Rattle.c_tree.specs.Bare.{bare_type}
-use Rattle.c_types.specs.Resolved.{Expression, Expressions, Statement, Statements}
-use Rattle.c_types.specs.Resolved as made
-use Rattle.c_types.specs.Texts.{Definitions, int, global_type, result_type, parameters_of}
-use Rattle.c_types.specs.Resolution.{Resolved, value, located, kind, tag_of, binary, assignment, update, step, field, passed, handed}
+use Rattle.c_semantics.specs.Resolved.{Expression, Expressions, Statement, Statements}
+use Rattle.c_semantics.specs.Resolved as made
+use Rattle.c_semantics.specs.Texts.{Definitions, int, global_type, result_type, parameters_of}
+use Rattle.c_semantics.specs.Resolution.{Resolved, value, located, kind, tag_of, binary, assignment, update, step, field, passed, handed}
 use Rattle.source_runner.specs.declared.resolve.form.One.{One}
 use Rattle.source_runner.specs.declared.resolve.form.One.TheVariants.{Unary, Step, Cast, Element, Field, Free, Join}
 use Rattle.source_runner.specs.declared.resolve.form.Two.{Two}

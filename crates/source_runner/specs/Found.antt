@@ -2,8 +2,8 @@
 use Rattle.std.specs.Prelude.{◌≡◌, IsTrue, List, [], ◌∷◌, ◌++◌, length, map, Option, Some, None}
 use Rattle.c_tree.specs.BareExpr.{Bytes}
 use Rattle.c_tree.specs.BareDef.{BareBinding}
-use Rattle.c_types.specs.Resolved.{Expression, Expressions, Statement, Statements, Convert, NoExpressions, ExpressionThen, StatementThen}
-use Rattle.c_types.specs.Resolution.{Resolved, value, located}
+use Rattle.c_semantics.specs.Resolved.{Expression, Expressions, Statement, Statements, Convert, NoExpressions, ExpressionThen, StatementThen}
+use Rattle.c_semantics.specs.Resolution.{Resolved, value, located}
 use Rattle.source_runner.specs.declared.node.NodeId.{NodeId}
 use Rattle.source_runner.specs.declared.resolve.found.Found.{Found}
 use Rattle.source_runner.specs.declared.resolve.found.Found.TheVariants.{Value, Located}

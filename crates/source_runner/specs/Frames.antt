@@ -1,6 +1,6 @@
 -- The frames of a thread, as the definitions have them.
 use Rattle.std.specs.Prelude.{List, map, reverse}
-use Rattle.c_types.specs.Threads.{Frame as SeenFrame}
+use Rattle.c_semantics.specs.Threads.{Frame as SeenFrame}
 use Rattle.source_runner.specs.declared.thread.Frame.{Frame}
 use Rattle.source_runner.specs.Nodes.{Table, word}
 use Rattle.source_runner.specs.Pieces.{pending}

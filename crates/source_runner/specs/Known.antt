@@ -2,7 +2,7 @@
 use Rattle.std.specs.Prelude.{List, map, reverse}
 use Rattle.c_tree.specs.BareDef.{BareBinding}
 use Rattle.c_tree.specs.Bare.{bare_type, bare_def}
-use Rattle.c_types.specs.Texts.{Definitions, definition}
+use Rattle.c_semantics.specs.Texts.{Definitions, definition}
 use Rattle.source_runner.specs.declared.resolve.known.Known.{Known}
 use Rattle.source_runner.specs.declared.resolve.known.Local.{Local}
 

@@ -5,9 +5,9 @@ use Rattle.std.specs.List.{position}
 use Rattle.std.specs.declared.alloc.AllocError.{AllocError}
 use Rattle.c_ints.specs.Number.{value_of}
 use Rattle.c_tree.specs.BareDef.{BareDef}
-use Rattle.c_types.specs.Texts.{definition}
-use Rattle.c_types.specs.Threads.{Use, Frame as SeenFrame, Enter as SeenEnter, Thread as SeenThread, next_of, started}
-use Rattle.c_types.specs.Values.{ThreadRef as SeenRef}
+use Rattle.c_semantics.specs.Texts.{definition}
+use Rattle.c_semantics.specs.Threads.{Use, Frame as SeenFrame, Enter as SeenEnter, Thread as SeenThread, next_of, started}
+use Rattle.c_semantics.specs.Values.{ThreadRef as SeenRef}
 use Rattle.source_model.specs.Versions.{first_table}
 use Rattle.source_model.specs.Worlds.{World, is_over, in_slot, with_thread}
 use Rattle.source_model.specs.Worlds as world

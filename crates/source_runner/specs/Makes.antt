@@ -1,7 +1,7 @@
 -- Which stops can be made, by what they take.
 use Rattle.std.specs.Prelude.{ℕ, nat_lt, Bool, true, false, not, List, [], ◌∷◌, drop, Some, None}
-use Rattle.c_types.specs.Stops.{Stop, WriteGlobal, ReadElement, WriteElement, ReadField, WriteField, Free, Spawn, Join, Return, End}
-use Rattle.c_types.specs.Values.{Value, Number, Reference, Started}
+use Rattle.c_semantics.specs.Stops.{Stop, WriteGlobal, ReadElement, WriteElement, ReadField, WriteField, Free, Spawn, Join, Return, End}
+use Rattle.c_semantics.specs.Values.{Value, Number, Reference, Started}
 use Rattle.source_model.specs.Waits.{is_there}
 use Rattle.source_model.specs.Worlds.{World, in_slot}
 

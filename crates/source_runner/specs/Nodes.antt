@@ -5,9 +5,9 @@ use Rattle.c_ints.specs.declared.kind.Kind.TheVariants.{I32}
 use Rattle.c_ints.specs.Number.{number}
 use Rattle.c_tree.specs.BareExpr.{Bytes, BareType}
 use Rattle.c_tree.specs.BareExpr as type
-use Rattle.c_types.specs.Resolved.{Expression, Expressions, Place, Statement, Statements, NoExpressions, NoStatements}
-use Rattle.c_types.specs.Resolved as tree
-use Rattle.c_types.specs.Points.{size, size_all, size_stmt, size_stmts}
+use Rattle.c_semantics.specs.Resolved.{Expression, Expressions, Place, Statement, Statements, NoExpressions, NoStatements}
+use Rattle.c_semantics.specs.Resolved as tree
+use Rattle.c_semantics.specs.Points.{size, size_all, size_stmt, size_stmts}
 use Rattle.source_runner.specs.declared.node.NodeId.{NodeId}
 use Rattle.source_runner.specs.declared.node.ValueType.{ValueType}
 use Rattle.source_runner.specs.declared.node.ValueType.TheVariants.{Integer, Handle, Thread}

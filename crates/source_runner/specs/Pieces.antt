@@ -1,10 +1,10 @@
 -- Pending pieces as the definitions have them, with trees in place of numbers.
 use Rattle.std.specs.Prelude.{List, map, reverse}
-use Rattle.c_types.specs.Stops.{Stop}
-use Rattle.c_types.specs.Stops as stop
-use Rattle.c_types.specs.Pieces.{Loop, Piece}
-use Rattle.c_types.specs.Pieces as piece
-use Rattle.c_types.specs.Resolved as tree
+use Rattle.c_semantics.specs.Stops.{Stop}
+use Rattle.c_semantics.specs.Stops as stop
+use Rattle.c_semantics.specs.Pieces.{Loop, Piece}
+use Rattle.c_semantics.specs.Pieces as piece
+use Rattle.c_semantics.specs.Resolved as tree
 use Rattle.source_runner.specs.declared.piece.Stop.{Stop as StopNode}
 use Rattle.source_runner.specs.declared.piece.Stop.TheVariants.{ReadGlobal, WriteGlobal, ReadElement, WriteElement, ReadField, WriteField, New, Free, Print, InitMutex, Lock, Unlock, Spawn, Join, Call, Return, Back, Begin, End, Update}
 use Rattle.source_runner.specs.declared.piece.Loop.{Loop as LoopNode}

@@ -3,7 +3,7 @@ use Rattle.std.specs.Prelude.{List, map}
 use Rattle.c_tree.specs.BareExpr.{Bytes}
 use Rattle.c_tree.specs.BareDef.{BareDef}
 use Rattle.c_tree.specs.Bare.{bare_def}
-use Rattle.c_types.specs.Names.{struct_name}
+use Rattle.c_semantics.specs.Names.{struct_name}
 use Rattle.source_runner.specs.declared.program.Program.{Program}
 use Rattle.source_runner.specs.declared.program.Name.{Name}
 use Rattle.source_runner.specs.declared.program.Name.TheVariants.{Plain, Struct}

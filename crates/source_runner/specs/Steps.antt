@@ -1,11 +1,11 @@
 -- The pieces of which a piece is made, before those behind it.
 use Rattle.std.specs.Prelude.{ℕ, ◌+◌, List, [], ◌∷◌, Option, Some, None}
-use Rattle.c_types.specs.Values.{Number, int_of, zero_of}
-use Rattle.c_types.specs.Resolved.{Expression, Expressions, Place, Statement, Statements, Constant, Read, Unary, Binary, Convert, And, Or, Choice, Assign, Update, Postfix, Call, Print, New, Free, Create, Join, JoinInto, InitMutex, Lock, Unlock, NoExpressions, ExpressionThen, Local, Global, Element, Field, Block, Empty, Evaluate, Declare, If, IfElse, While, DoWhile, For, Break, Continue, Return, UpdatePoint, Transaction, NoStatements, StatementThen}
-use Rattle.c_types.specs.Points.{size, size_all, size_parts, size_read, size_stmt, size_stmts}
-use Rattle.c_types.specs.Stops as stop
-use Rattle.c_types.specs.Pieces.{Loop, Piece, Scopes, body_at, step_at, Compute, Arguments, Parts, Get, Set, Again, Tuck, Lift, Apply, Combine, ConvertTo, Drop, Put, Created, AndThen, OrElse, Choose, Then, ThenElse, Turn, Do, Sequence, Close, Cycle, Behind, Edge, Until, At}
-use Rattle.c_types.specs.Evaluation.{count, loop_of, one, declared}
+use Rattle.c_semantics.specs.Values.{Number, int_of, zero_of}
+use Rattle.c_semantics.specs.Resolved.{Expression, Expressions, Place, Statement, Statements, Constant, Read, Unary, Binary, Convert, And, Or, Choice, Assign, Update, Postfix, Call, Print, New, Free, Create, Join, JoinInto, InitMutex, Lock, Unlock, NoExpressions, ExpressionThen, Local, Global, Element, Field, Block, Empty, Evaluate, Declare, If, IfElse, While, DoWhile, For, Break, Continue, Return, UpdatePoint, Transaction, NoStatements, StatementThen}
+use Rattle.c_semantics.specs.Points.{size, size_all, size_parts, size_read, size_stmt, size_stmts}
+use Rattle.c_semantics.specs.Stops as stop
+use Rattle.c_semantics.specs.Pieces.{Loop, Piece, Scopes, body_at, step_at, Compute, Arguments, Parts, Get, Set, Again, Tuck, Lift, Apply, Combine, ConvertTo, Drop, Put, Created, AndThen, OrElse, Choose, Then, ThenElse, Turn, Do, Sequence, Close, Cycle, Behind, Edge, Until, At}
+use Rattle.c_semantics.specs.Evaluation.{count, loop_of, one, declared}
 
 -- an expression whose first point is n
 abbrev pub expression_pieces : Expression → ℕ → List Piece → List Piece

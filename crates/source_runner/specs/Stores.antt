@@ -1,10 +1,10 @@
 -- What threads share, as the definitions have it.
 use Rattle.std.specs.Prelude.{◌≡◌, ℕ, Bool, true, false, List, map, reverse, Option, None}
 use Rattle.c_tree.specs.BareDef.{BareDef}
-use Rattle.c_types.specs.Texts.{definition}
-use Rattle.c_types.specs.Stops.{Stop, Spawn, Join, Call, Return, Begin, End}
-use Rattle.c_types.specs.Values.{Value as Seen}
-use Rattle.c_types.specs.Pieces.{Variable}
+use Rattle.c_semantics.specs.Texts.{definition}
+use Rattle.c_semantics.specs.Stops.{Stop, Spawn, Join, Call, Return, Begin, End}
+use Rattle.c_semantics.specs.Values.{Value as Seen}
+use Rattle.c_semantics.specs.Pieces.{Variable}
 use Rattle.source_model.specs.Worlds.{World, now}
 use Rattle.source_model.specs.Worlds as world
 use Rattle.source_model.specs.Moves.{Standing, goes_on, traps, perform}

@@ -2,8 +2,8 @@
 use Rattle.std.specs.Prelude.{ℕ, Option, Result, Ok, Err}
 use Rattle.std.specs.Option.{option_map}
 use Rattle.c_ints.specs.declared.operator.ArithTrap.{ArithTrap}
-use Rattle.c_types.specs.Values.{Value, ThreadRef}
-use Rattle.c_types.specs.Values as value
+use Rattle.c_semantics.specs.Values.{Value, ThreadRef}
+use Rattle.c_semantics.specs.Values as value
 use Rattle.source_runner.specs.declared.value.ObjectId.{ObjectId}
 use Rattle.source_runner.specs.declared.value.ThreadRef.{ThreadRef as Thread}
 use Rattle.source_runner.specs.declared.value.Value.{Value as Held}

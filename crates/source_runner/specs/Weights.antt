@@ -1,7 +1,7 @@
 -- A weight of what is pending, by which local evaluation ends: a piece weighs more than those of which it is made.
 use Rattle.std.specs.Prelude.{ℕ, ◌+◌, List, [], ◌∷◌, Option, Some, None}
-use Rattle.c_types.specs.Resolved.{Expression, Expressions, Place, Statement, Statements, Constant, Read, Unary, Binary, Convert, And, Or, Choice, Assign, Update, Postfix, Call, Print, New, Free, Create, Join, JoinInto, InitMutex, Lock, Unlock, NoExpressions, ExpressionThen, Local, Global, Element, Field, Block, Empty, Evaluate, Declare, If, IfElse, While, DoWhile, For, Break, Continue, Return, UpdatePoint, Transaction, NoStatements, StatementThen}
-use Rattle.c_types.specs.Pieces.{Piece, Compute, Arguments, Parts, AndThen, OrElse, Choose, Then, ThenElse, Turn, Do, Sequence, Cycle, Behind, Until}
+use Rattle.c_semantics.specs.Resolved.{Expression, Expressions, Place, Statement, Statements, Constant, Read, Unary, Binary, Convert, And, Or, Choice, Assign, Update, Postfix, Call, Print, New, Free, Create, Join, JoinInto, InitMutex, Lock, Unlock, NoExpressions, ExpressionThen, Local, Global, Element, Field, Block, Empty, Evaluate, Declare, If, IfElse, While, DoWhile, For, Break, Continue, Return, UpdatePoint, Transaction, NoStatements, StatementThen}
+use Rattle.c_semantics.specs.Pieces.{Piece, Compute, Arguments, Parts, AndThen, OrElse, Choose, Then, ThenElse, Turn, Do, Sequence, Cycle, Behind, Until}
 
 abbrev mutual
   pub of_expression : Expression → ℕ

@@ -1,9 +1,9 @@
 -- What local evaluation works on: values and scopes, as the definitions have them.
 use Rattle.std.specs.Prelude.{◌≡◌, ◌+◌, ◌<◌, List, [], ◌∷◌, map, reverse, Option, Some, None}
-use Rattle.c_types.specs.Values.{Value}
-use Rattle.c_types.specs.Pieces.{Piece, Scopes, Stopped, Trapped}
-use Rattle.c_types.specs.Pieces as piece
-use Rattle.c_types.specs.Evaluation.{Next, Ways, local, declared}
+use Rattle.c_semantics.specs.Values.{Value}
+use Rattle.c_semantics.specs.Pieces.{Piece, Scopes, Stopped, Trapped}
+use Rattle.c_semantics.specs.Pieces as piece
+use Rattle.c_semantics.specs.Evaluation.{Next, Ways, local, declared}
 use Rattle.source_runner.specs.declared.value.Value.{Value as Held}
 use Rattle.source_runner.specs.declared.work.Jump.{Jump}
 use Rattle.source_runner.specs.declared.work.Jump.TheVariants.{Break, Continue}

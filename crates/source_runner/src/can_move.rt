@@ -4,7 +4,7 @@ ghost use Rattle.std.specs.Option.{is_some};
 ghost use Rattle.c_ints.specs.Number.{value_of, reduced};
 ghost use Rattle.c_ints.specs.declared.kind.Kind.TheVariants.{I32};
 ghost use Rattle.c_tree.specs.BareDef.{BareDef};
-ghost use Rattle.c_types.specs.Threads.{Frame as SeenFrame, Thread as SeenThread};
+ghost use Rattle.c_semantics.specs.Threads.{Frame as SeenFrame, Thread as SeenThread};
 ghost use Rattle.source_model.specs.Guards.{frames_lead, leads, move_leads};
 ghost use Rattle.source_model.specs.Moves.{stop_made, thread_move};
 ghost use Rattle.source_model.specs.Runs.{can_move, is_live, some_can_move, some_lives, state};

@@ -3,9 +3,9 @@ ghost use Rattle.std.specs.Prelude.{◌≡◌, ◌<◌, ◌∷◌, [], ℕ, fals
 ghost use Rattle.std.specs.List.{position};
 ghost use Rattle.c_ints.specs.Number.{value_of};
 ghost use Rattle.c_tree.specs.BareDef.{BareDef};
-ghost use Rattle.c_types.specs.Stops.{ReadGlobal, WriteGlobal, ReadElement, WriteElement};
-ghost use Rattle.c_types.specs.Values.{Value as SeenValue};
-ghost use Rattle.c_types.specs.Transformers.{first_cell};
+ghost use Rattle.c_semantics.specs.Stops.{ReadGlobal, WriteGlobal, ReadElement, WriteElement};
+ghost use Rattle.c_semantics.specs.Values.{Value as SeenValue};
+ghost use Rattle.c_semantics.specs.Transformers.{first_cell};
 ghost use Rattle.source_model.specs.Worlds.{World, with_cells_in, cells_of as cells_in};
 ghost use Rattle.source_model.specs.Moves.{in_bounds};
 ghost use Rattle.source_runner.specs.Nodes.{word};

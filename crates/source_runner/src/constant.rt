@@ -1,8 +1,8 @@
 //! The cells with which globals begin.
 ghost use Rattle.std.specs.Prelude.{◌≡◌, [], map, Some, option_map, unwrap_or, IfOk};
 ghost use Rattle.c_tree.specs.Bare.{bare_expr, bare_type, bare_declaration, bare_array, bare_kind};
-ghost use Rattle.c_types.specs.Values.{zero_of, converted_to, is_true, compared};
-ghost use Rattle.c_types.specs.Constants.{no_old, safe as safe_of, object_of, wrapped, wrapped_unary, chosen, constant, initial, elements, initial_cells};
+ghost use Rattle.c_semantics.specs.Values.{zero_of, converted_to, is_true, compared};
+ghost use Rattle.c_semantics.specs.Constants.{no_old, safe as safe_of, object_of, wrapped, wrapped_unary, chosen, constant, initial, elements, initial_cells};
 ghost use Rattle.c_tree.specs.BareDef.{Global as GlobalIs};
 ghost use Rattle.source_runner.specs.Values.{seen, seen_object};
 

@@ -1,6 +1,6 @@
 //! Local evaluation: a thread's private work up to its next stop.
 ghost use Rattle.std.specs.Prelude.{◌≡◌, Some, IfOk};
-ghost use Rattle.c_types.specs.Evaluation.{local};
+ghost use Rattle.c_semantics.specs.Evaluation.{local};
 ghost use Rattle.source_runner.specs.Pieces.{pending};
 ghost use Rattle.source_runner.specs.Trees.{table};
 ghost use Rattle.source_runner.specs.Work.{newest, scopes_of, went};

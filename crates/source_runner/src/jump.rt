@@ -1,7 +1,7 @@
 //! Jumps out of the body of a loop.
 ghost use Rattle.std.specs.Prelude.{◌≡◌, ◌≤◌, List, IfOk, OnOk};
-ghost use Rattle.c_types.specs.Values.{Value as SeenValue};
-ghost use Rattle.c_types.specs.Evaluation.{ways};
+ghost use Rattle.c_semantics.specs.Values.{Value as SeenValue};
+ghost use Rattle.c_semantics.specs.Evaluation.{ways};
 ghost use Rattle.source_runner.specs.Nodes.{Table};
 ghost use Rattle.source_runner.specs.Pieces.{pending};
 ghost use Rattle.source_runner.specs.Weights.{weight};

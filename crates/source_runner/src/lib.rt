@@ -1,6 +1,6 @@
 //! The source machine, run as its definitions say: trees are walked and names looked up, and no code is made.
 //!
-//! [`SourceRun`] is a run of one text, move by move. Its contracts are the definitions of `c_types` and `source_model`:
+//! [`SourceRun`] is a run of one text, move by move. Its contracts are the definitions of `c_semantics` and `source_model`:
 //! behind any steps it is the run over the moves that were made, with what was printed, how it stands, and the versions
 //! that its transactions share. It is slow: names are found by looking through all of them.
 //!

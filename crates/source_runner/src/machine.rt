@@ -1,7 +1,7 @@
 //! The state of a run, and the move of a thread.
 ghost use Rattle.std.specs.Prelude.{◌≡◌, ◌<◌, true, false, Some, None, length, option_map};
 ghost use Rattle.std.specs.Option.{option_map_or};
-ghost use Rattle.c_types.specs.Threads.{Thread as SeenThread};
+ghost use Rattle.c_semantics.specs.Threads.{Thread as SeenThread};
 ghost use Rattle.source_model.specs.Versions.{first_table};
 ghost use Rattle.source_model.specs.Worlds.{World, Trapped, is_over, with_thread};
 ghost use Rattle.source_model.specs.Uses.{use_at, is_right, marked};

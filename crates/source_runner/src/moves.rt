@@ -1,9 +1,9 @@
 //! Stops that change threads.
 ghost use Rattle.std.specs.Prelude.{◌≡◌, ◌<◌, ◌∷◌, ℕ, drop, length, slice_index_or, slice_set, true, None, option_map, IfOk, IfSome, OnOk, MatchOption};
-ghost use Rattle.c_types.specs.Values.{Started as IsStartedValue};
+ghost use Rattle.c_semantics.specs.Values.{Started as IsStartedValue};
 ghost use Rattle.std.specs.List.{position};
 ghost use Rattle.c_ints.specs.Number.{value_of};
-ghost use Rattle.c_types.specs.Threads.{Thread as SeenThread};
+ghost use Rattle.c_semantics.specs.Threads.{Thread as SeenThread};
 ghost use Rattle.source_model.specs.Worlds.{World, in_slot, with_slot, Free as IsFree, Over as IsOver};
 ghost use Rattle.source_model.specs.Moves.{Standing, begin_at, call, end_at, finish_thread, goes_on, gone_on, join, join_slot, number_of, return, return_to, spawn};
 ghost use Rattle.source_runner.specs.declared.piece.Stop.TheVariants.{Spawn as AtSpawn, Join as AtJoin, Call as AtCall, Return as AtReturn, Begin as AtBegin, End as AtEnd};

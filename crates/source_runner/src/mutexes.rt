@@ -1,8 +1,8 @@
 //! Mutexes, by who holds them.
 ghost use Rattle.std.specs.Prelude.{◌≡◌, ◌∷◌, ℕ, List, not, filter, bytes_eq, IfOk, OnOk};
 ghost use Rattle.c_tree.specs.BareDef.{BareDef};
-ghost use Rattle.c_types.specs.Stops.{InitMutex, Lock, Unlock};
-ghost use Rattle.c_types.specs.Values.{int_of};
+ghost use Rattle.c_semantics.specs.Stops.{InitMutex, Lock, Unlock};
+ghost use Rattle.c_semantics.specs.Values.{int_of};
 ghost use Rattle.source_model.specs.Worlds.{World, holder_of};
 ghost use Rattle.source_runner.specs.declared.store.Store.{Store};
 ghost use Rattle.source_runner.specs.Nodes.{word};

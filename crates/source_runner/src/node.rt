@@ -1,6 +1,6 @@
 //! What a resolved tree is made of. A node names its parts by their numbers in the table of trees.
 ghost use Rattle.std.specs.Prelude.{◌≡◌, ◌<◌, length};
-ghost use Rattle.c_types.specs.Points.{size_read, writes};
+ghost use Rattle.c_semantics.specs.Points.{size_read, writes};
 ghost use Rattle.source_runner.specs.Nodes.{Table, place_of};
 
 use crate::words::Word;

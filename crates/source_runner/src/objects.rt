@@ -2,10 +2,10 @@
 ghost use Rattle.std.specs.Prelude.{◌≡◌, ◌∷◌, ◌<◌, ℕ, List, Option, length, unwrap_or, count_by, slice_index_or, IfOk, OnErr, MatchResult};
 ghost use Rattle.c_tree.specs.BareExpr.{Bytes};
 ghost use Rattle.c_tree.specs.BareDef.{BareDef};
-ghost use Rattle.c_types.specs.Evaluation.{in_scope, with_value};
-ghost use Rattle.c_types.specs.Stops.{ReadField, WriteField, New, Free};
-ghost use Rattle.c_types.specs.Transformers.{zero_fields};
-ghost use Rattle.c_types.specs.Values.{Value as SeenValue, Reference, int_of};
+ghost use Rattle.c_semantics.specs.Evaluation.{in_scope, with_value};
+ghost use Rattle.c_semantics.specs.Stops.{ReadField, WriteField, New, Free};
+ghost use Rattle.c_semantics.specs.Transformers.{zero_fields};
+ghost use Rattle.c_semantics.specs.Values.{Value as SeenValue, Reference, int_of};
 ghost use Rattle.source_model.specs.Worlds.{World, Object as SeenObject};
 ghost use Rattle.source_model.specs.Moves.{Standing, goes_on, traps, on_object, release as released};
 ghost use Rattle.source_runner.specs.declared.store.Object.{Object};

@@ -1,8 +1,8 @@
 //! What pieces do with the newest values.
 ghost use Rattle.std.specs.Prelude.{◌≡◌, List, IfOk, OnOk, map, ◌++◌, ◌+◌, ◌≤◌};
-ghost use Rattle.c_types.specs.Pieces.{Piece as SeenPiece, Scopes};
-ghost use Rattle.c_types.specs.Values.{converted_to};
-ghost use Rattle.c_types.specs.Evaluation.{local, apply, combine, change, as_truth, creation, drop, give, settle, copy, tuck_under, swap, again, tuck, lift, get, set, choose};
+ghost use Rattle.c_semantics.specs.Pieces.{Piece as SeenPiece, Scopes};
+ghost use Rattle.c_semantics.specs.Values.{converted_to};
+ghost use Rattle.c_semantics.specs.Evaluation.{local, apply, combine, change, as_truth, creation, drop, give, settle, copy, tuck_under, swap, again, tuck, lift, get, set, choose};
 ghost use Rattle.source_runner.specs.Nodes.{Table, type_of, place_of};
 ghost use Rattle.source_runner.specs.Pieces.{piece_of, pending};
 ghost use Rattle.source_runner.specs.Trees.{table};

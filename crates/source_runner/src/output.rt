@@ -1,7 +1,7 @@
 //! What a `printf` prints.
 ghost use Rattle.std.specs.Prelude.{◌≡◌, ℕ, List, IfOk};
 ghost use Rattle.c_tree.specs.BareDef.{BareDef};
-ghost use Rattle.c_types.specs.Stops.{Print};
+ghost use Rattle.c_semantics.specs.Stops.{Print};
 ghost use Rattle.source_runner.specs.Nodes.{word};
 ghost use Rattle.source_runner.specs.Stores.{Kept, Performs};
 ghost use Rattle.source_runner.specs.Trees.{table};

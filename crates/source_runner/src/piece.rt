@@ -1,6 +1,6 @@
 //! What a thread has still to evaluate.
 ghost use Rattle.std.specs.Prelude.{◌≡◌, IfOk};
-ghost use Rattle.c_types.specs.Pieces.{body_at, step_at, back_at};
+ghost use Rattle.c_semantics.specs.Pieces.{body_at, step_at, back_at};
 ghost use Rattle.source_runner.specs.Pieces.{loop_of};
 ghost use Rattle.source_runner.specs.Trees.{table};
 

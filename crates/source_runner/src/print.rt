@@ -1,6 +1,6 @@
 //! What `printf` writes.
 ghost use Rattle.std.specs.Prelude.{◌≡◌, ◌∷◌, ◌++◌, List, map, drop, IfOk, OnOk};
-ghost use Rattle.c_types.specs.Values.{Value as SeenValue};
+ghost use Rattle.c_semantics.specs.Values.{Value as SeenValue};
 ghost use Rattle.source_model.specs.Printing.{written, shown, others, printed};
 ghost use Rattle.source_runner.specs.Formats.{reading_of};
 ghost use Rattle.source_runner.specs.Values.{seen};

@@ -3,12 +3,12 @@ ghost use Rattle.std.specs.Prelude.{◌≡◌, [], ◌∷◌, Some, IfOk, OnOk, 
 ghost use Rattle.c_ints.specs.declared.kind.Kind.TheVariants.{I32};
 ghost use Rattle.c_tree.specs.BareDef.{Struct};
 ghost use Rattle.c_tree.specs.Bare.{bare_binding, bare_def, bare_function, bare_kind};
-ghost use Rattle.c_types.specs.Constants.{initial_cells};
-ghost use Rattle.c_types.specs.Names.{struct_name};
-ghost use Rattle.c_types.specs.Resolved.{NoStatements};
-ghost use Rattle.c_types.specs.Texts.{Definitions, result_type};
-ghost use Rattle.c_types.specs.Threads.{bind as bound_to};
-ghost use Rattle.c_types.specs.Values.{zero_of};
+ghost use Rattle.c_semantics.specs.Constants.{initial_cells};
+ghost use Rattle.c_semantics.specs.Names.{struct_name};
+ghost use Rattle.c_semantics.specs.Resolved.{NoStatements};
+ghost use Rattle.c_semantics.specs.Texts.{Definitions, result_type};
+ghost use Rattle.c_semantics.specs.Threads.{bind as bound_to};
+ghost use Rattle.c_semantics.specs.Values.{zero_of};
 ghost use Rattle.source_model.specs.Worlds.{cells_at_first};
 ghost use Rattle.source_runner.specs.declared.node.ValueType.TheVariants.{Integer};
 ghost use Rattle.source_runner.specs.Nodes.{Table, statements_at, type_of, word as word_text};
@@ -127,9 +127,9 @@ impl Program {
     ghost use Rattle.std.specs.Prelude.{◌≡◌, IfOk, OnOk, IsTrue, ◌∷◌, ◌++◌, map, option_copied};
     ghost use Rattle.c_tree.specs.Bare.{bare_def};
     ghost use Rattle.std.specs.Option.{is_some};
-    ghost use Rattle.c_types.specs.Names.{struct_name};
-    ghost use Rattle.c_types.specs.Texts.{definition};
-    ghost use Rattle.c_types.specs.Texts.{members_of as texts_members_of};
+    ghost use Rattle.c_semantics.specs.Names.{struct_name};
+    ghost use Rattle.c_semantics.specs.Texts.{definition};
+    ghost use Rattle.c_semantics.specs.Texts.{members_of as texts_members_of};
     ghost use Rattle.source_model.specs.Versions.{current, first_table};
     ghost use Rattle.source_model.specs.Uses.{is_right};
     ghost use Rattle.source_runner.specs.Nodes.{word};
@@ -141,10 +141,10 @@ impl Program {
     ghost use Rattle.source_runner.specs.Nodes.{statements_at, type_of};
     ghost use Rattle.source_runner.specs.Pieces.{pending};
     ghost use Rattle.source_runner.specs.Work.{scopes_of};
-    ghost use Rattle.c_types.specs.Resolution.{resolved_body};
-    ghost use Rattle.c_types.specs.Texts.{result_type};
-    ghost use Rattle.c_types.specs.Texts.{parameters_of as texts_parameters_of};
-    ghost use Rattle.c_types.specs.Threads.{bind, body_pieces, entered};
+    ghost use Rattle.c_semantics.specs.Resolution.{resolved_body};
+    ghost use Rattle.c_semantics.specs.Texts.{result_type};
+    ghost use Rattle.c_semantics.specs.Texts.{parameters_of as texts_parameters_of};
+    ghost use Rattle.c_semantics.specs.Threads.{bind, body_pieces, entered};
 
     /// The trees of the functions.
     pub(crate) fn trees(&self) -> &Trees

@@ -1,9 +1,9 @@
 //! The variables of a frame.
 ghost use Rattle.std.specs.Prelude.{◌≡◌, [], ◌∷◌, List, OnOk, if◌then◌else◌};
 ghost use Rattle.std.specs.Option.{option_map};
-ghost use Rattle.c_types.specs.Values.{Value as SeenValue};
-ghost use Rattle.c_types.specs.Pieces.{Nothing};
-ghost use Rattle.c_types.specs.Evaluation.{Next, look_up, stored, close_scope};
+ghost use Rattle.c_semantics.specs.Values.{Value as SeenValue};
+ghost use Rattle.c_semantics.specs.Pieces.{Nothing};
+ghost use Rattle.c_semantics.specs.Evaluation.{Next, look_up, stored, close_scope};
 ghost use Rattle.source_runner.specs.Nodes.{Table, word, statement_of};
 ghost use Rattle.source_runner.specs.Steps.{statement_scopes};
 ghost use Rattle.source_runner.specs.Trees.{table};

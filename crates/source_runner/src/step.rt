@@ -1,6 +1,6 @@
 //! One step of local evaluation.
 ghost use Rattle.std.specs.Prelude.{IfOk};
-ghost use Rattle.c_types.specs.Pieces.{Compute, Arguments, Parts, AndThen, OrElse, Choose, Then, ThenElse, Turn, Repeat, Do, Sequence, Close, Cycle, Behind, Edge, Until};
+ghost use Rattle.c_semantics.specs.Pieces.{Compute, Arguments, Parts, AndThen, OrElse, Choose, Then, ThenElse, Turn, Repeat, Do, Sequence, Close, Cycle, Behind, Edge, Until};
 ghost use Rattle.source_runner.specs.Nodes.{Table, place_of, expression_at, arguments_at, statement_at, statements_at, statement_of};
 ghost use Rattle.source_runner.specs.Pieces.{piece_of, loop_of};
 ghost use Rattle.source_runner.specs.Trees.{table};

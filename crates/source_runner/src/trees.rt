@@ -23,8 +23,8 @@ pub struct Trees {
 impl Trees {
     ghost use Rattle.std.specs.Prelude.{◌≡◌, ◌+◌, ◌<◌, ◌^◌, IsTrue, IfOk, OnOk, OnErr, [], ◌∷◌, ◌++◌, length, Some, slice_get, bytes_eq};
     ghost use Rattle.name_sets.specs.Texts.{with_text};
-    ghost use Rattle.c_types.specs.Points.{size, size_all, size_if, size_parts, size_read, size_stmt, size_stmts};
-    ghost use Rattle.c_types.specs.Evaluation.{count};
+    ghost use Rattle.c_semantics.specs.Points.{size, size_all, size_if, size_parts, size_read, size_stmt, size_stmts};
+    ghost use Rattle.c_semantics.specs.Evaluation.{count};
     ghost use Rattle.source_runner.specs.Nodes.{tree_at, word, expression_at, expression_if, expression_of, arguments_at, arguments_of, statement_at, statement_of, statements_at, statements_of, place_of, made, with_node, points_of};
     ghost use Rattle.source_runner.specs.Parts.{is_within};
     ghost use Rattle.source_runner.specs.Trees.{table};

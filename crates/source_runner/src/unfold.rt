@@ -1,8 +1,8 @@
 //! The pieces of which trees are made.
 ghost use Rattle.std.specs.Prelude.{◌≡◌, ◌+◌, ◌∷◌, OnOk};
-ghost use Rattle.c_types.specs.Pieces.{Compute, Repeat};
-ghost use Rattle.c_types.specs.Points.{size_stmt};
-ghost use Rattle.c_types.specs.Resolved as tree;
+ghost use Rattle.c_semantics.specs.Pieces.{Compute, Repeat};
+ghost use Rattle.c_semantics.specs.Points.{size_stmt};
+ghost use Rattle.c_semantics.specs.Resolved as tree;
 ghost use Rattle.source_runner.specs.Nodes.{Table, word, type_of, expression_if, statements_at, expression_of, arguments_of, statement_of, statements_of, place_of, statement_at, expression_at};
 ghost use Rattle.source_runner.specs.Pieces.{pending, piece_of, loop_of};
 ghost use Rattle.source_runner.specs.Steps.{expression_pieces, arguments_pieces, place_pieces, statement_pieces, statements_pieces, cycle_pieces, behind_pieces};

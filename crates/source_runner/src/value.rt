@@ -2,8 +2,8 @@
 ghost use Rattle.std.specs.Prelude.{◌≡◌, pos};
 ghost use Rattle.c_ints.specs.Number.{number as number_of};
 ghost use Rattle.c_ints.specs.Arithmetic.{truth as truth_of};
-ghost use Rattle.c_types.specs.Values.{Number, int_of, zero_of, converted_to, is_true, as_value, same_object, compared, binary_result, unary_result};
-ghost use Rattle.c_types.specs.Evaluation.{creation};
+ghost use Rattle.c_semantics.specs.Values.{Number, int_of, zero_of, converted_to, is_true, as_value, same_object, compared, binary_result, unary_result};
+ghost use Rattle.c_semantics.specs.Evaluation.{creation};
 ghost use Rattle.source_runner.specs.Nodes.{Table, type_of};
 ghost use Rattle.source_runner.specs.Values.{seen, seen_object, seen_result};
 

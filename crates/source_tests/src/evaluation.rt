@@ -4,7 +4,7 @@ use c_tree::DefKind;
 use source_runner::{Halt, Known, Local, Piece, Stop, Trees, Value, Work, evaluate, resolve_body};
 use std::alloc::{AllocError, Global};
 use std::test::Fail;
-use text_reader::read_text;
+use c_front::read_text;
 
 /// The number of the first point of a body.
 const FIRST: u32 = 7;

@@ -3,7 +3,7 @@ use bytecode::TrapKind;
 use source_runner::{SourceMove, SourceRun, SourceState};
 use std::alloc::{AllocError, Global};
 use std::test::Fail;
-use text_reader::read_text;
+use c_front::read_text;
 
 /// How many slots there are, and how many objects may live at once.
 const SLOTS: u8 = 4;

@@ -11,7 +11,7 @@ use Rattle.std.proofs.lemmas.Option.{same_Some}
 use Rattle.bytecode.specs.declared.run.Event.{Event}
 use Rattle.bytecode.specs.declared.run.Event.TheVariants.{Move, CheckIn}
 use Rattle.c_tree.specs.BareDef.{BareDef}
-use Rattle.c_types.specs.Threads.{Thread}
+use Rattle.c_semantics.specs.Threads.{Thread}
 use Rattle.source_model.specs.Worlds.{World, Limits, Slot, Live, Free, Over, in_slot, is_over}
 use Rattle.source_model.specs.Moves.{move}
 use Rattle.source_model.specs.Runs.{SourceMove, Result, result, is_live, can_move, source_run}

@@ -6,7 +6,7 @@ use dsu_io::{MemoryFiles, MemorySink, Text};
 use source_runner::{SourceMove, SourceRun, SourceState, SourceWait, Stepped};
 use std::alloc::{AllocError, Global};
 use std::test::Fail;
-use text_reader::read_text;
+use c_front::read_text;
 
 const SUM: &str = "int main(void) { printf(\"%d\\n\", 2+3*4); return 0; }";
 

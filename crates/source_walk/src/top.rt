@@ -8,7 +8,7 @@ use dsu_report::{FaultLine, ending_status, write_ending, write_fault};
 use itoa::Buffer;
 use source_runner::SourceWait;
 use std::alloc::Global;
-use text_source::source_of;
+use program_file::source_of;
 
 const USAGE: &[u8] = b"usage: source_walk FILE [--moves N] [--objects N]\n";
 

@@ -4,7 +4,8 @@
 use bytecode::{Ending, TrapKind};
 use c_types::TypeKind;
 use dsu_io::MemorySink;
-use dsu_report::{FaultLine, LineWord, Place, PlaceWord, place_of, write_ending, write_fault};
+use c_front::FaultKind;
+use dsu_report::{FaultLine, LineWord, Place, place_of, write_ending, write_fault};
 use std::test::Fail;
 
 const USAGE: &str = "\
@@ -40,79 +41,79 @@ static LINES: [(FaultLine, &str); 28] = [
         "d/f.c: line 4294967295: no event\n",
     ),
     (
-        FaultLine::Place(1, 9, PlaceWord::BadByte),
+        FaultLine::Place(1, 9, FaultKind::BadByte),
         "d/f.c:1:9: bad byte\n",
     ),
     (
-        FaultLine::Place(10, 1, PlaceWord::BadLiteral),
+        FaultLine::Place(10, 1, FaultKind::BadLiteral),
         "d/f.c:10:1: bad literal\n",
     ),
     (
-        FaultLine::Place(2, 3, PlaceWord::Directive),
+        FaultLine::Place(2, 3, FaultKind::Directive),
         "d/f.c:2:3: directive\n",
     ),
     (
-        FaultLine::Place(7, 65_536, PlaceWord::TooMany),
+        FaultLine::Place(7, 65_536, FaultKind::TooMany),
         "d/f.c:7:65536: too many tokens\n",
     ),
     (
-        FaultLine::Place(1, 1, PlaceWord::Syntax),
+        FaultLine::Place(1, 1, FaultKind::Syntax),
         "d/f.c:1:1: syntax\n",
     ),
     (
-        FaultLine::Place(u32::MAX, u32::MAX, PlaceWord::TooDeep),
+        FaultLine::Place(u32::MAX, u32::MAX, FaultKind::TooDeep),
         "d/f.c:4294967295:4294967295: nested too deep\n",
     ),
     (
-        FaultLine::Place(3, 4, PlaceWord::Kind(TypeKind::NoMain)),
+        FaultLine::Place(3, 4, FaultKind::Kind(TypeKind::NoMain)),
         "d/f.c:3:4: no main\n",
     ),
     (
-        FaultLine::Place(1, 52, PlaceWord::Kind(TypeKind::UnknownName)),
+        FaultLine::Place(1, 52, FaultKind::Kind(TypeKind::UnknownName)),
         "d/f.c:1:52: unknown name\n",
     ),
     (
-        FaultLine::Place(1, 52, PlaceWord::Kind(TypeKind::DeclaredTwice)),
+        FaultLine::Place(1, 52, FaultKind::Kind(TypeKind::DeclaredTwice)),
         "d/f.c:1:52: declared twice\n",
     ),
     (
-        FaultLine::Place(1, 52, PlaceWord::Kind(TypeKind::WrongType)),
+        FaultLine::Place(1, 52, FaultKind::Kind(TypeKind::WrongType)),
         "d/f.c:1:52: wrong type\n",
     ),
     (
-        FaultLine::Place(1, 52, PlaceWord::Kind(TypeKind::WrongCount)),
+        FaultLine::Place(1, 52, FaultKind::Kind(TypeKind::WrongCount)),
         "d/f.c:1:52: wrong number of arguments\n",
     ),
     (
-        FaultLine::Place(1, 52, PlaceWord::Kind(TypeKind::NotPlace)),
+        FaultLine::Place(1, 52, FaultKind::Kind(TypeKind::NotPlace)),
         "d/f.c:1:52: not a place\n",
     ),
     (
-        FaultLine::Place(1, 52, PlaceWord::Kind(TypeKind::OutsideLoop)),
+        FaultLine::Place(1, 52, FaultKind::Kind(TypeKind::OutsideLoop)),
         "d/f.c:1:52: outside a loop\n",
     ),
     (
-        FaultLine::Place(1, 52, PlaceWord::Kind(TypeKind::BadFormat)),
+        FaultLine::Place(1, 52, FaultKind::Kind(TypeKind::BadFormat)),
         "d/f.c:1:52: bad printf format\n",
     ),
     (
-        FaultLine::Place(1, 52, PlaceWord::Kind(TypeKind::LeavesTransaction)),
+        FaultLine::Place(1, 52, FaultKind::Kind(TypeKind::LeavesTransaction)),
         "d/f.c:1:52: leaves a transaction\n",
     ),
     (
-        FaultLine::Place(1, 52, PlaceWord::Kind(TypeKind::OverLimit)),
+        FaultLine::Place(1, 52, FaultKind::Kind(TypeKind::OverLimit)),
         "d/f.c:1:52: over a limit\n",
     ),
     (
-        FaultLine::Place(1, 52, PlaceWord::Kind(TypeKind::UnknownField)),
+        FaultLine::Place(1, 52, FaultKind::Kind(TypeKind::UnknownField)),
         "d/f.c:1:52: unknown field\n",
     ),
     (
-        FaultLine::Place(1, 52, PlaceWord::Kind(TypeKind::BadTransformer)),
+        FaultLine::Place(1, 52, FaultKind::Kind(TypeKind::BadTransformer)),
         "d/f.c:1:52: bad transformer\n",
     ),
     (
-        FaultLine::Place(1, 52, PlaceWord::Kind(TypeKind::NoMain)),
+        FaultLine::Place(1, 52, FaultKind::Kind(TypeKind::NoMain)),
         "d/f.c:1:52: no main\n",
     ),
 ];
@@ -175,7 +176,7 @@ fn each_ending_has_its_report(rt: HostRuntime) -> Result<(), Fail> {
     Ok(())
 }
 
-const WRONG_COUNT: FaultLine = FaultLine::Place(1, 52, PlaceWord::Kind(TypeKind::WrongCount));
+const WRONG_COUNT: FaultLine = FaultLine::Place(1, 52, FaultKind::Kind(TypeKind::WrongCount));
 
 /// A sink with room for some bytes takes a front of the line, and counts a fault where it isn't all.
 #[test]

@@ -2,9 +2,9 @@
 ghost use Rattle.std.specs.Prelude.{◌≡◌, ◌∷◌, [], map, option_map, IfOk, OnOk};
 ghost use Rattle.std.specs.Option.{option_map_or};
 ghost use Rattle.c_tree.specs.Bare.{bare_type, bare_expr, bare_stmt, bare_declaration};
-ghost use Rattle.c_types.specs.Resolved.{NoStatements, Constant, Convert, Declare, Evaluate, Return};
-ghost use Rattle.c_types.specs.Texts.{int};
-ghost use Rattle.c_types.specs.Resolution.{int_value, tree_of, declared_by, declaration as declaration_of};
+ghost use Rattle.c_semantics.specs.Resolved.{NoStatements, Constant, Convert, Declare, Evaluate, Return};
+ghost use Rattle.c_semantics.specs.Texts.{int};
+ghost use Rattle.c_semantics.specs.Resolution.{int_value, tree_of, declared_by, declaration as declaration_of};
 ghost use Rattle.source_runner.specs.Nodes.{Table, expression_at, expression_if, statement_at, statement_of, statements_at, statements_of};
 ghost use Rattle.source_runner.specs.Parts.{a_node, a_node_if, in_statement, in_statements};
 ghost use Rattle.source_runner.specs.Found.{Grows, IsIn, each_node, before};

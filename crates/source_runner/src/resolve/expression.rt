@@ -1,8 +1,8 @@
 //! Expressions, by the trees of a text.
 ghost use Rattle.std.specs.Prelude.{◌≡◌, map, IfOk};
 ghost use Rattle.c_tree.specs.Bare.{bare_expr};
-ghost use Rattle.c_types.specs.Resolution.{resolved, tree_of};
-ghost use Rattle.c_types.specs.Resolution.{resolved_all};
+ghost use Rattle.c_semantics.specs.Resolution.{resolved, tree_of};
+ghost use Rattle.c_semantics.specs.Resolution.{resolved_all};
 ghost use Rattle.c_tree.specs.Bare.{bare_arguments};
 ghost use Rattle.source_runner.specs.Forms.{of_one, of_two, of_many};
 ghost use Rattle.source_runner.specs.Nodes.{Table, expression_at};

@@ -1,8 +1,8 @@
 //! Expressions as they are resolved, and the trees that are made of them.
 ghost use Rattle.std.specs.Prelude.{◌≡◌, IfOk};
 ghost use Rattle.c_tree.specs.Bare.{bare_type};
-ghost use Rattle.c_types.specs.Resolved.{Convert};
-ghost use Rattle.c_types.specs.Resolution.{value as value_of};
+ghost use Rattle.c_semantics.specs.Resolved.{Convert};
+ghost use Rattle.c_semantics.specs.Resolution.{value as value_of};
 ghost use Rattle.source_runner.specs.Nodes.{Table, word as word_of, expression_at, expression_of, place_of, type_of};
 ghost use Rattle.source_runner.specs.Parts.{a_word, a_node, in_expression, in_place, in_type, both};
 ghost use Rattle.source_runner.specs.Found.{Grows, IsIn, found, in_found};

@@ -2,8 +2,8 @@
 ghost use Rattle.std.specs.Prelude.{◌≡◌, map, option_map, IfOk, string_bytes};
 ghost use Rattle.std.specs.Option.{option_map_or};
 ghost use Rattle.c_tree.specs.Bare.{bare_type, bare_def, bare_binding};
-ghost use Rattle.c_types.specs.Names.{struct_name};
-ghost use Rattle.c_types.specs.Texts.{defined, defines, int, global_type, result_type, parameters_of, members_of, bound};
+ghost use Rattle.c_semantics.specs.Names.{struct_name};
+ghost use Rattle.c_semantics.specs.Texts.{defined, defines, int, global_type, result_type, parameters_of, members_of, bound};
 ghost use Rattle.source_runner.specs.Known.{known_of, locals_of};
 
 use c_tree::{Binding, CType, Def, DefKind};

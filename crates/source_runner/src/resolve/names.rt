@@ -2,10 +2,10 @@
 ghost use Rattle.std.specs.Prelude.{◌≡◌, map, option_map, slice_get, IfOk};
 ghost use Rattle.std.specs.Option.{option_map_or};
 ghost use Rattle.c_tree.specs.Bare.{bare_type, bare_binding};
-ghost use Rattle.c_types.specs.Resolved.{ExpressionThen, Call, Print, Create, Element as ElementPlace};
-ghost use Rattle.c_types.specs.Names.{struct_name};
-ghost use Rattle.c_types.specs.Texts.{int, global_type, result_type, parameters_of, members_of, bound, bound_type};
-ghost use Rattle.c_types.specs.Resolution.{value as value_of, located, variable as variable_of, field as field_of, handed, passed as passed_to};
+ghost use Rattle.c_semantics.specs.Resolved.{ExpressionThen, Call, Print, Create, Element as ElementPlace};
+ghost use Rattle.c_semantics.specs.Names.{struct_name};
+ghost use Rattle.c_semantics.specs.Texts.{int, global_type, result_type, parameters_of, members_of, bound, bound_type};
+ghost use Rattle.c_semantics.specs.Resolution.{value as value_of, located, variable as variable_of, field as field_of, handed, passed as passed_to};
 ghost use Rattle.source_runner.specs.Nodes.{Table, word as word_of, expression_at, arguments_at, arguments_of, type_of};
 ghost use Rattle.source_runner.specs.Parts.{a_word, a_node, both, in_type, in_arguments};
 ghost use Rattle.source_runner.specs.Found.{Grows, IsIn, found, in_found, given, listed, each_node};

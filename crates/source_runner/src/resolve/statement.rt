@@ -2,8 +2,8 @@
 ghost use Rattle.std.specs.Prelude.{◌≡◌, Some, map, option_map, unwrap_or, IfOk, OnOk};
 ghost use Rattle.std.specs.Option.{option_map_or};
 ghost use Rattle.c_tree.specs.Bare.{bare_type, bare_expr, bare_stmt, bare_block, bare_binding, bare_function};
-ghost use Rattle.c_types.specs.Texts.{int};
-ghost use Rattle.c_types.specs.Resolution.{tree_of, statement as statement_by, statements as statements_by, declared_by_all, resolved_body};
+ghost use Rattle.c_semantics.specs.Texts.{int};
+ghost use Rattle.c_semantics.specs.Resolution.{tree_of, statement as statement_by, statements as statements_by, declared_by_all, resolved_body};
 ghost use Rattle.source_runner.specs.Forms.{of_guarded, of_nested};
 ghost use Rattle.source_runner.specs.Nodes.{Table, statement_at, statements_at};
 ghost use Rattle.source_runner.specs.Parts.{a_node};

@@ -2,7 +2,7 @@
 ghost use Rattle.std.specs.Prelude.{◌≡◌};
 ghost use Rattle.c_ints.specs.Kind.{common_kind, promoted as promoted_kind};
 ghost use Rattle.c_ints.specs.Arithmetic.{binary_kind, unary_kind};
-ghost use Rattle.c_types.specs.Resolution.{kind as kind_of, common_type as common_type_of};
+ghost use Rattle.c_semantics.specs.Resolution.{kind as kind_of, common_type as common_type_of};
 ghost use Rattle.source_runner.specs.Nodes.{Table, type_of};
 ghost use Rattle.source_runner.specs.Parts.{in_type, both};
 ghost use Rattle.source_runner.specs.Found.{IsIn};

@@ -2,8 +2,8 @@ use Rattle.std.proofs.Common.{◌≡◌, ◌⊎◌, ◌≤◌, ◌∙◌, List, 
 use Rattle.dsu_io.specs.Files.{IsContent}
 use Rattle.c_ints.specs.declared.int.Int.{Int}
 use Rattle.c_ints.specs.declared.operator.ArithTrap.{ArithTrap}
-use Rattle.text_reader.specs.Accepted.{Accepted}
-use Rattle.text_source.specs.Sources.{text_limit}
+use Rattle.c_front.specs.Accepted.{Accepted}
+use Rattle.program_file.specs.Sources.{text_limit}
 use Rattle.dsu_run.specs.declared.fault.Fault.TheVariants.{Told}
 use Rattle.dsu_run.specs.Form.{IsForm}
 use Rattle.dsu_run.specs.Answer.{HoldsForm, Ran, PrintFailed, ReportFailed, IsExcused}

@@ -1,5 +1,5 @@
 use Rattle.std.proofs.Common.{◌-◌, length, take, map, set, unwrap_or, sym, ap}
-use Rattle.c_types.specs.Values.{int_of}
+use Rattle.c_semantics.specs.Values.{int_of}
 use Rattle.source_runner.specs.Nodes.{word}
 use Rattle.source_runner.specs.Values.{seen}
 use Rattle.source_runner.specs.Stores.{with_store, globals_of}

@@ -1,7 +1,7 @@
 use Rattle.std.proofs.Common.{◌≡◌, ◌-◌, ◌++◌, map, take, replicate, length, Some, option_map, unwrap_or, [], arith}
 use Rattle.std.proofs.lemmas.Grind.{common_steps}
 use Rattle.c_tree.specs.Bare.{bare_expr, bare_type}
-use Rattle.c_types.specs.Constants.{initial, elements}
+use Rattle.c_semantics.specs.Constants.{initial, elements}
 use Rattle.source_runner.specs.Values.{seen}
 use Rattle.source_runner.proofs.Seen.{filled_cells}
 use Rattle.source_runner.proofs.constant.cells_of.Goals as goal

@@ -1,6 +1,6 @@
 use Rattle.std.proofs.Common.{◌≡◌, map, take, Some}
 use Rattle.c_tree.specs.Bare.{bare_expr, bare_type}
-use Rattle.c_types.specs.Constants.{initial}
+use Rattle.c_semantics.specs.Constants.{initial}
 use Rattle.source_runner.specs.Values.{seen}
 use Rattle.source_runner.proofs.constant.cells_of.Given as goal
 

@@ -1,5 +1,5 @@
 use Rattle.std.proofs.Common.{ap, ◌∙◌}
-use Rattle.c_types.specs.Evaluation.{local}
+use Rattle.c_semantics.specs.Evaluation.{local}
 use Rattle.source_runner.specs.Trees.{table}
 use Rattle.source_runner.specs.Work.{newest, scopes_of}
 use Rattle.source_runner.proofs.evaluation.evaluate.Goals as goal

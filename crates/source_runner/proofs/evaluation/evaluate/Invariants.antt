@@ -1,5 +1,5 @@
 use Rattle.std.proofs.Common.{◌≡◌}
-use Rattle.c_types.specs.Evaluation.{local}
+use Rattle.c_semantics.specs.Evaluation.{local}
 use Rattle.source_runner.specs.Pieces.{pending}
 use Rattle.source_runner.specs.Trees.{table}
 use Rattle.source_runner.specs.Weights.{weight}

@@ -1,6 +1,6 @@
 use Rattle.std.proofs.Common.{◌≡◌, ◌∷◌, ap, sym, ◌∙◌, inl, inr, if◌then◌else◌, arith}
-use Rattle.c_types.specs.Pieces.{Nothing}
-use Rattle.c_types.specs.Evaluation.{ways, local}
+use Rattle.c_semantics.specs.Pieces.{Nothing}
+use Rattle.c_semantics.specs.Evaluation.{ways, local}
 use Rattle.source_runner.specs.declared.work.Jump.TheVariants.{Break, Continue}
 use Rattle.source_runner.specs.Pieces.{piece_of, pending}
 use Rattle.source_runner.specs.Weights.{weight}

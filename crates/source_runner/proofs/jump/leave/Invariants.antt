@@ -1,6 +1,6 @@
 use Rattle.std.proofs.Common.{◌≡◌, ◌≤◌, List, vec_len}
-use Rattle.c_types.specs.Values.{Value}
-use Rattle.c_types.specs.Evaluation.{ways}
+use Rattle.c_semantics.specs.Values.{Value}
+use Rattle.c_semantics.specs.Evaluation.{ways}
 use Rattle.source_runner.specs.Nodes.{Table}
 use Rattle.source_runner.specs.Pieces.{pending}
 use Rattle.source_runner.specs.Weights.{weight}

@@ -1,7 +1,7 @@
 use Rattle.std.proofs.Common.{◌≡◌, ◌++◌, ◌∷◌, [], true, length, count_by, Some, refl, ap, ◌∙◌, arith}
 use Rattle.std.proofs.lemmas.List.{map-append, length-map}
-use Rattle.c_types.specs.Transformers.{zero_fields}
-use Rattle.c_types.specs.Values.{Reference}
+use Rattle.c_semantics.specs.Transformers.{zero_fields}
+use Rattle.c_semantics.specs.Values.{Reference}
 use Rattle.source_runner.specs.declared.store.Object.{Object}
 use Rattle.source_runner.specs.Nodes.{word}
 use Rattle.source_runner.specs.Programs.{text_of, table_of}

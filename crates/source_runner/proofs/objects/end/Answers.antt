@@ -1,5 +1,5 @@
 use Rattle.std.proofs.Common.{◌∷◌, get_or, false, ap, ◌∙◌, refl}
-use Rattle.c_types.specs.Values.{int_of}
+use Rattle.c_semantics.specs.Values.{int_of}
 use Rattle.source_model.specs.Moves.{goes_on, with_object}
 use Rattle.source_runner.specs.Stores.{object_of}
 use Rattle.source_runner.proofs.Fields.{releases, object_changed}

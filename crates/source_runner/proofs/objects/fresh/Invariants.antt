@@ -1,5 +1,5 @@
 use Rattle.std.proofs.Common.{◌≡◌, take}
-use Rattle.c_types.specs.Transformers.{zero_fields}
+use Rattle.c_semantics.specs.Transformers.{zero_fields}
 use Rattle.source_runner.specs.Nodes.{Table}
 use Rattle.source_runner.specs.Definitions.{bindings_of}
 use Rattle.source_runner.specs.Stores.{fields_of}

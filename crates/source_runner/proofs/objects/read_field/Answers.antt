@@ -1,6 +1,6 @@
 use Rattle.std.proofs.Common.{◌≡◌, ◌-◌, ◌∷◌, length, get_or, take, set, unwrap_or, sym, ap, ◌∙◌}
-use Rattle.c_types.specs.Evaluation.{in_scope}
-use Rattle.c_types.specs.Values.{int_of}
+use Rattle.c_semantics.specs.Evaluation.{in_scope}
+use Rattle.c_semantics.specs.Values.{int_of}
 use Rattle.source_model.specs.Moves.{goes_on}
 use Rattle.source_runner.specs.Nodes.{word}
 use Rattle.source_runner.specs.Stores.{standing_with, with_store, objects_of, fields_of}

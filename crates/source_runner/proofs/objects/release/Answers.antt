@@ -2,8 +2,8 @@ use Rattle.std.proofs.Common.{◌-◌, ◌∷◌, length, take, set, pos, sym, a
 use Rattle.std.proofs.lemmas.List.{with_items_is}
 use Rattle.std.specs.Vec.{with_items}
 use Rattle.c_ints.specs.declared.int.Int.TheVariants.{I32}
-use Rattle.c_types.specs.Stops.{Free}
-use Rattle.c_types.specs.Values.{int_of}
+use Rattle.c_semantics.specs.Stops.{Free}
+use Rattle.c_semantics.specs.Values.{int_of}
 use Rattle.source_model.specs.Moves.{release}
 use Rattle.source_runner.specs.declared.value.Value.TheVariants.{Number}
 use Rattle.source_runner.specs.Stores.{standing_with, with_store, objects_of}

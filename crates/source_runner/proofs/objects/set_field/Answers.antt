@@ -1,6 +1,6 @@
 use Rattle.std.proofs.Common.{pos, sym, ap, ◌∙◌, arith}
 use Rattle.c_ints.specs.declared.int.Int.TheVariants.{I8}
-use Rattle.c_types.specs.Evaluation.{with_value}
+use Rattle.c_semantics.specs.Evaluation.{with_value}
 use Rattle.source_runner.specs.declared.value.Value.TheVariants.{Number}
 use Rattle.source_runner.specs.Nodes.{word}
 use Rattle.source_runner.specs.Stores.{fields_of}

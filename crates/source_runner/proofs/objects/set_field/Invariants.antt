@@ -1,5 +1,5 @@
 use Rattle.std.proofs.Common.{◌≡◌, ◌++◌, take, drop}
-use Rattle.c_types.specs.Evaluation.{with_value}
+use Rattle.c_semantics.specs.Evaluation.{with_value}
 use Rattle.source_runner.specs.Nodes.{word}
 use Rattle.source_runner.specs.Stores.{fields_of}
 use Rattle.source_runner.specs.Trees.{table}

@@ -2,7 +2,7 @@ use Rattle.std.proofs.Common.{◌≡◌, ◌-◌, ◌∷◌, length, get_or, tak
 use Rattle.std.proofs.lemmas.List.{with_items_is}
 use Rattle.std.specs.Vec.{with_items, with_item}
 use Rattle.c_ints.specs.declared.int.Int.TheVariants.{I8}
-use Rattle.c_types.specs.Evaluation.{with_value}
+use Rattle.c_semantics.specs.Evaluation.{with_value}
 use Rattle.source_model.specs.Moves.{goes_on}
 use Rattle.source_runner.specs.declared.value.Value.TheVariants.{Number}
 use Rattle.source_runner.specs.declared.store.Object.{Object}

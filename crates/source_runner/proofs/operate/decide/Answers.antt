@@ -1,5 +1,5 @@
 use Rattle.std.proofs.Common.{◌++◌, ◌∙◌, sym, ap, if◌then◌else◌, arith, map}
-use Rattle.c_types.specs.Evaluation.{local, choose}
+use Rattle.c_semantics.specs.Evaluation.{local, choose}
 use Rattle.source_runner.specs.Pieces.{piece_of, pending}
 use Rattle.source_runner.specs.Work.{newest}
 use Rattle.source_runner.proofs.StepLaws.{weight_append}

@@ -1,6 +1,6 @@
 use Rattle.std.proofs.Common.{◌≡◌, ◌-◌, ◌∷◌, ◌++◌, length, map, take, drop, sym, ap, ◌∙◌, arith}
 use Rattle.std.proofs.lemmas.List.{take_rest}
-use Rattle.c_types.specs.Values.{int_of}
+use Rattle.c_semantics.specs.Values.{int_of}
 use Rattle.source_model.specs.Moves.{arguments_of}
 use Rattle.source_model.specs.Printing.{printed}
 use Rattle.source_runner.specs.Nodes.{word}

@@ -1,6 +1,6 @@
 use Rattle.std.proofs.Common.{refl, sym, ap, ◌∙◌, arith}
 use Rattle.std.proofs.lemmas.List.{with_items_is}
-use Rattle.c_types.specs.Stops.{ReadElement, ReadField, Free}
+use Rattle.c_semantics.specs.Stops.{ReadElement, ReadField, Free}
 use Rattle.source_runner.specs.Nodes.{word}
 use Rattle.source_runner.specs.Pieces.{stop_of}
 use Rattle.source_runner.specs.Programs.{table_of, text_of}

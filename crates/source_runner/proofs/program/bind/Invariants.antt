@@ -1,5 +1,5 @@
 use Rattle.std.proofs.Common.{◌≡◌, ◌≤◌, ◌∷◌, length, map, drop}
-use Rattle.c_types.specs.Threads.{bind}
+use Rattle.c_semantics.specs.Threads.{bind}
 use Rattle.source_runner.specs.Nodes.{Table}
 use Rattle.source_runner.specs.Values.{seen}
 use Rattle.source_runner.specs.Work.{scopes_of}

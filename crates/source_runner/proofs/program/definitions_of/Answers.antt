@@ -1,6 +1,6 @@
 use Rattle.std.proofs.Common.{◌+◌, List, map, take, ap, sym, subst, ◌∙◌}
 use Rattle.c_tree.specs.Bare.{bare_def}
-use Rattle.c_types.specs.Texts.{definition}
+use Rattle.c_semantics.specs.Texts.{definition}
 use Rattle.source_runner.specs.declared.program.Definition.{Definition}
 use Rattle.source_runner.specs.Definitions.{kept, IsDefinition}
 use Rattle.source_runner.specs.Known.{known_of}

@@ -1,7 +1,7 @@
 use Rattle.std.proofs.Common.{map, take}
 use Rattle.c_tree.specs.BareExpr.{Bytes}
 use Rattle.c_tree.specs.Bare.{bare_def}
-use Rattle.c_types.specs.Texts.{definition}
+use Rattle.c_semantics.specs.Texts.{definition}
 use Rattle.source_runner.specs.Nodes.{Table}
 use Rattle.source_runner.specs.Found.{Grows}
 use Rattle.source_runner.specs.Trees.{table}

@@ -1,5 +1,5 @@
 use Rattle.std.proofs.Common.{ap, inl, inr, refl}
-use Rattle.c_types.specs.Evaluation.{declared}
+use Rattle.c_semantics.specs.Evaluation.{declared}
 use Rattle.source_runner.specs.declared.work.Local.TheVariants.{Block, Variable}
 use Rattle.source_runner.specs.Nodes.{word}
 use Rattle.source_runner.specs.Work.{scopes_of}

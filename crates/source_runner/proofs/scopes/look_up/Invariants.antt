@@ -1,5 +1,5 @@
 use Rattle.std.proofs.Common.{◌≡◌, ◌≤◌, take, length}
-use Rattle.c_types.specs.Evaluation.{look_up}
+use Rattle.c_semantics.specs.Evaluation.{look_up}
 use Rattle.source_runner.specs.Nodes.{word}
 use Rattle.source_runner.specs.Trees.{table}
 use Rattle.source_runner.specs.Work.{scopes_of}

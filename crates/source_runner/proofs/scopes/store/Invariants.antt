@@ -1,5 +1,5 @@
 use Rattle.std.proofs.Common.{◌≡◌, ◌≤◌, take, drop, length}
-use Rattle.c_types.specs.Evaluation.{stored}
+use Rattle.c_semantics.specs.Evaluation.{stored}
 use Rattle.source_runner.specs.Nodes.{word}
 use Rattle.source_runner.specs.Trees.{table}
 use Rattle.source_runner.specs.Values.{seen}

@@ -1,5 +1,5 @@
 use Rattle.std.proofs.Common.{[], ◌∷◌, refl, arith}
-use Rattle.c_types.specs.Pieces.{OrElse}
+use Rattle.c_semantics.specs.Pieces.{OrElse}
 use Rattle.c_ints.specs.declared.int.Int.TheVariants.{I32}
 use Rattle.std.proofs.Common.{pos}
 use Rattle.source_runner.specs.declared.piece.Piece.TheVariants as node

@@ -1,5 +1,5 @@
 use Rattle.std.proofs.Common.{◌+◌, sym, ap, ◌∙◌}
-use Rattle.c_types.specs.Points.{size}
+use Rattle.c_semantics.specs.Points.{size}
 use Rattle.source_runner.specs.Nodes.{statement_at, expression_at}
 use Rattle.source_runner.specs.Pieces.{pending}
 use Rattle.source_runner.specs.Trees.{table}

@@ -1,6 +1,6 @@
 use Rattle.std.proofs.Common.{ap, sym, ◌∙◌, refl, arith}
-use Rattle.c_types.specs.Resolved as tree
-use Rattle.c_types.specs.Evaluation.{local}
+use Rattle.c_semantics.specs.Resolved as tree
+use Rattle.c_semantics.specs.Evaluation.{local}
 use Rattle.source_runner.specs.declared.work.Jump.TheVariants.{Break, Continue}
 use Rattle.source_runner.specs.declared.work.Work.{Work}
 use Rattle.source_runner.specs.Nodes.{statement_of}

@@ -1,5 +1,5 @@
 use Rattle.std.proofs.Common.{[], ◌∷◌, refl, arith}
-use Rattle.c_types.specs.Pieces.{Then}
+use Rattle.c_semantics.specs.Pieces.{Then}
 use Rattle.source_runner.specs.declared.piece.Piece.TheVariants as node
 use Rattle.source_runner.specs.Nodes.{statement_at}
 use Rattle.source_runner.proofs.Following.{from_decide}

@@ -1,5 +1,5 @@
 use Rattle.std.proofs.Common.{[], ◌∷◌, refl, arith}
-use Rattle.c_types.specs.Pieces.{Turn}
+use Rattle.c_semantics.specs.Pieces.{Turn}
 use Rattle.source_runner.specs.declared.piece.Piece.TheVariants as node
 use Rattle.source_runner.specs.Pieces.{loop_of}
 use Rattle.source_runner.specs.Trees.{table}

@@ -1,5 +1,5 @@
 use Rattle.std.proofs.Common.{option_map}
-use Rattle.c_types.specs.Values.{Started}
+use Rattle.c_semantics.specs.Values.{Started}
 use Rattle.source_runner.specs.Programs.{table_of}
 use Rattle.source_runner.specs.Machines.{standing_at}
 use Rattle.source_runner.specs.Values.{seen_thread}

@@ -1,5 +1,5 @@
 use Rattle.std.proofs.Common.{◌≡◌, drop}
-use Rattle.c_types.specs.Names.{struct_name}
+use Rattle.c_semantics.specs.Names.{struct_name}
 use Rattle.source_runner.specs.Nodes.{word}
 use Rattle.source_runner.specs.Definitions.{kept}
 use Rattle.source_runner.specs.Programs.{table_of}

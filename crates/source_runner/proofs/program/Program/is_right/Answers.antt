@@ -1,7 +1,7 @@
 use Rattle.std.proofs.Common.{sym, ap, ◌∙◌}
 use Rattle.std.specs.Prelude.{◌==◌, ◌&&◌}
 use Rattle.std.specs.Option.{is_some}
-use Rattle.c_types.specs.Texts.{definition}
+use Rattle.c_semantics.specs.Texts.{definition}
 use Rattle.source_runner.specs.Programs.{text_of, table_of, name_of}
 use Rattle.source_runner.proofs.FirstTable.{right_first, some_copied, another_version}
 use Rattle.source_runner.proofs.program.Program.is_right.Goals as goal

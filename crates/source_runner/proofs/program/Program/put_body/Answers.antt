@@ -1,8 +1,8 @@
 use Rattle.std.proofs.Common.{ℕ, ◌+◌, List, ◌∷◌, ap, ◌∙◌}
-use Rattle.c_types.specs.Values.{Value}
-use Rattle.c_types.specs.Pieces.{Piece, Sequence, Put, At}
-use Rattle.c_types.specs.Stops.{Return}
-use Rattle.c_types.specs.Points.{size_stmts}
+use Rattle.c_semantics.specs.Values.{Value}
+use Rattle.c_semantics.specs.Pieces.{Piece, Sequence, Put, At}
+use Rattle.c_semantics.specs.Stops.{Return}
+use Rattle.c_semantics.specs.Points.{size_stmts}
 use Rattle.source_runner.specs.Nodes.{statements_at}
 use Rattle.source_runner.specs.Pieces.{pending}
 use Rattle.source_runner.specs.Programs.{table_of}

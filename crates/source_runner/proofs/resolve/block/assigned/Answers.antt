@@ -1,9 +1,9 @@
 use Rattle.std.proofs.Common.{ap, ◌∙◌}
 use Rattle.std.specs.Option.{option_map_or}
 use Rattle.c_tree.specs.Bare.{bare_type}
-use Rattle.c_types.specs.Resolved.{Convert}
-use Rattle.c_types.specs.Texts.{int}
-use Rattle.c_types.specs.Resolution.{Resolved}
+use Rattle.c_semantics.specs.Resolved.{Convert}
+use Rattle.c_semantics.specs.Texts.{int}
+use Rattle.c_semantics.specs.Resolution.{Resolved}
 use Rattle.source_runner.specs.Nodes.{expression_at}
 use Rattle.source_runner.specs.Parts.{in_type}
 use Rattle.source_runner.specs.Found.{found, in_found}

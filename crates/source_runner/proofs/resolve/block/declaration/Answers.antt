@@ -1,6 +1,6 @@
 use Rattle.std.proofs.Common.{ap, ◌∙◌}
 use Rattle.c_tree.specs.Bare.{bare_type}
-use Rattle.c_types.specs.Resolved.{Declare}
+use Rattle.c_semantics.specs.Resolved.{Declare}
 use Rattle.source_runner.specs.Nodes.{word, expression_if, statement_at}
 use Rattle.source_runner.specs.Parts.{a_node_if, a_word, in_type, both}
 use Rattle.source_runner.proofs.Kept.{grows_trans, in_later, both_in, later_as}

@@ -1,5 +1,5 @@
 use Rattle.std.proofs.Common.{ap}
-use Rattle.c_types.specs.Resolution.{Resolved}
+use Rattle.c_semantics.specs.Resolution.{Resolved}
 use Rattle.source_runner.specs.Nodes.{expression_at}
 use Rattle.source_runner.proofs.Kept.{grows_trans, later_as}
 use Rattle.source_runner.proofs.resolve.block.evaluated.Goals as goal

@@ -2,8 +2,8 @@ use Rattle.std.proofs.Common.{◌∷◌, Option, Some, option_map, ap, sym, ◌�
 use Rattle.c_tree.specs.BareExpr.{BareExpr}
 use Rattle.c_tree.specs.BareDef.{BareBinding}
 use Rattle.c_tree.specs.Bare.{bare_expr, bare_declaration}
-use Rattle.c_types.specs.Resolved.{Convert, Declare}
-use Rattle.c_types.specs.Resolution.{tree_of}
+use Rattle.c_semantics.specs.Resolved.{Convert, Declare}
+use Rattle.c_semantics.specs.Resolution.{tree_of}
 use Rattle.source_runner.specs.Known.{known_of, locals_of}
 use Rattle.source_runner.proofs.resolve.block.initial.Goals as goal
 

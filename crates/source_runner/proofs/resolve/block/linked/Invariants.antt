@@ -1,5 +1,5 @@
 use Rattle.std.proofs.Common.{◌≡◌, ◌≤◌, length, map, drop}
-use Rattle.c_types.specs.Resolved.{NoStatements}
+use Rattle.c_semantics.specs.Resolved.{NoStatements}
 use Rattle.source_runner.specs.Nodes.{Table, statement_at, statements_at}
 use Rattle.source_runner.specs.Parts.{a_node}
 use Rattle.source_runner.specs.Found.{Grows, IsIn, before}

@@ -1,5 +1,5 @@
 use Rattle.std.proofs.Common.{ap}
-use Rattle.c_types.specs.Resolved.{Return}
+use Rattle.c_semantics.specs.Resolved.{Return}
 use Rattle.source_runner.specs.Nodes.{statement_at}
 use Rattle.source_runner.proofs.Kept.{grows_trans, later_as}
 use Rattle.source_runner.proofs.resolve.block.return_zero.Goals as goal

@@ -2,9 +2,9 @@ use Rattle.std.proofs.Common.{sym, ap, ◌∙◌, map}
 use Rattle.c_tree.specs.BareExpr.{Bytes, Handle}
 use Rattle.c_tree.specs.Bare.{bare_expr, bare_arguments}
 use Rattle.c_tree.proofs.Exprs.{by_node}
-use Rattle.c_types.specs.Resolved.{And, Or, JoinInto, Call, Print, New, Create, InitMutex, Lock, Unlock, Element}
-use Rattle.c_types.specs.Texts.{int, bound, global_type, result_type, parameters_of}
-use Rattle.c_types.specs.Resolution.{Resolved, resolved, resolved_all, tree_of, value, located, variable, binary, choice, assignment, update, field, passed, handed}
+use Rattle.c_semantics.specs.Resolved.{And, Or, JoinInto, Call, Print, New, Create, InitMutex, Lock, Unlock, Element}
+use Rattle.c_semantics.specs.Texts.{int, bound, global_type, result_type, parameters_of}
+use Rattle.c_semantics.specs.Resolution.{Resolved, resolved, resolved_all, tree_of, value, located, variable, binary, choice, assignment, update, field, passed, handed}
 use Rattle.source_runner.specs.Forms.{of_one, of_two, of_many}
 use Rattle.source_runner.specs.Nodes.{expression_at}
 use Rattle.source_runner.specs.Parts.{both}

@@ -1,6 +1,6 @@
 use Rattle.std.proofs.Common.{◌≡◌, map, take}
 use Rattle.c_tree.specs.Bare.{bare_expr}
-use Rattle.c_types.specs.Resolution.{tree_of}
+use Rattle.c_semantics.specs.Resolution.{tree_of}
 use Rattle.source_runner.specs.Nodes.{Table, expression_at}
 use Rattle.source_runner.specs.Found.{Grows, IsIn, each_node}
 use Rattle.source_runner.specs.Known.{known_of, locals_of}

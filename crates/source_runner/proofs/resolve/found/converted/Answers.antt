@@ -1,5 +1,5 @@
 use Rattle.std.proofs.Common.{ap}
-use Rattle.c_types.specs.Resolved.{Convert}
+use Rattle.c_semantics.specs.Resolved.{Convert}
 use Rattle.source_runner.specs.Nodes.{expression_at, type_of}
 use Rattle.source_runner.specs.Found.{in_found}
 use Rattle.source_runner.specs.Parts.{a_node, in_type}

@@ -1,5 +1,5 @@
 use Rattle.std.proofs.Common.{ap}
-use Rattle.c_types.specs.Resolution.{value}
+use Rattle.c_semantics.specs.Resolution.{value}
 use Rattle.source_runner.specs.Nodes.{type_of}
 use Rattle.source_runner.specs.Parts.{a_node, in_expression, in_type}
 use Rattle.source_runner.proofs.Kept.{in_later, both_in, left_in, right_in}

@@ -1,7 +1,7 @@
 use Rattle.std.proofs.Common.{ap, sym, ◌∙◌, Option, option_map, Bor}
 use Rattle.c_tree.specs.declared.def.Binding.{Binding}
 use Rattle.c_tree.specs.Bare.{bare_binding}
-use Rattle.c_types.specs.Resolved.{Convert}
+use Rattle.c_semantics.specs.Resolved.{Convert}
 use Rattle.source_runner.specs.Nodes.{expression_at}
 use Rattle.source_runner.specs.Found.{given}
 use Rattle.source_runner.specs.Parts.{a_node, in_type}

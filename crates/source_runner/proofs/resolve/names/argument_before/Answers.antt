@@ -1,5 +1,5 @@
 use Rattle.std.proofs.Common.{ap}
-use Rattle.c_types.specs.Resolved.{ExpressionThen}
+use Rattle.c_semantics.specs.Resolved.{ExpressionThen}
 use Rattle.source_runner.specs.Nodes.{arguments_at}
 use Rattle.source_runner.specs.Parts.{a_node}
 use Rattle.source_runner.proofs.Kept.{grows_trans, in_later, both_in, right_in, later_as, left_in}

@@ -1,5 +1,5 @@
 use Rattle.std.proofs.Common.{ap, ◌∙◌, map}
-use Rattle.c_types.specs.Resolution.{passed}
+use Rattle.c_semantics.specs.Resolution.{passed}
 use Rattle.source_runner.specs.Nodes.{expression_at}
 use Rattle.source_runner.specs.Parts.{a_word, a_node, in_type, both}
 use Rattle.source_runner.specs.Found.{found, listed}

@@ -1,6 +1,6 @@
 use Rattle.std.proofs.Common.{refl, ap, ◌∙◌, slice_get}
-use Rattle.c_types.specs.Texts.{parameters_of}
-use Rattle.c_types.specs.Resolution.{handed}
+use Rattle.c_semantics.specs.Texts.{parameters_of}
+use Rattle.c_semantics.specs.Resolution.{handed}
 use Rattle.source_runner.specs.Nodes.{expression_at}
 use Rattle.source_runner.specs.Parts.{nothing, a_word, a_node, in_place, both}
 use Rattle.source_runner.specs.Found.{found, in_found, given}

@@ -1,8 +1,8 @@
 use Rattle.std.proofs.Common.{◌≡◌, ap, ◌∙◌}
 use Rattle.c_tree.specs.BareExpr.{Bytes}
-use Rattle.c_types.specs.Names.{struct_name}
-use Rattle.c_types.specs.Texts.{bound_type, members_of}
-use Rattle.c_types.specs.Resolution.{tag_of}
+use Rattle.c_semantics.specs.Names.{struct_name}
+use Rattle.c_semantics.specs.Texts.{bound_type, members_of}
+use Rattle.c_semantics.specs.Resolution.{tag_of}
 use Rattle.source_runner.specs.Nodes.{word}
 use Rattle.source_runner.specs.Parts.{a_word, a_node, in_type, both}
 use Rattle.source_runner.specs.Found.{found}

@@ -2,8 +2,8 @@ use Rattle.std.proofs.Common.{ap, sym, ◌∙◌, map}
 use Rattle.c_tree.specs.BareExpr.{Bytes}
 use Rattle.c_tree.specs.BareDef.{BareBinding}
 use Rattle.c_tree.specs.Bare.{bare_type, bare_binding}
-use Rattle.c_types.specs.Names.{struct_name}
-use Rattle.c_types.specs.Texts.{int, bound, bound_type, members_of}
+use Rattle.c_semantics.specs.Names.{struct_name}
+use Rattle.c_semantics.specs.Texts.{int, bound, bound_type, members_of}
 use Rattle.source_runner.specs.Nodes.{type_of}
 use Rattle.source_runner.specs.Known.{known_of}
 use Rattle.source_runner.specs.Trees.{table}

@@ -1,7 +1,7 @@
 use Rattle.std.proofs.Common.{◌≡◌, ◌-◌, suc, ◌<◌, length, get_or, map, sym, ap, ◌∙◌, arith}
 use Rattle.std.proofs.lemmas.List.{get_or-map, length-map}
 use Rattle.c_tree.specs.Bare.{bare_binding}
-use Rattle.c_types.specs.Resolved.{ExpressionThen}
+use Rattle.c_semantics.specs.Resolved.{ExpressionThen}
 use Rattle.source_runner.specs.declared.node.NodeId.{NodeId}
 use Rattle.source_runner.specs.Nodes.{expression_at, arguments_at}
 use Rattle.source_runner.specs.Parts.{a_node}

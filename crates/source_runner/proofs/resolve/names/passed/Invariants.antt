@@ -1,6 +1,6 @@
 use Rattle.std.proofs.Common.{◌≡◌, ◌≤◌, length, map, drop}
 use Rattle.c_tree.specs.Bare.{bare_binding}
-use Rattle.c_types.specs.Resolution.{passed}
+use Rattle.c_semantics.specs.Resolution.{passed}
 use Rattle.source_runner.specs.Nodes.{Table, expression_at, arguments_at}
 use Rattle.source_runner.specs.Parts.{a_node}
 use Rattle.source_runner.specs.Found.{Grows, IsIn, listed}

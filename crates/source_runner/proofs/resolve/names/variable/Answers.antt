@@ -1,5 +1,5 @@
 use Rattle.c_tree.specs.Bare.{bare_type}
-use Rattle.c_types.specs.Texts.{bound}
+use Rattle.c_semantics.specs.Texts.{bound}
 use Rattle.source_runner.specs.Parts.{a_word, in_type}
 use Rattle.source_runner.specs.Known.{known_of, locals_of}
 use Rattle.source_runner.proofs.Kept.{grows_trans, in_later, both_in}

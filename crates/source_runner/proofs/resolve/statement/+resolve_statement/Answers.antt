@@ -3,9 +3,9 @@ use Rattle.std.specs.Option.{option_map_or}
 use Rattle.std.proofs.lemmas.List.{map-append}
 use Rattle.c_tree.specs.Bare.{bare_type, bare_expr, bare_stmt, bare_block}
 use Rattle.c_tree.proofs.Stmts.{by_node}
-use Rattle.c_types.specs.Resolved.{IfElse, For, NoStatements, StatementThen}
-use Rattle.c_types.specs.Texts.{int}
-use Rattle.c_types.specs.Resolution.{statement, statements, tree_of, declared_by_all}
+use Rattle.c_semantics.specs.Resolved.{IfElse, For, NoStatements, StatementThen}
+use Rattle.c_semantics.specs.Texts.{int}
+use Rattle.c_semantics.specs.Resolution.{statement, statements, tree_of, declared_by_all}
 use Rattle.source_runner.specs.Forms.{of_guarded, of_nested}
 use Rattle.source_runner.specs.Nodes.{expression_at, expression_if, statement_at, statements_at}
 use Rattle.source_runner.specs.Parts.{a_node, a_node_if, both}

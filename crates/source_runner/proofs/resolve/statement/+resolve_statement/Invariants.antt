@@ -1,8 +1,8 @@
 use Rattle.std.proofs.Common.{◌≡◌, map, drop}
 use Rattle.std.specs.Option.{option_map_or}
 use Rattle.c_tree.specs.Bare.{bare_type, bare_stmt, bare_block}
-use Rattle.c_types.specs.Texts.{int}
-use Rattle.c_types.specs.Resolution.{statements, declared_by_all}
+use Rattle.c_semantics.specs.Texts.{int}
+use Rattle.c_semantics.specs.Resolution.{statements, declared_by_all}
 use Rattle.source_runner.specs.Nodes.{Table, statement_at}
 use Rattle.source_runner.specs.Found.{Grows, IsIn, each_node, before}
 use Rattle.source_runner.specs.Known.{known_of, locals_of}

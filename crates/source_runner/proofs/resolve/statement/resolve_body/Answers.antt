@@ -1,8 +1,8 @@
 use Rattle.std.proofs.Common.{ap, ◌∙◌, map, reverse, option_map}
 use Rattle.std.specs.Prelude.{unwrap_or}
 use Rattle.c_tree.specs.Bare.{bare_type, bare_binding, bare_stmt, bare_block}
-use Rattle.c_types.specs.Texts.{int}
-use Rattle.c_types.specs.Resolution.{statements}
+use Rattle.c_semantics.specs.Texts.{int}
+use Rattle.c_semantics.specs.Resolution.{statements}
 use Rattle.source_runner.specs.Nodes.{statements_at}
 use Rattle.source_runner.specs.Known.{known_of, locals_of}
 use Rattle.source_runner.proofs.Kept.{later_as}

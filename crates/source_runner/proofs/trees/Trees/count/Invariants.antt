@@ -1,5 +1,5 @@
 use Rattle.std.proofs.Common.{◌≡◌, ◌+◌}
-use Rattle.c_types.specs.Evaluation.{count}
+use Rattle.c_semantics.specs.Evaluation.{count}
 use Rattle.source_runner.specs.Nodes.{arguments_at}
 use Rattle.source_runner.specs.Trees.{table}
 use Rattle.source_runner.proofs.trees.Trees.count.Given as goal

@@ -1,6 +1,6 @@
 use Rattle.std.proofs.Common.{◌≡◌, map, drop, find}
 use Rattle.c_tree.specs.Bare.{bare_def}
-use Rattle.c_types.specs.Texts.{defines}
+use Rattle.c_semantics.specs.Texts.{defines}
 use Rattle.source_runner.proofs.resolve.known.Known.definition.Given as goal
 
 abbrev pub invariant-loop-definition : goal.invariant-loop-definition

@@ -1,0 +1,18 @@
+//! Reads a text: its bytes become a tree whose types are right, or the first fault of the text.
+//!
+//! The contract of [`read_text`] is exact: a text is read exactly where it is accepted, as the tree that
+//! `specs/Accepted.antt` gives it, and each fault is answered exactly where it is the text's first. Only
+//! want of memory is left open. Faults come by layer: one of the tokens, wherever it stands, before each
+//! of syntax, and that before each of types.
+//!
+//! - `fault`: what may be wrong with a text
+//! - `read`: the call
+#![tactic(auto)]
+
+mod fault;
+mod read;
+#[cfg(test)]
+mod tests;
+
+pub use fault::{FaultKind, TextFault};
+pub use read::read_text;

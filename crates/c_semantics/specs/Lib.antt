@@ -1,0 +1,15 @@
+pub mod Names
+pub mod Texts
+pub mod Values
+pub mod Resolved
+pub mod Resolution
+pub mod Points
+pub mod Stops
+pub mod Pieces
+pub mod Evaluation
+pub mod Skeletons
+pub mod Threads
+pub mod Same
+pub mod Changes
+pub mod Constants
+pub mod Transformers

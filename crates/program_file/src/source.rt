@@ -1,0 +1,85 @@
+ghost use Rattle.std.specs.Prelude.{◌≡◌, ◌⊎◌, ◌≤◌, ℕ, List, length, min, IfOk, IfErr, IsErrOf, MatchResult, Some, Err};
+ghost use Rattle.dsu_io.specs.Causes.{Rose};
+ghost use Rattle.dsu_io.specs.Files.{IsContent};
+ghost use Rattle.c_tree.specs.declared.def.Program.{Program};
+ghost use Rattle.c_front.specs.declared.fault.FaultKind.{FaultKind};
+ghost use Rattle.c_front.specs.Accepted.{Accepted, FirstFault};
+ghost use Rattle.program_file.specs.Lines.{line_of};
+ghost use Rattle.program_file.specs.Sources.{Exceeds, IsFirstLine, IsOfSource, IsShort};
+
+use c_front::{FaultKind, TextFault, read_text};
+use c_types::Typed;
+use dsu_io::{FileFault, Files};
+use dsu_report::{FaultLine, place_of};
+use std::alloc::Global;
+
+/// How many bytes a C text may have.
+pub const TEXT_LIMIT: usize = 1024 * 1024;
+
+/// A file's text and its tree.
+#[derive(Drop)]
+pub struct Source {
+    pub text: Vec<u8>,
+    pub typed: Typed,
+}
+
+// Reads the file.
+fn bytes_of<F: Files>(alloc: Global, files: &mut F, file: &str) -> Result<Vec<u8>, FaultLine>
+    ensures read { IfOk result (λ text. IsContent (F.content files.old file.now) text.items × (length text.items ≤ TEXT_LIMIT)) }
+    ensures unread { IsErrOf result FaultLine.Unread → Rose (F.faults files.old) (F.faults files.new) }
+    ensures too_long { IsErrOf result FaultLine.TooLong → Exceeds (F.content files.old file.now) }
+    ensures others { IfErr result (λ line. (line ≡ FaultLine.Unread) ⊎ ((line ≡ FaultLine.TooLong) ⊎ (line ≡ FaultLine.Memory))) }
+{
+    let mut text = Vec::new(alloc);
+    match files.read(file, &mut text, TEXT_LIMIT) {
+        Ok(()) => Ok(text),
+        Err(FileFault::Failed) => Err(FaultLine::Unread),
+        Err(FileFault::TooLong) => Err(FaultLine::TooLong),
+        Err(FileFault::Memory) => Err(FaultLine::Memory),
+    }
+}
+
+// The line of a fault at a byte of a text.
+fn line_of(text: &[u8], wrong: FaultKind, at: usize) -> FaultLine
+    requires { length text.now ≤ TEXT_LIMIT }
+    ensures { result ≡ line_of text.now wrong at }
+{
+    let place = place_of(text, at.min(text.len()));
+    FaultLine::Place(place.line, place.column, wrong)
+}
+
+// The tree of a text, or the line of its first fault.
+fn tree_of(alloc: Global, text: &[u8]) -> Result<Typed, FaultLine>
+    requires { length text.now ≤ TEXT_LIMIT }
+    ensures accepted { IfOk result (λ typed. Accepted text.now typed) }
+    ensures refused { IfErr result (λ line. (line ≡ FaultLine.Memory) ⊎ IsFirstLine text.now line) }
+    ensures complete { (program : Program) → Accepted text.now program
+        → MatchResult result (λ typed. typed ≡ program) (λ line. line ≡ FaultLine.Memory) }
+    ensures first { (what : FaultKind) (at : ℕ) → FirstFault text.now what at
+        → (result ≡ Err (line_of text.now what at)) ⊎ (result ≡ Err FaultLine.Memory) }
+{
+    match read_text(alloc, text) {
+        Ok(typed) => Ok(typed),
+        Err(TextFault::Refused(wrong, at)) => Err(line_of(text, wrong, at)),
+        Err(TextFault::Memory) => Err(FaultLine::Memory),
+    }
+}
+
+/// Reads the file, and its text.
+pub fn source_of<F: Files>(alloc: Global, files: &mut F, file: &str) -> Result<Source, FaultLine>
+    ensures read { IfOk result (λ source. IsContent (F.content files.old file.now) source.text.items
+        × (length source.text.items ≤ TEXT_LIMIT) × Accepted source.text.items source.typed) }
+    ensures unread { IsErrOf result FaultLine.Unread → Rose (F.faults files.old) (F.faults files.new) }
+    ensures too_long { IsErrOf result FaultLine.TooLong → Exceeds (F.content files.old file.now) }
+    ensures others { IfErr result (λ line. IsOfSource (F.content files.old file.now) line) }
+    // A text that is told and accepted is read, if the file and memory don't fail.
+    ensures complete { (text : List ℕ) (program : Program) → F.content files.old file.now ≡ Some text → length text ≤ TEXT_LIMIT
+        → Accepted text program → MatchResult result (λ source. source.typed ≡ program) (λ line. IsShort line) }
+    // And the first fault of a text that is told is answered.
+    ensures first { (text : List ℕ) (what : FaultKind) (at : ℕ) → F.content files.old file.now ≡ Some text → length text ≤ TEXT_LIMIT
+        → FirstFault text what at → IsErrOf result (line_of text what at) ⊎ IsErrOf result FaultLine.Unread ⊎ IsErrOf result FaultLine.Memory }
+{
+    let text = bytes_of(alloc, files, file)?;
+    let typed = tree_of(alloc, &text)?;
+    Ok(Source { text, typed })
+}
