@@ -9,7 +9,7 @@ use Rattle.source_model.specs.Worlds as world
 use Rattle.source_runner.specs.declared.machine.Machine.{Machine}
 use Rattle.source_runner.specs.declared.thread.Slot.{Slot}
 use Rattle.source_runner.specs.declared.thread.Slot.TheVariants.{Free}
-use Rattle.source_runner.specs.Nodes.{Table}
+use Rattle.resolved_tree.specs.Nodes.{Table}
 use Rattle.source_runner.specs.Programs.{IsProgram, table_of, text_of}
 use Rattle.source_runner.specs.Stores.{globals_of, holders_of, objects_of}
 use Rattle.source_runner.specs.Machines.{AreClosed, IsSlot, Stands, finish_of, slot_at}

@@ -8,15 +8,15 @@ use Rattle.c_semantics.specs.Threads.{Frame as SeenFrame, Thread as SeenThread}
 use Rattle.source_model.specs.Worlds.{World, with_thread, with_slot}
 use Rattle.source_model.specs.Worlds as world
 use Rattle.source_model.specs.Moves.{call, finish_thread, gone_on, arguments_of, number_of, return, return_to}
-use Rattle.source_runner.specs.declared.value.Value.{Value}
-use Rattle.source_runner.specs.declared.words.Word.{Word}
+use Rattle.local_evaluation.specs.declared.value.Value.{Value}
+use Rattle.resolved_tree.specs.declared.words.Word.{Word}
 use Rattle.source_runner.specs.declared.thread.Frame.{Frame}
 use Rattle.source_runner.specs.declared.thread.Next.TheVariants as next
 use Rattle.source_runner.specs.declared.thread.Thread.{Thread}
-use Rattle.source_runner.specs.Nodes.{Table, word}
+use Rattle.resolved_tree.specs.Nodes.{Table, word}
 use Rattle.source_runner.specs.Frames.{frame_of, frames_of}
-use Rattle.source_runner.specs.Values.{seen}
-use Rattle.source_runner.specs.Work.{newest}
+use Rattle.local_evaluation.specs.Values.{seen}
+use Rattle.local_evaluation.specs.Work.{newest}
 use Rattle.source_runner.specs.Machines.{IsThread, IsUser, frame_at, standing_at}
 use Rattle.source_runner.proofs.Stored.{frame_then}
 use Rattle.source_runner.proofs.Transactions.{Goes}

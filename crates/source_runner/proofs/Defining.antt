@@ -10,12 +10,12 @@ use Rattle.c_tree.specs.BareDef.{BareBinding, BareDef, Struct}
 use Rattle.c_semantics.specs.Names.{struct_name}
 use Rattle.c_semantics.specs.Resolved.{NoStatements}
 use Rattle.c_semantics.specs.Texts.{Definitions, defined, defines, definition}
-use Rattle.source_runner.specs.declared.node.ValueType.TheVariants.{Integer}
+use Rattle.resolved_tree.specs.declared.node.ValueType.TheVariants.{Integer}
 use Rattle.source_runner.specs.declared.program.Binding.{Binding}
 use Rattle.source_runner.specs.declared.program.Definition.{Definition}
-use Rattle.source_runner.specs.declared.words.Word.{Word}
-use Rattle.source_runner.specs.Nodes.{Table, word, type_of, statements_at}
-use Rattle.source_runner.specs.Found.{Grows}
+use Rattle.resolved_tree.specs.declared.words.Word.{Word}
+use Rattle.resolved_tree.specs.Nodes.{Table, word, type_of, statements_at}
+use Rattle.resolved_tree.specs.Found.{Grows}
 use Rattle.source_runner.specs.Definitions.{bindings_of, kept, IsDefinition, IsPlain, Defines, DefinesIf}
 
 -- ---- one definition

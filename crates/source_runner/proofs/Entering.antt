@@ -7,14 +7,14 @@ use Rattle.c_semantics.specs.Pieces.{Scopes, Variable}
 use Rattle.c_semantics.specs.Evaluation.{declared}
 use Rattle.c_semantics.specs.Threads.{bind}
 use Rattle.source_runner.specs.declared.program.Binding.{Binding}
-use Rattle.source_runner.specs.declared.work.Local.{Local}
-use Rattle.source_runner.specs.declared.work.Local.TheVariants.{Block, Variable as VariableIs}
-use Rattle.source_runner.specs.declared.value.Value.{Value as Held}
-use Rattle.source_runner.specs.Nodes.{Table, word, type_of}
-use Rattle.source_runner.specs.Values.{seen}
-use Rattle.source_runner.specs.Work.{scopes_of}
+use Rattle.local_evaluation.specs.declared.work.Local.{Local}
+use Rattle.local_evaluation.specs.declared.work.Local.TheVariants.{Block, Variable as VariableIs}
+use Rattle.local_evaluation.specs.declared.value.Value.{Value as Held}
+use Rattle.resolved_tree.specs.Nodes.{Table, word, type_of}
+use Rattle.local_evaluation.specs.Values.{seen}
+use Rattle.local_evaluation.specs.Work.{scopes_of}
 use Rattle.source_runner.specs.Definitions.{binding_of, bindings_of}
-use Rattle.source_runner.proofs.Variables.{scopes_push}
+use Rattle.local_evaluation.proofs.Variables.{scopes_push}
 
 drop_none : (i : ℕ) → drop {A = Value} i [] ≡ []
 drop_none zero = refl

@@ -13,8 +13,8 @@ use Rattle.source_runner.specs.declared.thread.Enter.{Enter}
 use Rattle.source_runner.specs.declared.thread.Next.{Next}
 use Rattle.source_runner.specs.declared.thread.Next.TheVariants as next
 use Rattle.source_runner.specs.declared.thread.Thread.{Thread}
-use Rattle.source_runner.specs.Nodes.{Table, word}
-use Rattle.source_runner.specs.Values.{seen}
+use Rattle.resolved_tree.specs.Nodes.{Table, word}
+use Rattle.local_evaluation.specs.Values.{seen}
 use Rattle.source_runner.specs.Frames.{frame_of}
 use Rattle.source_runner.specs.Machines.{IsThread, enter_of}
 use Rattle.std.proofs.lemmas.List.{length-map, length-reverse}

@@ -13,17 +13,17 @@ use Rattle.c_semantics.specs.Values.{Value as Seen, Reference, int_of}
 use Rattle.source_model.specs.Worlds.{World}
 use Rattle.source_model.specs.Worlds as world
 use Rattle.source_model.specs.Moves.{Standing, goes_on, traps, on_object, with_object, read_field, write_field, release, new_object}
-use Rattle.source_runner.specs.declared.value.ObjectId.{ObjectId}
-use Rattle.source_runner.specs.declared.value.Value.{Value}
-use Rattle.source_runner.specs.declared.value.Value.TheVariants.{Number, Reference as ReferenceIs, Started}
+use Rattle.local_evaluation.specs.declared.value.ObjectId.{ObjectId}
+use Rattle.local_evaluation.specs.declared.value.Value.{Value}
+use Rattle.local_evaluation.specs.declared.value.Value.TheVariants.{Number, Reference as ReferenceIs, Started}
 use Rattle.source_runner.specs.declared.store.Field.{Field}
 use Rattle.source_runner.specs.declared.store.Object.{Object}
 use Rattle.source_runner.specs.declared.store.Store.{Store}
 use Rattle.source_runner.specs.declared.perform.Did.TheVariants.{On, Trap, Nothing}
-use Rattle.source_runner.specs.Nodes.{Table, word}
-use Rattle.source_runner.specs.Values.{seen, seen_object}
+use Rattle.resolved_tree.specs.Nodes.{Table, word}
+use Rattle.local_evaluation.specs.Values.{seen, seen_object}
 use Rattle.source_runner.specs.Stores.{Performs, standing_with, with_store, field_of, fields_of, object_of, objects_of}
-use Rattle.source_runner.specs.Work.{newest}
+use Rattle.local_evaluation.specs.Work.{newest}
 use Rattle.source_runner.proofs.Performing.{goes, other_number}
 
 -- the first field of a name changed

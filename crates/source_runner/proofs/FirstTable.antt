@@ -18,7 +18,7 @@ use Rattle.c_semantics.specs.Changes.{same_interface, agree}
 use Rattle.source_model.specs.Versions.{Entry, Versioned, entries_of, belongs, entry_in, in_version, current, latest, first_entry, first_table}
 use Rattle.source_model.specs.Uses.{is_right, use_of}
 use Rattle.source_runner.specs.declared.program.Definition.{Definition}
-use Rattle.source_runner.specs.Nodes.{Table as Trees, word}
+use Rattle.resolved_tree.specs.Nodes.{Table as Trees, word}
 use Rattle.source_runner.specs.Definitions.{kept, AreDefinitions}
 
 -- ---- texts as names

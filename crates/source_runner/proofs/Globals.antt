@@ -17,15 +17,15 @@ use Rattle.source_model.specs.Worlds.{World, with_cells, with_cells_in, cells_of
 use Rattle.source_model.specs.Worlds as world
 use Rattle.source_model.specs.Moves.{in_bounds, goes_on, traps, read_element, write_element}
 use Rattle.c_semantics.specs.Transformers.{first_cell}
-use Rattle.source_runner.specs.declared.value.Value.{Value}
-use Rattle.source_runner.specs.declared.value.Value.TheVariants.{Number as NumberIs, Reference, Started}
+use Rattle.local_evaluation.specs.declared.value.Value.{Value}
+use Rattle.local_evaluation.specs.declared.value.Value.TheVariants.{Number as NumberIs, Reference, Started}
 use Rattle.source_runner.specs.declared.store.Store.{Store}
 use Rattle.source_runner.specs.declared.perform.Did.TheVariants.{On, Trap, Nothing}
 use Rattle.source_runner.specs.declared.store.Cells.{Cells}
-use Rattle.source_runner.specs.Nodes.{Table, word}
-use Rattle.source_runner.specs.Values.{seen}
+use Rattle.resolved_tree.specs.Nodes.{Table, word}
+use Rattle.local_evaluation.specs.Values.{seen}
 use Rattle.source_runner.specs.Stores.{Performs, standing_with, with_store, cells_of, globals_of}
-use Rattle.source_runner.specs.Work.{newest}
+use Rattle.local_evaluation.specs.Work.{newest}
 use Rattle.source_runner.proofs.Performing.{goes}
 
 abbrev pub named : Bytes → world.Cells → Bool

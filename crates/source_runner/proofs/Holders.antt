@@ -7,12 +7,12 @@ use Rattle.c_semantics.specs.Stops.{InitMutex, Lock, Unlock}
 use Rattle.c_semantics.specs.Values.{int_of}
 use Rattle.source_model.specs.Worlds.{World, holder_of, with_holder, released}
 use Rattle.source_model.specs.Moves.{initialise, lock, unlock, goes_on, traps}
-use Rattle.source_runner.specs.declared.value.Value.{Value}
+use Rattle.local_evaluation.specs.declared.value.Value.{Value}
 use Rattle.source_runner.specs.declared.store.Store.{Store}
 use Rattle.source_runner.specs.declared.store.Held.{Held}
 use Rattle.source_runner.specs.declared.perform.Did.TheVariants.{On, Trap}
-use Rattle.source_runner.specs.Nodes.{Table}
-use Rattle.source_runner.specs.Work.{newest}
+use Rattle.resolved_tree.specs.Nodes.{Table}
+use Rattle.local_evaluation.specs.Work.{newest}
 use Rattle.source_runner.specs.Stores.{Performs, standing_with, with_store, holders_of, held_of}
 use Rattle.source_runner.proofs.Newest.{last_first, filtered}
 use Rattle.source_runner.proofs.Performing.{goes, same_number, other_number}

@@ -9,8 +9,8 @@ use Rattle.bytecode.specs.declared.trap.TrapKind.TheVariants.{Join as NotJoined}
 use Rattle.source_model.specs.Worlds.{World, in_slot, with_slot}
 use Rattle.source_model.specs.Worlds as world
 use Rattle.source_model.specs.Moves.{Standing, goes_on, join, join_slot, traps}
-use Rattle.source_runner.specs.declared.value.Value.{Value}
-use Rattle.source_runner.specs.declared.value.ThreadRef.{ThreadRef}
+use Rattle.local_evaluation.specs.declared.value.Value.{Value}
+use Rattle.local_evaluation.specs.declared.value.ThreadRef.{ThreadRef}
 use Rattle.source_runner.specs.declared.thread.Thread.{Thread}
 use Rattle.source_runner.specs.declared.thread.Frame.{Frame}
 use Rattle.source_runner.specs.declared.thread.Slot.{Slot}
@@ -18,11 +18,11 @@ use Rattle.source_runner.specs.declared.thread.Slot.TheVariants.{Free, Live, Ove
 use Rattle.source_runner.specs.declared.moves.Joined.{Joined}
 use Rattle.source_runner.specs.declared.moves.Joined.TheVariants.{Result, Waits, None as NoThread}
 use Rattle.source_runner.specs.declared.machine.Machine.{Machine}
-use Rattle.source_runner.specs.Nodes.{Table}
+use Rattle.resolved_tree.specs.Nodes.{Table}
 use Rattle.source_runner.specs.Programs.{table_of}
 use Rattle.source_runner.specs.Joins.{asked, of_slot}
-use Rattle.source_runner.specs.Values.{seen, seen_thread}
-use Rattle.source_runner.specs.Work.{newest}
+use Rattle.local_evaluation.specs.Values.{seen, seen_thread}
+use Rattle.local_evaluation.specs.Work.{newest}
 use Rattle.source_runner.specs.Machines.{IsSlot, StandsBut, slot_at, standing_at}
 use Rattle.source_runner.proofs.Spawns.{nat_dec}
 

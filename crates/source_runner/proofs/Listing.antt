@@ -14,7 +14,7 @@ use Rattle.source_model.specs.Spans as seen
 use Rattle.source_runner.specs.declared.machine.Machine.{Machine}
 use Rattle.source_runner.specs.declared.thread.Slot.{Slot}
 use Rattle.source_runner.specs.declared.thread.Slot.TheVariants.{Free, Live, Over}
-use Rattle.source_runner.specs.Nodes.{Table}
+use Rattle.resolved_tree.specs.Nodes.{Table}
 use Rattle.source_runner.specs.Programs.{text_of, table_of}
 use Rattle.source_runner.specs.Machines.{AreClosed, IsOfFirst, IsSlot, Stands, slot_at}
 use Rattle.source_runner.specs.Listed.{closed_span, open_span, span_in, spans_from, spans_of}

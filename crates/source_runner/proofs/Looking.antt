@@ -10,18 +10,18 @@ use Rattle.c_semantics.specs.Threads.{Thread as SeenThread}
 use Rattle.source_model.specs.Guards.{frames_lead, move_leads}
 use Rattle.source_model.specs.Moves.{stop_made, thread_move}
 use Rattle.source_model.specs.Worlds.{World, in_slot, is_over}
-use Rattle.source_runner.specs.declared.piece.Stop.{Stop}
-use Rattle.source_runner.specs.declared.work.Halt.TheVariants.{At}
+use Rattle.local_evaluation.specs.declared.piece.Stop.{Stop}
+use Rattle.local_evaluation.specs.declared.work.Halt.TheVariants.{At}
 use Rattle.source_runner.specs.declared.thread.Frame.{Frame}
 use Rattle.source_runner.specs.declared.thread.Next.{Next}
 use Rattle.source_runner.specs.declared.thread.Next.TheVariants.{Halt}
 use Rattle.source_runner.specs.declared.thread.Thread.{Thread}
 use Rattle.source_runner.specs.declared.thread.Slot.TheVariants.{Live}
 use Rattle.source_runner.specs.declared.machine.Machine.{Machine}
-use Rattle.source_runner.specs.Nodes.{Table}
+use Rattle.resolved_tree.specs.Nodes.{Table}
 use Rattle.source_runner.specs.Frames.{frames_of}
 use Rattle.source_runner.specs.Machines.{IsThread, Stands, frame_at, slot_at}
-use Rattle.source_runner.specs.Pieces.{stop_of}
+use Rattle.local_evaluation.specs.Pieces.{stop_of}
 use Rattle.source_runner.proofs.Halted.{not_over}
 use Rattle.source_runner.proofs.Stopping.{resumes_at, thread_at}
 use Rattle.source_runner.proofs.Taking.{lives}

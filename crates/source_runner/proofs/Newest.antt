@@ -3,9 +3,9 @@ use Rattle.std.proofs.Common.{◌≡◌, ℕ, ◌+◌, ◌-◌, ◌≤◌, min, 
 use Rattle.std.proofs.lemmas.List.{take_more, take_more_set, take_all, take_at, drop_at, take_min, drop_min, take-append-drop, take-map, length-reverse, length-drop, length-map, length-set, length-take, get_or-take, take-take, map-append, append-nil, reverse-append, reverse-reverse}
 use Rattle.std.proofs.lemmas.List.Elements.{filter-append}
 use Rattle.c_semantics.specs.Values.{Value as Seen}
-use Rattle.source_runner.specs.declared.value.Value.{Value as Held}
-use Rattle.source_runner.specs.Values.{seen}
-use Rattle.source_runner.specs.Work.{newest}
+use Rattle.local_evaluation.specs.declared.value.Value.{Value as Held}
+use Rattle.local_evaluation.specs.Values.{seen}
+use Rattle.local_evaluation.specs.Work.{newest}
 
 -- one more at either end
 pub last_first : {X Y : Type 0} (f : X → Y) (xs : List X) (x : X) → map f (reverse (xs ++ x ∷ [])) ≡ f x ∷ map f (reverse xs)

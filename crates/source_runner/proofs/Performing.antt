@@ -6,12 +6,12 @@ use Rattle.c_semantics.specs.Stops.{Stop}
 use Rattle.c_semantics.specs.Values.{Value as Seen}
 use Rattle.source_model.specs.Worlds.{World, now}
 use Rattle.source_model.specs.Moves.{Standing, goes_on, perform}
-use Rattle.source_runner.specs.declared.value.Value.{Value}
+use Rattle.local_evaluation.specs.declared.value.Value.{Value}
 use Rattle.source_runner.specs.declared.store.Store.{Store}
 use Rattle.source_runner.specs.declared.perform.Did.{Did}
 use Rattle.source_runner.specs.declared.perform.Did.TheVariants.{On}
-use Rattle.source_runner.specs.Nodes.{Table}
-use Rattle.source_runner.specs.Work.{newest}
+use Rattle.resolved_tree.specs.Nodes.{Table}
+use Rattle.local_evaluation.specs.Work.{newest}
 use Rattle.source_runner.specs.Stores.{Performs, standing_with, with_store}
 
 -- the thread goes on: what is shared changes as the stop says, and so do the values

@@ -7,12 +7,12 @@ use Rattle.c_semantics.specs.Values.{int_of}
 use Rattle.source_model.specs.Worlds.{World}
 use Rattle.source_model.specs.Moves.{arguments_of}
 use Rattle.source_model.specs.Printing.{printed}
-use Rattle.source_runner.specs.declared.value.Value.{Value}
+use Rattle.local_evaluation.specs.declared.value.Value.{Value}
 use Rattle.source_runner.specs.declared.store.Store.{Store}
 use Rattle.source_runner.specs.declared.perform.Did.TheVariants.{On}
-use Rattle.source_runner.specs.Nodes.{Table}
+use Rattle.resolved_tree.specs.Nodes.{Table}
 use Rattle.source_runner.specs.Stores.{Performs, with_store}
-use Rattle.source_runner.specs.Work.{newest}
+use Rattle.local_evaluation.specs.Work.{newest}
 use Rattle.source_runner.proofs.Performing.{goes}
 
 pub prints : (t : Table) (text : List BareDef) (slot : ℕ) (old new : Store) (format : Bytes) (n : ℕ) (values after : List Value)

@@ -3,14 +3,14 @@ use Rattle.std.proofs.Common.{◌≡◌, Bool, List, Some, refl, subst}
 use Rattle.c_tree.specs.BareDef.{BareDef}
 use Rattle.c_semantics.specs.Threads.{Thread as SeenThread}
 use Rattle.c_semantics.specs.Evaluation.{local}
-use Rattle.source_runner.specs.declared.work.Halt.{Halt}
-use Rattle.source_runner.specs.declared.work.Work.{Work}
+use Rattle.local_evaluation.specs.declared.work.Halt.{Halt}
+use Rattle.local_evaluation.specs.declared.work.Work.{Work}
 use Rattle.source_runner.specs.declared.thread.Frame.{Frame}
 use Rattle.source_runner.specs.declared.thread.Next.TheVariants as next
 use Rattle.source_runner.specs.declared.thread.Thread.{Thread}
-use Rattle.source_runner.specs.Nodes.{Table}
-use Rattle.source_runner.specs.Pieces.{pending}
-use Rattle.source_runner.specs.Work.{newest, scopes_of, went}
+use Rattle.resolved_tree.specs.Nodes.{Table}
+use Rattle.local_evaluation.specs.Pieces.{pending}
+use Rattle.local_evaluation.specs.Work.{newest, scopes_of, went}
 use Rattle.source_runner.specs.Machines.{IsReady, IsThread}
 use Rattle.source_runner.specs.Frames.{frame_of}
 

@@ -4,8 +4,8 @@ use Rattle.std.proofs.lemmas.List.{map-append, length-map, take-map, drop-map, d
 use Rattle.c_tree.specs.BareExpr.{BareType}
 use Rattle.c_semantics.specs.Values.{Value, zero_of}
 use Rattle.c_semantics.specs.Constants.{filled}
-use Rattle.source_runner.specs.declared.value.Value.{Value as Held}
-use Rattle.source_runner.specs.Values.{seen}
+use Rattle.local_evaluation.specs.declared.value.Value.{Value as Held}
+use Rattle.local_evaluation.specs.Values.{seen}
 
 -- the values from one on, where there is one
 pub from_one : (xs : List Held) (i : ℕ) (x : Held) → i < length xs → x ≡ get_or xs i x

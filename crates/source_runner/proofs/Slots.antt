@@ -9,7 +9,7 @@ use Rattle.source_model.specs.Worlds.{World, is_over, in_slot, with_slot}
 use Rattle.source_model.specs.Worlds as world
 use Rattle.source_runner.specs.declared.thread.Slot.{Slot}
 use Rattle.source_runner.specs.declared.machine.Machine.{Machine}
-use Rattle.source_runner.specs.Nodes.{Table}
+use Rattle.resolved_tree.specs.Nodes.{Table}
 use Rattle.source_runner.specs.Programs.{text_of, table_of}
 use Rattle.source_runner.specs.Machines.{IsSlot, Stands, StandsBut, slot_at}
 

@@ -12,18 +12,18 @@ use Rattle.c_semantics.specs.Threads.{Enter as SeenEnter, Thread as SeenThread, 
 use Rattle.source_model.specs.Worlds.{World, is_over, in_slot, with_slot, with_thread}
 use Rattle.source_model.specs.Worlds as world
 use Rattle.source_model.specs.Moves.{Standing, goes_on, gone_on, is_free, spawn, start_in}
-use Rattle.source_runner.specs.declared.value.Value.{Value}
-use Rattle.source_runner.specs.declared.value.Value.TheVariants.{Started}
-use Rattle.source_runner.specs.declared.value.ThreadRef.{ThreadRef}
-use Rattle.source_runner.specs.declared.words.Word.{Word}
+use Rattle.local_evaluation.specs.declared.value.Value.{Value}
+use Rattle.local_evaluation.specs.declared.value.Value.TheVariants.{Started}
+use Rattle.local_evaluation.specs.declared.value.ThreadRef.{ThreadRef}
+use Rattle.resolved_tree.specs.declared.words.Word.{Word}
 use Rattle.source_runner.specs.declared.thread.Slot.{Slot}
 use Rattle.source_runner.specs.declared.thread.Slot.TheVariants.{Free, Live, Over}
 use Rattle.source_runner.specs.declared.machine.Machine.{Machine}
-use Rattle.source_runner.specs.Nodes.{Table, word}
+use Rattle.resolved_tree.specs.Nodes.{Table, word}
 use Rattle.source_runner.specs.Programs.{text_of, table_of}
 use Rattle.source_runner.specs.Joins.{is_free_slot}
-use Rattle.source_runner.specs.Values.{seen}
-use Rattle.source_runner.specs.Work.{newest}
+use Rattle.local_evaluation.specs.Values.{seen}
+use Rattle.local_evaluation.specs.Work.{newest}
 use Rattle.source_runner.specs.declared.thread.Frame.{Frame}
 use Rattle.source_runner.specs.declared.thread.Thread.{Thread}
 use Rattle.source_runner.specs.Machines.{IsPut, IsSlot, IsStarted, StandsBut, enter_with, slot_at, standing_at, started_as, started_in}

@@ -17,20 +17,20 @@ use Rattle.source_model.specs.Worlds.{World, Trapped, holder_of, is_over, with_t
 use Rattle.source_model.specs.Worlds as world
 use Rattle.source_model.specs.Uses.{use_at, use_of, is_right, recorded, recorded_at, marked}
 use Rattle.source_model.specs.Moves.{behind, in_frames, is_others, must_wait, perform, stop_made, with_use}
-use Rattle.source_runner.specs.declared.words.Word.{Word}
-use Rattle.source_runner.specs.declared.piece.Stop.{Stop}
-use Rattle.source_runner.specs.declared.piece.Stop.TheVariants.{ReadGlobal, WriteGlobal, ReadElement, WriteElement, ReadField, WriteField, New, Free, Print, InitMutex, Lock, Unlock, Spawn, Join, Call, Return, Back, Begin, End, Update}
-use Rattle.source_runner.specs.declared.work.Halt.{Halt}
-use Rattle.source_runner.specs.declared.work.Halt.TheVariants.{At, Trap, Nothing}
+use Rattle.resolved_tree.specs.declared.words.Word.{Word}
+use Rattle.local_evaluation.specs.declared.piece.Stop.{Stop}
+use Rattle.local_evaluation.specs.declared.piece.Stop.TheVariants.{ReadGlobal, WriteGlobal, ReadElement, WriteElement, ReadField, WriteField, New, Free, Print, InitMutex, Lock, Unlock, Spawn, Join, Call, Return, Back, Begin, End, Update}
+use Rattle.local_evaluation.specs.declared.work.Halt.{Halt}
+use Rattle.local_evaluation.specs.declared.work.Halt.TheVariants.{At, Trap, Nothing}
 use Rattle.source_runner.specs.declared.thread.Frame.{Frame}
 use Rattle.source_runner.specs.declared.thread.Next.{Next}
 use Rattle.source_runner.specs.declared.thread.Next.TheVariants as next
 use Rattle.source_runner.specs.declared.thread.Thread.{Thread}
 use Rattle.source_runner.specs.declared.machine.Machine.{Machine}
-use Rattle.source_runner.specs.Nodes.{Table, word}
+use Rattle.resolved_tree.specs.Nodes.{Table, word}
 use Rattle.source_runner.specs.Stores.{is_threads, with_store}
-use Rattle.source_runner.specs.Pieces.{pending, stop_of}
-use Rattle.source_runner.specs.Work.{newest, scopes_of, went}
+use Rattle.local_evaluation.specs.Pieces.{pending, stop_of}
+use Rattle.local_evaluation.specs.Work.{newest, scopes_of, went}
 use Rattle.source_runner.specs.Programs.{text_of, table_of}
 use Rattle.source_runner.proofs.FirstUse.{first_use}
 use Rattle.source_runner.proofs.Halted.{with_same}

@@ -7,21 +7,21 @@ use Rattle.c_tree.specs.BareDef.{BareDef}
 use Rattle.c_semantics.specs.Threads.{Frame as SeenFrame, Thread as SeenThread, next_of}
 use Rattle.source_model.specs.Worlds.{World}
 use Rattle.source_model.specs.Moves.{gone_on, perform}
-use Rattle.source_runner.specs.declared.value.Value.{Value}
-use Rattle.source_runner.specs.declared.piece.Stop.{Stop}
+use Rattle.local_evaluation.specs.declared.value.Value.{Value}
+use Rattle.local_evaluation.specs.declared.piece.Stop.{Stop}
 use Rattle.source_runner.specs.declared.store.Store.{Store}
 use Rattle.source_runner.specs.declared.perform.Did.{Did}
 use Rattle.source_runner.specs.declared.perform.Did.TheVariants.{Nothing}
-use Rattle.source_runner.specs.declared.work.Halt.{Halt}
+use Rattle.local_evaluation.specs.declared.work.Halt.{Halt}
 use Rattle.source_runner.specs.declared.thread.Frame.{Frame}
 use Rattle.source_runner.specs.declared.thread.Next.{Next}
 use Rattle.source_runner.specs.declared.thread.Next.TheVariants as next
 use Rattle.source_runner.specs.declared.thread.Thread.{Thread}
 use Rattle.source_runner.specs.declared.program.Program.{Program}
 use Rattle.source_runner.specs.declared.machine.Machine.{Machine}
-use Rattle.source_runner.specs.Nodes.{Table}
-use Rattle.source_runner.specs.Pieces.{pending, stop_of}
-use Rattle.source_runner.specs.Work.{newest, scopes_of, went}
+use Rattle.resolved_tree.specs.Nodes.{Table}
+use Rattle.local_evaluation.specs.Pieces.{pending, stop_of}
+use Rattle.local_evaluation.specs.Work.{newest, scopes_of, went}
 use Rattle.source_runner.specs.Programs.{text_of, table_of}
 use Rattle.source_runner.specs.Stores.{Kept, Performs, came_to, standing_with, with_store}
 use Rattle.source_runner.specs.Machines.{IsFrame, IsReady, IsThread, IsUser, Moves, StandsBut, standing_at}

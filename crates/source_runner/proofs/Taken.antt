@@ -4,9 +4,9 @@ use Rattle.std.specs.Prelude.{Vec, OnOk}
 use Rattle.std.specs.declared.alloc.AllocError.{AllocError}
 use Rattle.std.specs.declared.alloc.Global.{Global}
 use Rattle.source_model.specs.Moves.{arguments_of}
-use Rattle.source_runner.specs.declared.value.Value.{Value}
-use Rattle.source_runner.specs.Values.{seen}
-use Rattle.source_runner.specs.Work.{newest}
+use Rattle.local_evaluation.specs.declared.value.Value.{Value}
+use Rattle.local_evaluation.specs.Values.{seen}
+use Rattle.local_evaluation.specs.Work.{newest}
 use Rattle.source_runner.proofs.Newest.{take_last, drop_last}
 
 pub arguments_taken : (r : Result (Vec Value Global) AllocError) (old : List Value) (at n : ℕ) → at ≡ length old - n

@@ -7,7 +7,7 @@ use Rattle.c_semantics.specs.Threads.{Thread as SeenThread}
 use Rattle.source_model.specs.Worlds.{World, is_over, in_slot}
 use Rattle.source_model.specs.Worlds as world
 use Rattle.source_model.specs.Moves.{move, move_of}
-use Rattle.source_runner.specs.declared.value.Value.TheVariants.{Started}
+use Rattle.local_evaluation.specs.declared.value.Value.TheVariants.{Started}
 use Rattle.source_runner.specs.declared.thread.Next.{Next}
 use Rattle.source_runner.specs.declared.thread.Thread.{Thread}
 use Rattle.source_runner.specs.declared.thread.Slot.{Slot}

@@ -11,8 +11,8 @@ use Rattle.source_model.specs.Moves.{begin_at, end_at, gone_on}
 use Rattle.source_runner.specs.declared.thread.Frame.{Frame}
 use Rattle.source_runner.specs.declared.thread.Thread.{Thread}
 use Rattle.source_runner.specs.declared.machine.Machine.{Machine}
-use Rattle.source_runner.specs.Nodes.{Table}
-use Rattle.source_runner.specs.Work.{newest}
+use Rattle.resolved_tree.specs.Nodes.{Table}
+use Rattle.local_evaluation.specs.Work.{newest}
 use Rattle.source_runner.specs.Programs.{text_of}
 use Rattle.source_runner.specs.Machines.{AreClosed, IsOfFirst, IsReady, IsUser, StandsBut, standing_at}
 

@@ -3,10 +3,10 @@ use Rattle.std.proofs.Common.{◌≡◌, ℕ, Bool, not, Option, Some, None, if�
 use Rattle.c_tree.specs.BareExpr.{Bytes}
 use Rattle.source_model.specs.Waits.{ForMutex, Waiting, held_by}
 use Rattle.source_model.specs.Worlds.{World, holder_of}
-use Rattle.source_runner.specs.declared.words.Word.{Word}
+use Rattle.resolved_tree.specs.declared.words.Word.{Word}
 use Rattle.source_runner.specs.declared.machine.Machine.{Machine}
 use Rattle.source_runner.specs.Machines.{StandsFor}
-use Rattle.source_runner.specs.Nodes.{Table, word}
+use Rattle.resolved_tree.specs.Nodes.{Table, word}
 use Rattle.source_runner.specs.Programs.{table_of}
 use Rattle.source_runner.specs.Stores.{with_store}
 use Rattle.source_runner.proofs.Performing.{other_number, same_number}

@@ -9,7 +9,7 @@ use Rattle.c_semantics.specs.Texts as texts
 use Rattle.c_semantics.specs.Texts.{Definitions, defined, definition, result_type, int}
 use Rattle.source_runner.specs.declared.program.Binding.{Binding}
 use Rattle.source_runner.specs.declared.program.Definition.{Definition}
-use Rattle.source_runner.specs.Nodes.{Table, word, type_of, statements_at}
+use Rattle.resolved_tree.specs.Nodes.{Table, word, type_of, statements_at}
 
 -- parameters or fields
 abbrev pub binding_of : Table → Binding → BareBinding

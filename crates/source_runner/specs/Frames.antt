@@ -2,9 +2,9 @@
 use Rattle.std.specs.Prelude.{List, map, reverse}
 use Rattle.c_semantics.specs.Threads.{Frame as SeenFrame}
 use Rattle.source_runner.specs.declared.thread.Frame.{Frame}
-use Rattle.source_runner.specs.Nodes.{Table, word}
-use Rattle.source_runner.specs.Pieces.{pending}
-use Rattle.source_runner.specs.Work.{newest, scopes_of}
+use Rattle.resolved_tree.specs.Nodes.{Table, word}
+use Rattle.local_evaluation.specs.Pieces.{pending}
+use Rattle.local_evaluation.specs.Work.{newest, scopes_of}
 
 -- a frame behind its last stop
 abbrev pub frame_of : Table → Frame → SeenFrame

@@ -1,6 +1,6 @@
 -- What slots say of the threads that were started in them.
 use Rattle.std.specs.Prelude.{ℕ, ◌==◌, Bool, true, false, List, slice_index_or, if◌then◌else◌}
-use Rattle.source_runner.specs.declared.value.ThreadRef.{ThreadRef}
+use Rattle.local_evaluation.specs.declared.value.ThreadRef.{ThreadRef}
 use Rattle.source_runner.specs.declared.thread.Slot.{Slot}
 use Rattle.source_runner.specs.declared.thread.Slot.TheVariants.{Free, Live, Over}
 use Rattle.source_runner.specs.declared.moves.Joined.{Joined}

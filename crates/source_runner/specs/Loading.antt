@@ -2,7 +2,7 @@
 use Rattle.std.specs.Prelude.{◌≡◌, filter_map, codes}
 use Rattle.source_model.specs.Worlds.{cells_at_first}
 use Rattle.source_runner.specs.declared.program.Loaded.{Loaded}
-use Rattle.source_runner.specs.Nodes.{word}
+use Rattle.resolved_tree.specs.Nodes.{word}
 use Rattle.source_runner.specs.Programs.{IsProgram, text_of, table_of}
 use Rattle.source_runner.specs.Stores.{globals_of}
 

@@ -12,13 +12,13 @@ use Rattle.source_model.specs.Versions.{first_table}
 use Rattle.source_model.specs.Worlds.{World, is_over, in_slot, with_thread}
 use Rattle.source_model.specs.Worlds as world
 use Rattle.source_model.specs.Moves.{Standing, is_free}
-use Rattle.source_runner.specs.declared.words.Word.{Word}
-use Rattle.source_runner.specs.declared.value.ThreadRef.{ThreadRef}
-use Rattle.source_runner.specs.declared.value.Value.{Value}
-use Rattle.source_runner.specs.declared.value.Value.TheVariants.{Started}
-use Rattle.source_runner.specs.declared.work.Halt.{Halt}
-use Rattle.source_runner.specs.declared.work.Halt.TheVariants.{At}
-use Rattle.source_runner.specs.declared.piece.Stop.{Stop}
+use Rattle.resolved_tree.specs.declared.words.Word.{Word}
+use Rattle.local_evaluation.specs.declared.value.ThreadRef.{ThreadRef}
+use Rattle.local_evaluation.specs.declared.value.Value.{Value}
+use Rattle.local_evaluation.specs.declared.value.Value.TheVariants.{Started}
+use Rattle.local_evaluation.specs.declared.work.Halt.{Halt}
+use Rattle.local_evaluation.specs.declared.work.Halt.TheVariants.{At}
+use Rattle.local_evaluation.specs.declared.piece.Stop.{Stop}
 use Rattle.source_runner.specs.declared.thread.Frame.{Frame}
 use Rattle.source_runner.specs.declared.thread.Enter.{Enter}
 use Rattle.source_runner.specs.declared.thread.Next.{Next}
@@ -29,10 +29,10 @@ use Rattle.source_runner.specs.declared.thread.Slot.TheVariants.{Free, Live, Ove
 use Rattle.source_runner.specs.declared.machine.Finish.{Finish}
 use Rattle.source_runner.specs.declared.machine.Finish.TheVariants.{Finished, Trapped}
 use Rattle.source_runner.specs.declared.machine.Machine.{Machine}
-use Rattle.source_runner.specs.Nodes.{Table, word}
-use Rattle.source_runner.specs.Values.{seen, seen_thread}
-use Rattle.source_runner.specs.Pieces.{pending}
-use Rattle.source_runner.specs.Work.{newest, scopes_of, went}
+use Rattle.resolved_tree.specs.Nodes.{Table, word}
+use Rattle.local_evaluation.specs.Values.{seen, seen_thread}
+use Rattle.local_evaluation.specs.Pieces.{pending}
+use Rattle.local_evaluation.specs.Work.{newest, scopes_of, went}
 use Rattle.source_runner.specs.Frames.{frame_of, frames_of}
 use Rattle.source_runner.specs.Programs.{IsProgram, text_of, table_of}
 use Rattle.source_runner.specs.Stores.{with_store}

@@ -7,8 +7,8 @@ use Rattle.c_semantics.specs.Names.{struct_name}
 use Rattle.source_runner.specs.declared.program.Program.{Program}
 use Rattle.source_runner.specs.declared.program.Name.{Name}
 use Rattle.source_runner.specs.declared.program.Name.TheVariants.{Plain, Struct}
-use Rattle.source_runner.specs.Nodes.{Table, word}
-use Rattle.source_runner.specs.Trees.{table}
+use Rattle.resolved_tree.specs.Nodes.{Table, word}
+use Rattle.resolved_tree.specs.Trees.{table}
 use Rattle.source_runner.specs.Definitions.{AreDefinitions}
 
 -- its text, and the table of its trees

@@ -8,7 +8,7 @@ use Rattle.c_semantics.specs.Pieces.{Variable}
 use Rattle.source_model.specs.Worlds.{World, now}
 use Rattle.source_model.specs.Worlds as world
 use Rattle.source_model.specs.Moves.{Standing, goes_on, traps, perform}
-use Rattle.source_runner.specs.declared.value.Value.{Value}
+use Rattle.local_evaluation.specs.declared.value.Value.{Value}
 use Rattle.source_runner.specs.declared.store.Cells.{Cells}
 use Rattle.source_runner.specs.declared.store.Field.{Field}
 use Rattle.source_runner.specs.declared.store.Object.{Object}
@@ -16,9 +16,9 @@ use Rattle.source_runner.specs.declared.store.Held.{Held}
 use Rattle.source_runner.specs.declared.store.Store.{Store}
 use Rattle.source_runner.specs.declared.perform.Did.{Did}
 use Rattle.source_runner.specs.declared.perform.Did.TheVariants.{On, Trap, Nothing}
-use Rattle.source_runner.specs.Nodes.{Table, word}
-use Rattle.source_runner.specs.Values.{seen}
-use Rattle.source_runner.specs.Work.{newest}
+use Rattle.resolved_tree.specs.Nodes.{Table, word}
+use Rattle.local_evaluation.specs.Values.{seen}
+use Rattle.local_evaluation.specs.Work.{newest}
 
 -- a global, a field, an object, a mutex that is held
 abbrev pub cells_of : Table → Cells → world.Cells

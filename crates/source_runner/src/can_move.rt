@@ -13,21 +13,19 @@ ghost use Rattle.source_model.specs.Worlds.{World, in_slot, is_over};
 ghost use Rattle.source_runner.specs.Frames.{frames_of};
 ghost use Rattle.source_runner.specs.Machines.{IsThread, Stands, frame_at};
 ghost use Rattle.source_runner.specs.Makes.{can_join, can_make, has_values, is_number, is_reference};
-ghost use Rattle.source_runner.specs.Nodes.{Table};
-ghost use Rattle.source_runner.specs.Pieces.{stop_of};
+ghost use Rattle.resolved_tree.specs.Nodes.{Table};
+ghost use Rattle.local_evaluation.specs.Pieces.{stop_of};
 ghost use Rattle.source_runner.specs.Programs.{table_of, text_of};
 ghost use Rattle.source_runner.specs.States.{as_int, state_of};
-ghost use Rattle.source_runner.specs.Values.{seen_thread};
-ghost use Rattle.source_runner.specs.Work.{newest};
+ghost use Rattle.local_evaluation.specs.Values.{seen_thread};
+ghost use Rattle.local_evaluation.specs.Work.{newest};
 
 use crate::machine::{Finish, Machine};
-use crate::piece::Stop;
-use crate::stack::last;
 use crate::thread::{Frame, Next, Slot, Thread};
-use crate::value::{ThreadRef, Value};
-use crate::work::Halt;
 use bytecode::TrapKind;
 use c_ints::{Int, Kind, convert};
+use local_evaluation::stack::last;
+use local_evaluation::{Halt, Stop, ThreadRef, Value};
 
 /// How a run stands.
 #[derive(Clone, Copy, Debug, PartialEq, Eq)]

@@ -8,19 +8,18 @@ ghost use Rattle.c_semantics.specs.Values.{Value as SeenValue};
 ghost use Rattle.c_semantics.specs.Transformers.{first_cell};
 ghost use Rattle.source_model.specs.Worlds.{World, with_cells_in, cells_of as cells_in};
 ghost use Rattle.source_model.specs.Moves.{in_bounds};
-ghost use Rattle.source_runner.specs.Nodes.{word};
+ghost use Rattle.resolved_tree.specs.Nodes.{word};
 ghost use Rattle.source_runner.specs.Stores.{Kept, Performs, globals_of};
-ghost use Rattle.source_runner.specs.Trees.{table};
-ghost use Rattle.source_runner.specs.Values.{seen};
-ghost use Rattle.source_runner.specs.Work.{newest};
+ghost use Rattle.resolved_tree.specs.Trees.{table};
+ghost use Rattle.local_evaluation.specs.Values.{seen};
+ghost use Rattle.local_evaluation.specs.Work.{newest};
 
 use crate::perform::Did;
 use crate::store::{Cells, Store};
-use crate::trees::Trees;
-use crate::value::Value;
-use crate::words::Word;
 use bytecode::TrapKind;
 use c_ints::Int;
+use local_evaluation::Value;
+use resolved_tree::{Trees, Word};
 use std::alloc::AllocError;
 
 /// The place of the global of a name.

@@ -4,12 +4,12 @@ ghost use Rattle.c_tree.specs.Bare.{bare_expr, bare_type, bare_declaration, bare
 ghost use Rattle.c_semantics.specs.Values.{zero_of, converted_to, is_true, compared};
 ghost use Rattle.c_semantics.specs.Constants.{no_old, safe as safe_of, object_of, wrapped, wrapped_unary, chosen, constant, initial, elements, initial_cells};
 ghost use Rattle.c_tree.specs.BareDef.{Global as GlobalIs};
-ghost use Rattle.source_runner.specs.Values.{seen, seen_object};
+ghost use Rattle.local_evaluation.specs.Values.{seen, seen_object};
 
-use crate::value::{ObjectId, Value};
 use c_ints::{BinOp, Int, SafeOp, UnOp, binary_wrap, common, convert, unary_wrap};
 use c_tree::{Array, CType, Declaration, DefKind, Expr, ExprNode};
 use dsu_io::Boxed;
+use local_evaluation::{ObjectId, Value};
 use std::alloc::{AllocError, Global};
 
 /// The cells with which what a definition defines begins (C11 6.7.9): one of a global, and those of an array, of which

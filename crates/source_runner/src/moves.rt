@@ -6,26 +6,24 @@ ghost use Rattle.c_ints.specs.Number.{value_of};
 ghost use Rattle.c_semantics.specs.Threads.{Thread as SeenThread};
 ghost use Rattle.source_model.specs.Worlds.{World, in_slot, with_slot, Free as IsFree, Over as IsOver};
 ghost use Rattle.source_model.specs.Moves.{Standing, begin_at, call, end_at, finish_thread, goes_on, gone_on, join, join_slot, number_of, return, return_to, spawn};
-ghost use Rattle.source_runner.specs.declared.piece.Stop.TheVariants.{Spawn as AtSpawn, Join as AtJoin, Call as AtCall, Return as AtReturn, Begin as AtBegin, End as AtEnd};
+ghost use Rattle.local_evaluation.specs.declared.piece.Stop.TheVariants.{Spawn as AtSpawn, Join as AtJoin, Call as AtCall, Return as AtReturn, Begin as AtBegin, End as AtEnd};
 ghost use Rattle.source_runner.specs.declared.thread.Slot.TheVariants.{Free as FreeSlot};
 ghost use Rattle.source_runner.specs.Frames.{frames_of};
 ghost use Rattle.source_runner.specs.Joins.{asked, is_free_slot, of_slot};
 ghost use Rattle.source_runner.specs.Machines.{IsAtStop, IsPut, IsStarted, IsUser, Moves, Stands, StandsBut, enter_with, standing_at};
-ghost use Rattle.source_runner.specs.Nodes.{word};
+ghost use Rattle.resolved_tree.specs.Nodes.{word};
 ghost use Rattle.source_runner.specs.Programs.{table_of, text_of};
-ghost use Rattle.source_runner.specs.Values.{seen, seen_thread};
-ghost use Rattle.source_runner.specs.Work.{newest};
+ghost use Rattle.local_evaluation.specs.Values.{seen, seen_thread};
+ghost use Rattle.local_evaluation.specs.Work.{newest};
 
 use crate::machine::{Finish, Machine};
-use crate::piece::Stop;
-use crate::stack::{discard, last, pop_frame, push, push_frame, take_arguments};
+use crate::stack::{pop_frame, push_frame, take_arguments};
 use crate::thread::{Enter, Frame, Next, Slot, Thread};
-use crate::trees::later;
-use crate::value::{ThreadRef, Value};
-use crate::words::Word;
-use crate::work::Halt;
 use bytecode::TrapKind;
 use c_ints::Int;
+use local_evaluation::stack::{discard, last, push};
+use local_evaluation::{Halt, Stop, ThreadRef, Value};
+use resolved_tree::{Word, later};
 use std::alloc::AllocError;
 
 /// What a join comes to.

@@ -5,18 +5,17 @@ ghost use Rattle.c_semantics.specs.Stops.{InitMutex, Lock, Unlock};
 ghost use Rattle.c_semantics.specs.Values.{int_of};
 ghost use Rattle.source_model.specs.Worlds.{World, holder_of};
 ghost use Rattle.source_runner.specs.declared.store.Store.{Store};
-ghost use Rattle.source_runner.specs.Nodes.{word};
+ghost use Rattle.resolved_tree.specs.Nodes.{word};
 ghost use Rattle.source_runner.specs.Stores.{Kept, Performs, with_store, holders_of};
-ghost use Rattle.source_runner.specs.Trees.{table};
-ghost use Rattle.source_runner.specs.Work.{newest};
+ghost use Rattle.resolved_tree.specs.Trees.{table};
+ghost use Rattle.local_evaluation.specs.Work.{newest};
 
 use crate::perform::Did;
 use crate::store::{Held, Store};
-use crate::trees::Trees;
-use crate::value::Value;
-use crate::words::Word;
 use bytecode::TrapKind;
 use c_ints::Int;
+use local_evaluation::Value;
+use resolved_tree::{Trees, Word};
 use std::alloc::AllocError;
 
 /// The slot of the thread that holds a mutex, if one does.

@@ -10,21 +10,20 @@ ghost use Rattle.source_model.specs.Worlds.{World, Object as SeenObject};
 ghost use Rattle.source_model.specs.Moves.{Standing, goes_on, traps, on_object, release as released};
 ghost use Rattle.source_runner.specs.declared.store.Object.{Object};
 ghost use Rattle.source_runner.specs.Definitions.{bindings_of};
-ghost use Rattle.source_runner.specs.Nodes.{Table, word};
+ghost use Rattle.resolved_tree.specs.Nodes.{Table, word};
 ghost use Rattle.source_runner.specs.Programs.{IsProgram, text_of, table_of};
 ghost use Rattle.source_runner.specs.Stores.{Kept, Performs, object_of, objects_of, fields_of};
-ghost use Rattle.source_runner.specs.Trees.{table};
-ghost use Rattle.source_runner.specs.Values.{seen, seen_object};
+ghost use Rattle.resolved_tree.specs.Trees.{table};
+ghost use Rattle.local_evaluation.specs.Values.{seen, seen_object};
 
 use crate::cells::take_under;
 use crate::perform::Did;
 use crate::program::{Binding, Program};
 use crate::store::{Field, Object, Store};
-use crate::trees::Trees;
-use crate::value::{ObjectId, Value};
-use crate::words::Word;
 use bytecode::TrapKind;
 use c_ints::Int;
+use local_evaluation::{ObjectId, Value};
+use resolved_tree::{Trees, Word};
 use std::alloc::{AllocError, Global};
 
 /// What a handle leads to: the number of an object that lives, or the trap of the null handle or of an ended object.

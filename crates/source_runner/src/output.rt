@@ -2,17 +2,16 @@
 ghost use Rattle.std.specs.Prelude.{◌≡◌, ℕ, List, IfOk};
 ghost use Rattle.c_tree.specs.BareDef.{BareDef};
 ghost use Rattle.c_semantics.specs.Stops.{Print};
-ghost use Rattle.source_runner.specs.Nodes.{word};
+ghost use Rattle.resolved_tree.specs.Nodes.{word};
 ghost use Rattle.source_runner.specs.Stores.{Kept, Performs};
-ghost use Rattle.source_runner.specs.Trees.{table};
+ghost use Rattle.resolved_tree.specs.Trees.{table};
 
 use crate::mutexes::done;
 use crate::perform::Did;
 use crate::print::print;
 use crate::store::Store;
-use crate::trees::Trees;
-use crate::value::Value;
-use crate::words::Word;
+use local_evaluation::Value;
+use resolved_tree::{Trees, Word};
 use std::alloc::AllocError;
 
 /// Prints a format with its arguments, which are the newest values.

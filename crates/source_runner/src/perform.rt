@@ -1,6 +1,6 @@
 //! Stops that read or change what threads share.
 ghost use Rattle.std.specs.Prelude.{◌≡◌, false, IfOk};
-ghost use Rattle.source_runner.specs.Pieces.{stop_of};
+ghost use Rattle.local_evaluation.specs.Pieces.{stop_of};
 ghost use Rattle.source_runner.specs.Programs.{IsProgram, table_of, text_of};
 ghost use Rattle.source_runner.specs.Stores.{Kept, Performs, is_threads};
 
@@ -8,11 +8,10 @@ use crate::cells::{read_element, read_global, write_element, write_global};
 use crate::mutexes::{initialise, lock, unlock};
 use crate::objects::{allocate, read_field, release, write_field};
 use crate::output::print_values;
-use crate::piece::Stop;
 use crate::program::Program;
 use crate::store::Store;
-use crate::value::Value;
 use bytecode::TrapKind;
+use local_evaluation::{Stop, Value};
 use std::alloc::AllocError;
 
 /// What a stop comes to.

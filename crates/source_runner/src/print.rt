@@ -3,10 +3,10 @@ ghost use Rattle.std.specs.Prelude.{◌≡◌, ◌∷◌, ◌++◌, List, map, d
 ghost use Rattle.c_semantics.specs.Values.{Value as SeenValue};
 ghost use Rattle.source_model.specs.Printing.{written, shown, others, printed};
 ghost use Rattle.source_runner.specs.Formats.{reading_of};
-ghost use Rattle.source_runner.specs.Values.{seen};
+ghost use Rattle.local_evaluation.specs.Values.{seen};
 
-use crate::value::Value;
 use itoa::Buffer;
+use local_evaluation::Value;
 use std::alloc::AllocError;
 
 /// Whether the byte before was part of a conversion that isn't complete.

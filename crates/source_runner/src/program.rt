@@ -10,31 +10,27 @@ ghost use Rattle.c_semantics.specs.Texts.{Definitions, result_type};
 ghost use Rattle.c_semantics.specs.Threads.{bind as bound_to};
 ghost use Rattle.c_semantics.specs.Values.{zero_of};
 ghost use Rattle.source_model.specs.Worlds.{cells_at_first};
-ghost use Rattle.source_runner.specs.declared.node.ValueType.TheVariants.{Integer};
-ghost use Rattle.source_runner.specs.Nodes.{Table, statements_at, type_of, word as word_text};
-ghost use Rattle.source_runner.specs.Found.{Grows};
-ghost use Rattle.source_runner.specs.Known.{known_of};
-ghost use Rattle.source_runner.specs.Trees.{table};
-ghost use Rattle.source_runner.specs.Values.{seen};
-ghost use Rattle.source_runner.specs.Work.{scopes_of};
+ghost use Rattle.resolved_tree.specs.declared.node.ValueType.TheVariants.{Integer};
+ghost use Rattle.resolved_tree.specs.Nodes.{Table, statements_at, type_of, word as word_text};
+ghost use Rattle.resolved_tree.specs.Found.{Grows};
+ghost use Rattle.resolved_tree.specs.Known.{known_of};
+ghost use Rattle.resolved_tree.specs.Trees.{table};
+ghost use Rattle.local_evaluation.specs.Values.{seen};
+ghost use Rattle.local_evaluation.specs.Work.{scopes_of};
 ghost use Rattle.source_runner.specs.Definitions.{binding_of, bindings_of, IsPlain, Defines, DefinesIf, AreDefinitions};
 ghost use Rattle.source_runner.specs.Programs.{IsProgram, text_of, table_of};
 ghost use Rattle.source_runner.specs.Stores.{cells_of, globals_of};
 
 use crate::constant::initial_cells;
-use crate::node::{NodeId, StatementsNode, ValueType};
-use crate::piece::{Piece, Stop};
-use crate::resolve::{Known, name_of_struct, resolve_body, statements, value_type, word};
-use crate::stack::put;
 use crate::store::Cells;
 use crate::thread::{Enter, Frame};
-use crate::trees::{Trees, sum};
-use crate::value::Value;
-use crate::words::Word;
-use crate::work::{Local, Work};
 use c_ints::Kind;
 use c_tree::{Binding as Declared, Def, DefKind, Function};
 use c_types::Typed;
+use local_evaluation::stack::put;
+use local_evaluation::{Local, Piece, Stop, Value, Work};
+use resolved_tree::resolve::{Known, name_of_struct, resolve_body, statements, value_type, word};
+use resolved_tree::{NodeId, StatementsNode, Trees, ValueType, Word, sum};
 use std::alloc::{AllocError, Global};
 
 /// A parameter of a function, or a field of a struct.
@@ -132,15 +128,15 @@ impl Program {
     ghost use Rattle.c_semantics.specs.Texts.{members_of as texts_members_of};
     ghost use Rattle.source_model.specs.Versions.{current, first_table};
     ghost use Rattle.source_model.specs.Uses.{is_right};
-    ghost use Rattle.source_runner.specs.Nodes.{word};
-    ghost use Rattle.source_runner.specs.Trees.{table};
+    ghost use Rattle.resolved_tree.specs.Nodes.{word};
+    ghost use Rattle.resolved_tree.specs.Trees.{table};
     ghost use Rattle.source_runner.specs.Definitions.{kept, bindings_of};
     ghost use Rattle.source_runner.specs.Programs.{IsProgram, text_of, table_of, name_of};
     ghost use Rattle.source_runner.specs.Frames.{frame_of};
-    ghost use Rattle.source_runner.specs.Values.{seen};
-    ghost use Rattle.source_runner.specs.Nodes.{statements_at, type_of};
-    ghost use Rattle.source_runner.specs.Pieces.{pending};
-    ghost use Rattle.source_runner.specs.Work.{scopes_of};
+    ghost use Rattle.local_evaluation.specs.Values.{seen};
+    ghost use Rattle.resolved_tree.specs.Nodes.{statements_at, type_of};
+    ghost use Rattle.local_evaluation.specs.Pieces.{pending};
+    ghost use Rattle.local_evaluation.specs.Work.{scopes_of};
     ghost use Rattle.c_semantics.specs.Resolution.{resolved_body};
     ghost use Rattle.c_semantics.specs.Texts.{result_type};
     ghost use Rattle.c_semantics.specs.Texts.{parameters_of as texts_parameters_of};
@@ -209,10 +205,9 @@ impl Program {
             }
             None => {
                 bind(&mut work.scopes, &[], arguments)?;
-                // No tree has that number, so no statements stand there.
                 self.put_body(
                     &mut work.pieces,
-                    NodeId(self.trees.len()),
+                    self.trees.nowhere(),
                     ValueType::Integer(Kind::I32),
                 )
             }

@@ -6,14 +6,14 @@ ghost use Rattle.source_model.specs.Worlds.{first_world, main_enter, Live as IsL
 ghost use Rattle.source_runner.specs.declared.thread.Slot.TheVariants.{Free as FreeSlot};
 ghost use Rattle.source_runner.specs.Loading.{IsLoaded};
 ghost use Rattle.source_runner.specs.Machines.{IsSlot, Stands};
-ghost use Rattle.source_runner.specs.Nodes.{Table, word};
+ghost use Rattle.resolved_tree.specs.Nodes.{Table, word};
 ghost use Rattle.source_runner.specs.Programs.{text_of};
 
 use crate::machine::Machine;
 use crate::program::Loaded;
 use crate::store::Store;
 use crate::thread::{Enter, Next, Slot, Thread};
-use crate::words::Word;
+use resolved_tree::Word;
 use std::alloc::{AllocError, Global};
 
 /// The thread of main.

@@ -1,8 +1,8 @@
 //! What threads share: globals, objects, mutexes, and what was printed.
 ghost use Rattle.std.specs.Prelude.{◌≡◌};
 
-use crate::value::Value;
-use crate::words::Word;
+use local_evaluation::Value;
+use resolved_tree::Word;
 
 /// A global variable, which has one cell, or an array.
 #[derive(Drop)]

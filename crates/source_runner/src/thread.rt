@@ -1,7 +1,6 @@
 //! Threads.
-use crate::value::Value;
-use crate::words::Word;
-use crate::work::{Halt, Work};
+use local_evaluation::{Halt, Value, Work};
+use resolved_tree::Word;
 
 /// A call in progress.
 #[derive(Drop)]

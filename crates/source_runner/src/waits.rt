@@ -3,20 +3,18 @@ ghost use Rattle.std.specs.Prelude.{◌≡◌, false, option_map};
 ghost use Rattle.source_model.specs.Waits.{at_stop, held_by, joined, waits_for};
 ghost use Rattle.source_model.specs.Worlds.{World, holder_of, is_over};
 ghost use Rattle.source_runner.specs.Machines.{Stands};
-ghost use Rattle.source_runner.specs.Nodes.{word};
-ghost use Rattle.source_runner.specs.Pieces.{stop_of};
+ghost use Rattle.resolved_tree.specs.Nodes.{word};
+ghost use Rattle.local_evaluation.specs.Pieces.{stop_of};
 ghost use Rattle.source_runner.specs.Programs.{table_of};
 ghost use Rattle.source_runner.specs.Waits.{waiting_of};
-ghost use Rattle.source_runner.specs.Work.{newest};
+ghost use Rattle.local_evaluation.specs.Work.{newest};
 
 use crate::machine::Machine;
 use crate::mutexes::holder_of;
-use crate::piece::Stop;
-use crate::stack::last;
 use crate::thread::{Next, Slot};
-use crate::value::Value;
-use crate::words::Word;
-use crate::work::Halt;
+use local_evaluation::stack::last;
+use local_evaluation::{Halt, Stop, Value};
+use resolved_tree::Word;
 
 /// What a thread waits for.
 #[derive(Clone, Copy, Debug, PartialEq, Eq)]

@@ -1,10 +1,12 @@
 //! Where a thread's private work stops, and with which values and variables.
+use c_front::read_text;
 use c_ints::Int;
 use c_tree::DefKind;
-use source_runner::{Halt, Known, Local, Piece, Stop, Trees, Value, Work, evaluate, resolve_body};
+use local_evaluation::{Halt, Local, Piece, Stop, Value, Work, evaluate};
+use resolved_tree::Trees;
+use resolved_tree::resolve::{Known, resolve_body};
 use std::alloc::{AllocError, Global};
 use std::test::Fail;
-use c_front::read_text;
 
 /// The number of the first point of a body.
 const FIRST: u32 = 7;

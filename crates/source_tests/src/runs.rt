@@ -1,9 +1,9 @@
 //! Texts, with what each prints and how it ends.
 use bytecode::TrapKind;
+use c_front::read_text;
 use source_runner::{SourceMove, SourceRun, SourceState};
 use std::alloc::{AllocError, Global};
 use std::test::Fail;
-use c_front::read_text;
 
 /// How many slots there are, and how many objects may live at once.
 const SLOTS: u8 = 4;

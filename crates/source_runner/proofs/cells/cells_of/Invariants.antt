@@ -1,7 +1,7 @@
 use Rattle.std.proofs.Common.{◌≡◌, drop, find, bytes_eq}
-use Rattle.source_runner.specs.Nodes.{word}
+use Rattle.resolved_tree.specs.Nodes.{word}
 use Rattle.source_runner.specs.Stores.{globals_of}
-use Rattle.source_runner.specs.Trees.{table}
+use Rattle.resolved_tree.specs.Trees.{table}
 use Rattle.source_runner.proofs.cells.cells_of.Given as goal
 
 abbrev pub invariant-loop-global : goal.invariant-loop-global

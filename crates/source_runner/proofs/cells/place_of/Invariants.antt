@@ -1,8 +1,8 @@
 use Rattle.std.proofs.Common.{◌≡◌, ◌+◌, drop, bytes_eq}
 use Rattle.std.specs.List.{position_or_len}
-use Rattle.source_runner.specs.Nodes.{word}
+use Rattle.resolved_tree.specs.Nodes.{word}
 use Rattle.source_runner.specs.Stores.{globals_of}
-use Rattle.source_runner.specs.Trees.{table}
+use Rattle.resolved_tree.specs.Trees.{table}
 use Rattle.source_runner.proofs.cells.place_of.Given as goal
 
 abbrev pub invariant-loop-place : goal.invariant-loop-place

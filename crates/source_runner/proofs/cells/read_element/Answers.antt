@@ -1,10 +1,10 @@
 use Rattle.std.proofs.Common.{◌-◌, length, take, map, set, unwrap_or, sym, ap}
 use Rattle.c_semantics.specs.Values.{int_of}
-use Rattle.source_runner.specs.Nodes.{word}
-use Rattle.source_runner.specs.Values.{seen}
+use Rattle.resolved_tree.specs.Nodes.{word}
+use Rattle.local_evaluation.specs.Values.{seen}
 use Rattle.source_runner.specs.Stores.{with_store, globals_of}
-use Rattle.source_runner.specs.Trees.{table}
-use Rattle.source_runner.specs.Work.{newest}
+use Rattle.resolved_tree.specs.Trees.{table}
+use Rattle.local_evaluation.specs.Work.{newest}
 use Rattle.source_runner.proofs.Globals.{reads_element, read_traps}
 use Rattle.source_runner.proofs.Newest.{newest_is, newest_set}
 use Rattle.source_runner.proofs.cells.read_element.Goals as goal

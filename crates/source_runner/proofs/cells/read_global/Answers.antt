@@ -1,9 +1,9 @@
 use Rattle.std.proofs.Common.{map, sym, ap, ◌∙◌}
-use Rattle.source_runner.specs.Nodes.{word}
-use Rattle.source_runner.specs.Values.{seen}
+use Rattle.resolved_tree.specs.Nodes.{word}
+use Rattle.local_evaluation.specs.Values.{seen}
 use Rattle.source_runner.specs.Stores.{with_store, globals_of}
-use Rattle.source_runner.specs.Trees.{table}
-use Rattle.source_runner.specs.Work.{newest}
+use Rattle.resolved_tree.specs.Trees.{table}
+use Rattle.local_evaluation.specs.Work.{newest}
 use Rattle.source_runner.proofs.Globals.{reads_global}
 use Rattle.source_runner.proofs.Newest.{last_first}
 use Rattle.source_runner.proofs.cells.read_global.Goals as goal

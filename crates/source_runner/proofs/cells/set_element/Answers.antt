@@ -3,9 +3,9 @@ use Rattle.std.proofs.lemmas.List.{length-map, map-set}
 use Rattle.c_ints.specs.Number.{value_of}
 use Rattle.source_model.specs.Worlds.{with_cells_in, cells_of as cells_in}
 use Rattle.source_model.specs.Moves.{in_bounds}
-use Rattle.source_runner.specs.Nodes.{word}
-use Rattle.source_runner.specs.Values.{seen}
-use Rattle.source_runner.specs.Trees.{table}
+use Rattle.resolved_tree.specs.Nodes.{word}
+use Rattle.local_evaluation.specs.Values.{seen}
+use Rattle.resolved_tree.specs.Trees.{table}
 use Rattle.source_runner.proofs.Globals.{changed_at, cells_at, cells_nowhere, none_within, is_within, is_outside}
 use Rattle.source_runner.proofs.cells.set_element.Goals as goal
 

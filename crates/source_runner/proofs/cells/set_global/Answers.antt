@@ -1,7 +1,7 @@
 use Rattle.std.proofs.Common.{◌≡◌, ◌∷◌, [], ◌++◌, map, refl, sym, ap, ◌∙◌}
-use Rattle.source_runner.specs.Nodes.{word}
-use Rattle.source_runner.specs.Values.{seen}
-use Rattle.source_runner.specs.Trees.{table}
+use Rattle.resolved_tree.specs.Nodes.{word}
+use Rattle.local_evaluation.specs.Values.{seen}
+use Rattle.resolved_tree.specs.Trees.{table}
 use Rattle.source_runner.proofs.Globals.{changed_at, changed_nowhere}
 use Rattle.source_runner.proofs.cells.set_global.Goals as goal
 

@@ -1,6 +1,6 @@
 use Rattle.std.proofs.Common.{◌-◌, sym, ap, ◌∙◌, arith}
 use Rattle.std.specs.Vec.{vec_len}
-use Rattle.source_runner.specs.Work.{newest}
+use Rattle.local_evaluation.specs.Work.{newest}
 use Rattle.source_runner.proofs.Newest.{under_taken}
 use Rattle.source_runner.proofs.cells.take_under.Goals as goal
 

@@ -2,12 +2,12 @@ use Rattle.std.proofs.Common.{◌-◌, length, take, get_or, pos, refl, sym, ap,
 use Rattle.std.proofs.lemmas.List.{with_items_is}
 use Rattle.std.specs.Vec.{with_items}
 use Rattle.c_ints.specs.declared.int.Int.TheVariants.{I8}
-use Rattle.source_runner.specs.declared.value.Value.TheVariants.{Number}
-use Rattle.source_runner.specs.Nodes.{word}
-use Rattle.source_runner.specs.Values.{seen}
+use Rattle.local_evaluation.specs.declared.value.Value.TheVariants.{Number}
+use Rattle.resolved_tree.specs.Nodes.{word}
+use Rattle.local_evaluation.specs.Values.{seen}
 use Rattle.source_runner.specs.Stores.{with_store, globals_of}
-use Rattle.source_runner.specs.Trees.{table}
-use Rattle.source_runner.specs.Work.{newest}
+use Rattle.resolved_tree.specs.Trees.{table}
+use Rattle.local_evaluation.specs.Work.{newest}
 use Rattle.source_runner.proofs.Globals.{writes_element, write_traps, write_nothing}
 use Rattle.source_runner.proofs.Newest.{newest_two}
 use Rattle.source_runner.proofs.cells.write_element.Goals as goal

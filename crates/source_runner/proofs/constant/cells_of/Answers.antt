@@ -2,7 +2,7 @@ use Rattle.std.proofs.Common.{◌≡◌, ◌-◌, ◌++◌, map, take, replicate
 use Rattle.std.proofs.lemmas.Grind.{common_steps}
 use Rattle.c_tree.specs.Bare.{bare_expr, bare_type}
 use Rattle.c_semantics.specs.Constants.{initial, elements}
-use Rattle.source_runner.specs.Values.{seen}
+use Rattle.local_evaluation.specs.Values.{seen}
 use Rattle.source_runner.proofs.Seen.{filled_cells}
 use Rattle.source_runner.proofs.constant.cells_of.Goals as goal
 

@@ -1,7 +1,7 @@
 use Rattle.std.proofs.Common.{◌≡◌, map, take, Some}
 use Rattle.c_tree.specs.Bare.{bare_expr, bare_type}
 use Rattle.c_semantics.specs.Constants.{initial}
-use Rattle.source_runner.specs.Values.{seen}
+use Rattle.local_evaluation.specs.Values.{seen}
 use Rattle.source_runner.proofs.constant.cells_of.Given as goal
 
 abbrev pub invariant-loop-e : goal.invariant-loop-e

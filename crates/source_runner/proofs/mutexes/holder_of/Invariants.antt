@@ -1,7 +1,7 @@
 use Rattle.std.proofs.Common.{◌≡◌, ◌≤◌, take, length, find, bytes_eq}
-use Rattle.source_runner.specs.Nodes.{word}
+use Rattle.resolved_tree.specs.Nodes.{word}
 use Rattle.source_runner.specs.Stores.{holders_of}
-use Rattle.source_runner.specs.Trees.{table}
+use Rattle.resolved_tree.specs.Trees.{table}
 use Rattle.source_runner.proofs.mutexes.holder_of.Given as goal
 
 abbrev pub invariant-loop-left : goal.invariant-loop-left

@@ -1,6 +1,6 @@
 use Rattle.std.proofs.Common.{sym, ◌∙◌}
-use Rattle.source_runner.specs.Nodes.{word}
-use Rattle.source_runner.specs.Trees.{table}
+use Rattle.resolved_tree.specs.Nodes.{word}
+use Rattle.resolved_tree.specs.Trees.{table}
 use Rattle.source_runner.proofs.Holders.{initialises, held_traps}
 use Rattle.source_runner.proofs.mutexes.initialise.Goals as goal
 

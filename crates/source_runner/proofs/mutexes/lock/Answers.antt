@@ -1,6 +1,6 @@
 use Rattle.std.proofs.Common.{sym, ap, ◌∙◌}
-use Rattle.source_runner.specs.Nodes.{word}
-use Rattle.source_runner.specs.Trees.{table}
+use Rattle.resolved_tree.specs.Nodes.{word}
+use Rattle.resolved_tree.specs.Trees.{table}
 use Rattle.source_runner.specs.Stores.{with_store, holders_of}
 use Rattle.source_runner.proofs.Holders.{holders_push, locks, relock_traps}
 use Rattle.source_runner.proofs.mutexes.lock.Goals as goal

@@ -1,7 +1,7 @@
 use Rattle.std.proofs.Common.{not, bytes_eq, ap, ◌∙◌, rules}
 use Rattle.std.proofs.lemmas.Fn.{filter_same}
-use Rattle.source_runner.specs.Nodes.{word}
-use Rattle.source_runner.specs.Trees.{table}
+use Rattle.resolved_tree.specs.Nodes.{word}
+use Rattle.resolved_tree.specs.Trees.{table}
 use Rattle.source_runner.specs.Stores.{holders_of, held_of}
 use Rattle.source_runner.proofs.Holders.{holders_without}
 use Rattle.source_runner.proofs.mutexes.set_free.Goals as goal

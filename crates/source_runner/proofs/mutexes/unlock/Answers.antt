@@ -1,6 +1,6 @@
 use Rattle.std.proofs.Common.{Some, sym, ap, ◌∙◌}
-use Rattle.source_runner.specs.Nodes.{word}
-use Rattle.source_runner.specs.Trees.{table}
+use Rattle.resolved_tree.specs.Nodes.{word}
+use Rattle.resolved_tree.specs.Trees.{table}
 use Rattle.source_runner.specs.Stores.{with_store}
 use Rattle.source_runner.proofs.Holders.{unlocks, unlock_traps, free_traps}
 use Rattle.source_runner.proofs.mutexes.unlock.Goals as goal

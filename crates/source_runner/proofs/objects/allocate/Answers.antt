@@ -3,11 +3,11 @@ use Rattle.std.proofs.lemmas.List.{map-append, length-map}
 use Rattle.c_semantics.specs.Transformers.{zero_fields}
 use Rattle.c_semantics.specs.Values.{Reference}
 use Rattle.source_runner.specs.declared.store.Object.{Object}
-use Rattle.source_runner.specs.Nodes.{word}
+use Rattle.resolved_tree.specs.Nodes.{word}
 use Rattle.source_runner.specs.Programs.{text_of, table_of}
 use Rattle.source_runner.specs.Stores.{object_of, objects_of}
-use Rattle.source_runner.specs.Values.{seen}
-use Rattle.source_runner.specs.Work.{newest}
+use Rattle.local_evaluation.specs.Values.{seen}
+use Rattle.local_evaluation.specs.Work.{newest}
 use Rattle.source_runner.proofs.Fields.{allocates}
 use Rattle.source_runner.proofs.Newest.{last_first}
 use Rattle.source_runner.proofs.objects.allocate.Goals as goal

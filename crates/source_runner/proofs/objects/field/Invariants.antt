@@ -1,7 +1,7 @@
 use Rattle.std.proofs.Common.{◌≡◌, drop, find, bytes_eq}
-use Rattle.source_runner.specs.Nodes.{word}
+use Rattle.resolved_tree.specs.Nodes.{word}
 use Rattle.source_runner.specs.Stores.{fields_of}
-use Rattle.source_runner.specs.Trees.{table}
+use Rattle.resolved_tree.specs.Trees.{table}
 use Rattle.source_runner.proofs.objects.field.Given as goal
 
 abbrev pub invariant-loop-field : goal.invariant-loop-field

@@ -2,11 +2,11 @@ use Rattle.std.proofs.Common.{◌≡◌, ◌-◌, ◌∷◌, length, get_or, tak
 use Rattle.c_semantics.specs.Evaluation.{in_scope}
 use Rattle.c_semantics.specs.Values.{int_of}
 use Rattle.source_model.specs.Moves.{goes_on}
-use Rattle.source_runner.specs.Nodes.{word}
+use Rattle.resolved_tree.specs.Nodes.{word}
 use Rattle.source_runner.specs.Stores.{standing_with, with_store, objects_of, fields_of}
-use Rattle.source_runner.specs.Trees.{table}
-use Rattle.source_runner.specs.Values.{seen, seen_object}
-use Rattle.source_runner.specs.Work.{newest}
+use Rattle.resolved_tree.specs.Trees.{table}
+use Rattle.local_evaluation.specs.Values.{seen, seen_object}
+use Rattle.local_evaluation.specs.Work.{newest}
 use Rattle.source_runner.proofs.Fields.{reads_field}
 use Rattle.source_runner.proofs.Newest.{newest_is, newest_set}
 use Rattle.source_runner.proofs.objects.read_field.Goals as goal

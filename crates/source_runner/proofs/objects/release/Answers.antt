@@ -5,9 +5,9 @@ use Rattle.c_ints.specs.declared.int.Int.TheVariants.{I32}
 use Rattle.c_semantics.specs.Stops.{Free}
 use Rattle.c_semantics.specs.Values.{int_of}
 use Rattle.source_model.specs.Moves.{release}
-use Rattle.source_runner.specs.declared.value.Value.TheVariants.{Number}
+use Rattle.local_evaluation.specs.declared.value.Value.TheVariants.{Number}
 use Rattle.source_runner.specs.Stores.{standing_with, with_store, objects_of}
-use Rattle.source_runner.specs.Work.{newest}
+use Rattle.local_evaluation.specs.Work.{newest}
 use Rattle.source_runner.proofs.Newest.{newest_is, newest_set}
 use Rattle.source_runner.proofs.Performing.{goes}
 use Rattle.source_runner.proofs.objects.release.Goals as goal

@@ -1,11 +1,11 @@
 use Rattle.std.proofs.Common.{pos, sym, ap, ◌∙◌, arith}
 use Rattle.c_ints.specs.declared.int.Int.TheVariants.{I8}
 use Rattle.c_semantics.specs.Evaluation.{with_value}
-use Rattle.source_runner.specs.declared.value.Value.TheVariants.{Number}
-use Rattle.source_runner.specs.Nodes.{word}
+use Rattle.local_evaluation.specs.declared.value.Value.TheVariants.{Number}
+use Rattle.resolved_tree.specs.Nodes.{word}
 use Rattle.source_runner.specs.Stores.{fields_of}
-use Rattle.source_runner.specs.Trees.{table}
-use Rattle.source_runner.specs.Values.{seen}
+use Rattle.resolved_tree.specs.Trees.{table}
+use Rattle.local_evaluation.specs.Values.{seen}
 use Rattle.source_runner.proofs.Fields.{field_changed}
 use Rattle.source_runner.proofs.objects.set_field.Goals as goal
 

@@ -1,9 +1,9 @@
 use Rattle.std.proofs.Common.{◌≡◌, ◌++◌, take, drop}
 use Rattle.c_semantics.specs.Evaluation.{with_value}
-use Rattle.source_runner.specs.Nodes.{word}
+use Rattle.resolved_tree.specs.Nodes.{word}
 use Rattle.source_runner.specs.Stores.{fields_of}
-use Rattle.source_runner.specs.Trees.{table}
-use Rattle.source_runner.specs.Values.{seen}
+use Rattle.resolved_tree.specs.Trees.{table}
+use Rattle.local_evaluation.specs.Values.{seen}
 use Rattle.source_runner.proofs.objects.set_field.Given as goal
 
 abbrev pub invariant-loop-place : goal.invariant-loop-place

@@ -4,13 +4,13 @@ use Rattle.std.specs.Vec.{with_items, with_item}
 use Rattle.c_ints.specs.declared.int.Int.TheVariants.{I8}
 use Rattle.c_semantics.specs.Evaluation.{with_value}
 use Rattle.source_model.specs.Moves.{goes_on}
-use Rattle.source_runner.specs.declared.value.Value.TheVariants.{Number}
+use Rattle.local_evaluation.specs.declared.value.Value.TheVariants.{Number}
 use Rattle.source_runner.specs.declared.store.Object.{Object}
-use Rattle.source_runner.specs.Nodes.{word}
+use Rattle.resolved_tree.specs.Nodes.{word}
 use Rattle.source_runner.specs.Stores.{standing_with, with_store, object_of, objects_of, fields_of}
-use Rattle.source_runner.specs.Trees.{table}
-use Rattle.source_runner.specs.Values.{seen, seen_object}
-use Rattle.source_runner.specs.Work.{newest}
+use Rattle.resolved_tree.specs.Trees.{table}
+use Rattle.local_evaluation.specs.Values.{seen, seen_object}
+use Rattle.local_evaluation.specs.Work.{newest}
 use Rattle.source_runner.proofs.Fields.{writes_field, write_traps, write_nothing, with_field, object_changed}
 use Rattle.source_runner.proofs.Newest.{newest_two}
 use Rattle.source_runner.proofs.objects.write_field.Goals as goal

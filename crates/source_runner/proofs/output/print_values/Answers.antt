@@ -3,11 +3,11 @@ use Rattle.std.proofs.lemmas.List.{take_rest}
 use Rattle.c_semantics.specs.Values.{int_of}
 use Rattle.source_model.specs.Moves.{arguments_of}
 use Rattle.source_model.specs.Printing.{printed}
-use Rattle.source_runner.specs.Nodes.{word}
+use Rattle.resolved_tree.specs.Nodes.{word}
 use Rattle.source_runner.specs.Stores.{with_store}
-use Rattle.source_runner.specs.Trees.{table}
-use Rattle.source_runner.specs.Values.{seen}
-use Rattle.source_runner.specs.Work.{newest}
+use Rattle.resolved_tree.specs.Trees.{table}
+use Rattle.local_evaluation.specs.Values.{seen}
+use Rattle.local_evaluation.specs.Work.{newest}
 use Rattle.source_runner.proofs.Newest.{take_last, drop_last}
 use Rattle.source_runner.proofs.Printing.{prints}
 use Rattle.source_runner.proofs.output.print_values.Goals as goal

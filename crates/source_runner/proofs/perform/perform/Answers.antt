@@ -1,10 +1,10 @@
 use Rattle.std.proofs.Common.{refl, sym, ap, ◌∙◌, arith}
 use Rattle.std.proofs.lemmas.List.{with_items_is}
 use Rattle.c_semantics.specs.Stops.{ReadElement, ReadField, Free}
-use Rattle.source_runner.specs.Nodes.{word}
-use Rattle.source_runner.specs.Pieces.{stop_of}
+use Rattle.resolved_tree.specs.Nodes.{word}
+use Rattle.local_evaluation.specs.Pieces.{stop_of}
 use Rattle.source_runner.specs.Programs.{table_of, text_of}
-use Rattle.source_runner.specs.Trees.{table}
+use Rattle.resolved_tree.specs.Trees.{table}
 use Rattle.source_runner.proofs.Performing.{performs_same}
 use Rattle.source_runner.proofs.perform.perform.Goals as goal
 

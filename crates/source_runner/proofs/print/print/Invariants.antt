@@ -1,7 +1,7 @@
 use Rattle.std.proofs.Common.{◌≡◌, ◌++◌, map, drop}
 use Rattle.source_model.specs.Printing.{printed, printed_from}
 use Rattle.source_runner.specs.Formats.{reading_of}
-use Rattle.source_runner.specs.Values.{seen}
+use Rattle.local_evaluation.specs.Values.{seen}
 use Rattle.source_runner.proofs.print.print.Given as goal
 
 abbrev pub invariant-loop-byte : goal.invariant-loop-byte

@@ -1,6 +1,6 @@
 use Rattle.std.proofs.Common.{◌+◌, ◌++◌, map, drop, sym, ap, ◌∙◌}
 use Rattle.source_model.specs.Printing.{shown, others}
-use Rattle.source_runner.specs.Values.{seen}
+use Rattle.local_evaluation.specs.Values.{seen}
 use Rattle.source_runner.proofs.Seen.{from_one}
 use Rattle.source_runner.proofs.print.print_argument.Goals as goal
 

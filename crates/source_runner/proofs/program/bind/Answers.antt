@@ -1,5 +1,5 @@
 use Rattle.std.proofs.Common.{map, arith}
-use Rattle.source_runner.specs.Values.{seen}
+use Rattle.local_evaluation.specs.Values.{seen}
 use Rattle.source_runner.proofs.Entering.{bound_none, bound_more}
 use Rattle.source_runner.proofs.program.bind.Goals as goal
 

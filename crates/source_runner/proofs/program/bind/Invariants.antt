@@ -1,8 +1,8 @@
 use Rattle.std.proofs.Common.{◌≡◌, ◌≤◌, ◌∷◌, length, map, drop}
 use Rattle.c_semantics.specs.Threads.{bind}
-use Rattle.source_runner.specs.Nodes.{Table}
-use Rattle.source_runner.specs.Values.{seen}
-use Rattle.source_runner.specs.Work.{scopes_of}
+use Rattle.resolved_tree.specs.Nodes.{Table}
+use Rattle.local_evaluation.specs.Values.{seen}
+use Rattle.local_evaluation.specs.Work.{scopes_of}
 use Rattle.source_runner.specs.Definitions.{bindings_of}
 use Rattle.source_runner.proofs.program.bind.Given as goal
 

@@ -1,6 +1,6 @@
 use Rattle.c_tree.specs.Bare.{bare_binding}
 use Rattle.source_runner.specs.Definitions.{binding_of}
-use Rattle.source_runner.proofs.Kept.{grows_refl, grows_trans, mapped_once}
+use Rattle.resolved_tree.proofs.Kept.{grows_refl, grows_trans, mapped_once}
 use Rattle.source_runner.proofs.program.bindings.Goals as goal
 
 pub loop-one-preserved : goal.loop-one-preserved

@@ -1,8 +1,8 @@
 use Rattle.std.proofs.Common.{◌≡◌, map, take}
 use Rattle.c_tree.specs.Bare.{bare_binding}
-use Rattle.source_runner.specs.Nodes.{Table}
-use Rattle.source_runner.specs.Found.{Grows}
-use Rattle.source_runner.specs.Trees.{table}
+use Rattle.resolved_tree.specs.Nodes.{Table}
+use Rattle.resolved_tree.specs.Found.{Grows}
+use Rattle.resolved_tree.specs.Trees.{table}
 use Rattle.source_runner.specs.Definitions.{bindings_of}
 use Rattle.source_runner.proofs.program.bindings.Given as goal
 

@@ -1,8 +1,8 @@
 use Rattle.std.proofs.Common.{ap, ◌∙◌}
-use Rattle.source_runner.specs.Nodes.{type_of}
+use Rattle.resolved_tree.specs.Nodes.{type_of}
 use Rattle.c_tree.specs.BareDef.{BareBinding}
 use Rattle.c_tree.specs.BareExpr.{Bytes, BareType}
-use Rattle.source_runner.proofs.Kept.{grows_trans}
+use Rattle.resolved_tree.proofs.Kept.{grows_trans}
 use Rattle.source_runner.proofs.program.declared_binding.Goals as goal
 
 made : BareType → Bytes → BareBinding

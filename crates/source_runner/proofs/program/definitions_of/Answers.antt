@@ -3,8 +3,8 @@ use Rattle.c_tree.specs.Bare.{bare_def}
 use Rattle.c_semantics.specs.Texts.{definition}
 use Rattle.source_runner.specs.declared.program.Definition.{Definition}
 use Rattle.source_runner.specs.Definitions.{kept, IsDefinition}
-use Rattle.source_runner.specs.Known.{known_of}
-use Rattle.source_runner.proofs.Kept.{grows_trans}
+use Rattle.resolved_tree.specs.Known.{known_of}
+use Rattle.resolved_tree.proofs.Kept.{grows_trans}
 use Rattle.source_runner.proofs.Defining.{added_none, added_some, next_definition, defines_some, defines_none}
 use Rattle.source_runner.proofs.program.definitions_of.Goals.{in-Some+in_ok-push, in_default}
 use Rattle.source_runner.proofs.program.definitions_of.Goals as goal

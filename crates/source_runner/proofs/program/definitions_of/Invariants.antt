@@ -2,9 +2,9 @@ use Rattle.std.proofs.Common.{map, take}
 use Rattle.c_tree.specs.BareExpr.{Bytes}
 use Rattle.c_tree.specs.Bare.{bare_def}
 use Rattle.c_semantics.specs.Texts.{definition}
-use Rattle.source_runner.specs.Nodes.{Table}
-use Rattle.source_runner.specs.Found.{Grows}
-use Rattle.source_runner.specs.Trees.{table}
+use Rattle.resolved_tree.specs.Nodes.{Table}
+use Rattle.resolved_tree.specs.Found.{Grows}
+use Rattle.resolved_tree.specs.Trees.{table}
 use Rattle.source_runner.specs.Definitions.{kept, IsDefinition}
 use Rattle.source_runner.proofs.program.definitions_of.Given as goal
 

@@ -1,7 +1,7 @@
 use Rattle.std.proofs.Common.{refl, Some, map, ap, sym, ◌∙◌}
 use Rattle.c_tree.specs.Bare.{bare_binding}
 use Rattle.source_runner.specs.Definitions.{bindings_of}
-use Rattle.source_runner.proofs.Kept.{grows_trans}
+use Rattle.resolved_tree.proofs.Kept.{grows_trans}
 use Rattle.source_runner.proofs.program.function_of.Goals as goal
 
 pub returns-clause-made : goal.returns-clause-made

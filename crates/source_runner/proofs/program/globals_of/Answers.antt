@@ -5,7 +5,7 @@ use Rattle.c_tree.specs.Bare.{bare_def}
 use Rattle.source_model.specs.Worlds.{cells_at_first}
 use Rattle.source_runner.specs.declared.store.Cells.{Cells}
 use Rattle.source_runner.specs.Stores.{cells_of, globals_of}
-use Rattle.source_runner.proofs.Kept.{grows_trans}
+use Rattle.resolved_tree.proofs.Kept.{grows_trans}
 use Rattle.source_runner.proofs.Defining.{next_definition}
 use Rattle.source_runner.proofs.Told.{told_some, told_none}
 use Rattle.source_runner.proofs.program.globals_of.Goals.{in-Some+in_ok-push, in_default}

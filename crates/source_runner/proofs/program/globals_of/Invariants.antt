@@ -2,9 +2,9 @@ use Rattle.std.proofs.Common.{◌≡◌, map, take}
 use Rattle.std.specs.Prelude.{filter_map}
 use Rattle.c_tree.specs.Bare.{bare_def}
 use Rattle.source_model.specs.Worlds.{cells_at_first}
-use Rattle.source_runner.specs.Nodes.{Table}
-use Rattle.source_runner.specs.Found.{Grows}
-use Rattle.source_runner.specs.Trees.{table}
+use Rattle.resolved_tree.specs.Nodes.{Table}
+use Rattle.resolved_tree.specs.Found.{Grows}
+use Rattle.resolved_tree.specs.Trees.{table}
 use Rattle.source_runner.specs.Stores.{globals_of}
 use Rattle.source_runner.proofs.program.globals_of.Given as goal
 

@@ -1,4 +1,4 @@
-use Rattle.source_runner.proofs.Kept.{grows_refl}
+use Rattle.resolved_tree.proofs.Kept.{grows_refl}
 use Rattle.source_runner.proofs.program.named_cells.Goals as goal
 
 pub returns-in_err-cells-clause-grows : goal.returns-in_err-cells-clause-grows

@@ -1,5 +1,5 @@
-use Rattle.source_runner.specs.Trees.{table}
-use Rattle.source_runner.proofs.Kept.{grows_trans}
+use Rattle.resolved_tree.specs.Trees.{table}
+use Rattle.resolved_tree.proofs.Kept.{grows_trans}
 use Rattle.source_runner.proofs.Defining.{plain_ok}
 use Rattle.source_runner.proofs.program.plain.Goals as goal
 

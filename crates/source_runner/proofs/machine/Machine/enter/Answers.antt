@@ -2,7 +2,7 @@ use Rattle.std.proofs.Common.{true, false, length, sym, ◌∙◌, arith}
 use Rattle.std.proofs.lemmas.Bool.{eq-eqb, ne_eqb}
 use Rattle.source_model.specs.Moves.{frame_count}
 use Rattle.source_model.specs.Uses.{recorded}
-use Rattle.source_runner.specs.Nodes.{word}
+use Rattle.resolved_tree.specs.Nodes.{word}
 use Rattle.source_runner.specs.Programs.{table_of, text_of}
 use Rattle.source_runner.specs.Machines.{enter_of}
 use Rattle.source_runner.proofs.Enters.{deep_thread, enters, enters_deep, frames_are}

@@ -1,7 +1,7 @@
 use Rattle.std.proofs.Common.{subst}
 use Rattle.source_runner.specs.declared.machine.Finish.TheVariants.{Finished}
 use Rattle.source_runner.specs.Programs.{table_of, text_of}
-use Rattle.source_runner.specs.Values.{seen}
+use Rattle.local_evaluation.specs.Values.{seen}
 use Rattle.source_runner.specs.Machines.{Stands}
 use Rattle.source_runner.proofs.Calls.{finish_main}
 use Rattle.source_runner.proofs.Halted.{finished, or_true, with_same}

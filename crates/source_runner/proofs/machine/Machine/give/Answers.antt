@@ -1,5 +1,5 @@
 use Rattle.source_runner.specs.Programs.{table_of, text_of}
-use Rattle.source_runner.specs.Values.{seen}
+use Rattle.local_evaluation.specs.Values.{seen}
 use Rattle.source_runner.proofs.Calls.{returns_last, returns_to}
 use Rattle.source_runner.proofs.Stopping.{moves_as, user_with}
 use Rattle.source_runner.proofs.machine.Machine.give.Goals as goal

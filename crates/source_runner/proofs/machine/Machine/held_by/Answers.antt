@@ -1,6 +1,6 @@
 use Rattle.std.proofs.Common.{None, Some, sym, ap, ◌∙◌}
 use Rattle.source_model.specs.Waits.{held_by}
-use Rattle.source_runner.specs.Nodes.{word}
+use Rattle.resolved_tree.specs.Nodes.{word}
 use Rattle.source_runner.specs.Programs.{table_of}
 use Rattle.source_runner.proofs.Waiting.{holder_is, itself_holds, others_hold}
 use Rattle.source_runner.proofs.machine.Machine.held_by.Goals as goal

@@ -2,7 +2,7 @@ use Rattle.std.proofs.Common.{option_map}
 use Rattle.c_semantics.specs.Values.{Started}
 use Rattle.source_runner.specs.Programs.{table_of}
 use Rattle.source_runner.specs.Machines.{standing_at}
-use Rattle.source_runner.specs.Values.{seen_thread}
+use Rattle.local_evaluation.specs.Values.{seen_thread}
 use Rattle.source_runner.proofs.Halted.{at_over}
 use Rattle.source_runner.proofs.Joining.{handle_at, no_handle}
 use Rattle.source_runner.proofs.Stopping.{moves_as}

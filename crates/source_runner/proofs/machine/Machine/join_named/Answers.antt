@@ -3,7 +3,7 @@ use Rattle.source_model.specs.Moves.{gone_on}
 use Rattle.source_runner.specs.declared.moves.Joined.TheVariants.{Result, Waits, None}
 use Rattle.source_runner.specs.Programs.{table_of, text_of}
 use Rattle.source_runner.specs.Machines.{standing_at}
-use Rattle.source_runner.specs.Work.{newest}
+use Rattle.local_evaluation.specs.Work.{newest}
 use Rattle.source_runner.proofs.Halted.{at_over}
 use Rattle.source_runner.proofs.Joining.{asked_of, join_as, result_apart}
 use Rattle.source_runner.proofs.Stopping.{moves_as}

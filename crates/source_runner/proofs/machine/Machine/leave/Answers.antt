@@ -1,6 +1,6 @@
 use Rattle.std.proofs.Common.{refl}
 use Rattle.source_model.specs.Worlds as world
-use Rattle.source_runner.specs.Values.{seen}
+use Rattle.local_evaluation.specs.Values.{seen}
 use Rattle.source_runner.specs.declared.thread.Slot.TheVariants.{Over}
 use Rattle.source_runner.proofs.Slots.{leaves}
 use Rattle.source_runner.proofs.machine.Machine.leave.Goals as goal

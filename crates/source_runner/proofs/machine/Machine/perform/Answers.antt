@@ -4,7 +4,7 @@ use Rattle.source_runner.specs.declared.perform.Did.TheVariants.{On, Trap, Nothi
 use Rattle.source_runner.specs.Programs.{table_of, text_of}
 use Rattle.source_runner.specs.Stores.{with_store}
 use Rattle.source_runner.specs.Machines.{standing_at}
-use Rattle.source_runner.specs.Work.{newest}
+use Rattle.local_evaluation.specs.Work.{newest}
 use Rattle.source_runner.proofs.Halted.{at_over}
 use Rattle.source_runner.proofs.Stopping.{moves_as}
 use Rattle.source_runner.proofs.Stored.{kept_as, moves_from, performed_as, same_store, same_values, stored, trapped, went_on}

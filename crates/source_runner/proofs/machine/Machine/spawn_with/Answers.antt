@@ -1,8 +1,8 @@
 use Rattle.std.proofs.Common.{sym}
 use Rattle.source_model.specs.Moves.{gone_on}
-use Rattle.source_runner.specs.declared.value.Value.TheVariants.{Started}
+use Rattle.local_evaluation.specs.declared.value.Value.TheVariants.{Started}
 use Rattle.source_runner.specs.Programs.{table_of, text_of}
-use Rattle.source_runner.specs.Work.{newest}
+use Rattle.local_evaluation.specs.Work.{newest}
 use Rattle.source_runner.specs.Machines.{enter_with, standing_at}
 use Rattle.source_runner.proofs.Spawns.{pushed_on, spawned}
 use Rattle.source_runner.proofs.Stopping.{moves_as}

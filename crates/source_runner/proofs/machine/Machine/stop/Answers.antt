@@ -1,6 +1,6 @@
 use Rattle.std.proofs.Common.{true, refl, sym, ◌∙◌}
 use Rattle.source_model.specs.Uses.{use_at}
-use Rattle.source_runner.specs.Pieces.{stop_of}
+use Rattle.local_evaluation.specs.Pieces.{stop_of}
 use Rattle.source_runner.specs.Programs.{table_of, text_of}
 use Rattle.source_runner.specs.Machines.{frame_at}
 use Rattle.source_runner.specs.Frames.{frames_of}

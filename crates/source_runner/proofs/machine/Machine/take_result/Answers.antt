@@ -3,7 +3,7 @@ use Rattle.source_model.specs.Worlds as world
 use Rattle.source_model.specs.Moves.{gone_on}
 use Rattle.source_runner.specs.declared.thread.Slot.TheVariants.{Free}
 use Rattle.source_runner.specs.Programs.{table_of, text_of}
-use Rattle.source_runner.specs.Work.{newest}
+use Rattle.local_evaluation.specs.Work.{newest}
 use Rattle.source_runner.specs.Machines.{standing_at}
 use Rattle.source_runner.proofs.Joining.{taken_result}
 use Rattle.source_runner.proofs.Spawns.{but_same, pushed_on, put_other}

@@ -1,6 +1,6 @@
 use Rattle.std.proofs.Common.{◌≡◌, drop}
 use Rattle.c_semantics.specs.Names.{struct_name}
-use Rattle.source_runner.specs.Nodes.{word}
+use Rattle.resolved_tree.specs.Nodes.{word}
 use Rattle.source_runner.specs.Definitions.{kept}
 use Rattle.source_runner.specs.Programs.{table_of}
 use Rattle.source_runner.proofs.program.Program.find_struct.Given as goal

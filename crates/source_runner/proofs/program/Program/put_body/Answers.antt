@@ -3,8 +3,8 @@ use Rattle.c_semantics.specs.Values.{Value}
 use Rattle.c_semantics.specs.Pieces.{Piece, Sequence, Put, At}
 use Rattle.c_semantics.specs.Stops.{Return}
 use Rattle.c_semantics.specs.Points.{size_stmts}
-use Rattle.source_runner.specs.Nodes.{statements_at}
-use Rattle.source_runner.specs.Pieces.{pending}
+use Rattle.resolved_tree.specs.Nodes.{statements_at}
+use Rattle.local_evaluation.specs.Pieces.{pending}
 use Rattle.source_runner.specs.Programs.{table_of}
 use Rattle.source_runner.proofs.Entering.{ok_as}
 use Rattle.source_runner.proofs.program.Program.put_body.Goals as goal

@@ -1,0 +1,5 @@
+mod Examples
+mod Following
+mod Leaving
+mod StepLaws
+pub mod Variables

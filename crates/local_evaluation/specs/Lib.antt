@@ -1,0 +1,5 @@
+pub mod Pieces
+pub mod Steps
+pub mod Values
+pub mod Weights
+pub mod Work

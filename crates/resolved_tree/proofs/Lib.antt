@@ -1,0 +1,5 @@
+mod Growing
+pub mod Kept
+mod Naming
+mod Resolving
+mod Sizes

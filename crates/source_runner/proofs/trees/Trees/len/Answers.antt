@@ -1,7 +1,0 @@
-use Rattle.std.proofs.Common.{[], arith}
-use Rattle.source_runner.proofs.Growing.{grown_count}
-use Rattle.source_runner.proofs.trees.Trees.len.Goals as goal
-
-pub returns : goal.returns
-returns c =
-    omega (arith, grown_count c.args.self.now.words [] c.args.self.now.entries.items)

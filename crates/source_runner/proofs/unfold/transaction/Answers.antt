@@ -1,7 +1,0 @@
-use Rattle.std.proofs.lemmas.Result.{on_ok_weaker}
-use Rattle.source_runner.specs.Trees.{table}
-use Rattle.source_runner.proofs.unfold.transaction.Goals as goal
-
-pub returns : goal.returns
-returns c =
-    on_ok_weaker c.put.result (λ h. let e = h (table c.args.trees.now) in rw (← c.in_ok-body.ensures, ← c.in_ok-end.ensures) e) c.put.ensures
