@@ -60,7 +60,10 @@ fn of_syntax(fault: SyntaxFault, text: &[u8], tokens: &[Token]) -> TextFault
     ensures { result ≡ syntactic text.now tokens.now fault }
 {
     match fault {
-        SyntaxFault::At(number) => TextFault::Refused(FaultKind::Syntax, byte_of(text, tokens, number)),
+        SyntaxFault::At(number) => TextFault::Refused(
+            FaultKind::Syntax,
+            byte_of(text, tokens, number),
+        ),
         SyntaxFault::TooDeep(number) => {
             TextFault::Refused(FaultKind::TooDeep, byte_of(text, tokens, number))
         }

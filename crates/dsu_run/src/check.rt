@@ -16,8 +16,8 @@ use crate::report::{write_names, write_text};
 use c_tree::{DefKind, Program};
 use dsu_io::{Files, Sink};
 use dsu_report::FaultLine;
-use std::alloc::Global;
 use program_file::{TEXT_LIMIT, source_of};
+use std::alloc::Global;
 
 // How many names a definition gives its text: one where it is of a function, a global, an array, a mutex or a
 // struct.

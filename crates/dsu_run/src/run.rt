@@ -18,8 +18,8 @@ use bytecode::{Ending, Event, TrapKind};
 use c_ints::{ArithTrap, Int};
 use dsu_io::{Files, Sink};
 use dsu_report::{FaultLine, ending_status, write_ending};
-use std::alloc::{AllocError, Global};
 use program_file::{TEXT_LIMIT, source_of};
+use std::alloc::{AllocError, Global};
 
 /// A run before anything of it is told: what its expression came to, and its events.
 #[derive(Drop)]

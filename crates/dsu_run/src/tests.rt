@@ -5,9 +5,9 @@ use crate::tests::Came::{Cut, Fault, Names, Overflow, Prints, Usage};
 use crate::top::dsu_main;
 use bytecode::{Ending, Event, TrapKind};
 use dsu_io::{MemoryFiles, MemorySink, Text};
+use program_file::TEXT_LIMIT;
 use std::alloc::{AllocError, Global};
 use std::test::Fail;
-use program_file::TEXT_LIMIT;
 
 const P1: &str = "int main(void) { printf(\"%d\\n\", 2+3*4); return 0; }";
 

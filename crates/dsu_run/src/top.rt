@@ -18,8 +18,8 @@ use crate::request::{Request, request_in};
 use crate::run::run_file;
 use dsu_io::{Files, Sink, Text};
 use dsu_report::FaultLine;
-use std::alloc::Global;
 use program_file::TEXT_LIMIT;
+use std::alloc::Global;
 
 /// Does what the words of a command line say. `run FILE` reads the file from `files`, runs its text, prints on
 /// `out` and reports on `err`; `check FILE` reads it and prints on `out` how many names its text has. The words

@@ -1,31 +1,42 @@
 //! Expressions: their trees, their faults and their depth.
-use c_expr_parser::{SyntaxFault, expression};
-use c_lexer::{Token, lex};
+use crate::reading::{expression_of, tokens_of};
+use c_expr_parser::SyntaxFault;
+use c_lexer::Token;
 use c_tree::{Expr, ExprNode, same_expr};
 use std::alloc::Global;
 use std::test::Fail;
 
-/// What some tokens are read as at a depth: the tree and the number of the token behind it, or the fault.
-/// All tests call `expression` here, since each caller of it is dear to prove.
-fn first(alloc: Global, tokens: &[Token], depth: u32) -> Result<(Expr, usize), SyntaxFault> {
-    let depth = if depth > 64 { 64 } else { depth };
-    expression(alloc, tokens, 0, depth)
+/// How many tokens of a text are read at a depth, or the fault.
+fn read(alloc: Global, text: &str, depth: u32) -> Result<Result<usize, SyntaxFault>, Fail> {
+    let tokens = tokens_of(alloc, text)?;
+    Ok(count_of(alloc, &tokens, depth))
 }
 
-/// What a text is read as at a depth.
-fn read(alloc: Global, text: &str, depth: u32) -> Result<Result<(Expr, usize), SyntaxFault>, Fail> {
-    let tokens = lex(alloc, text.as_bytes())?;
-    Ok(first(alloc, &tokens, depth))
+/// The same of some tokens.
+fn count_of(alloc: Global, tokens: &[Token], depth: u32) -> Result<usize, SyntaxFault> {
+    let (_, to) = expression_of(alloc, tokens, depth)?;
+    Ok(to)
+}
+
+/// A tree, if it is of all tokens.
+fn only(tree: Expr, to: usize, count: usize) -> Result<Expr, Fail> {
+    if to < count {
+        Err(Fail::new("more than an expression"))
+    } else {
+        Ok(tree)
+    }
+}
+
+/// The tree of tokens that are an expression from end to end.
+fn whole_of(alloc: Global, tokens: &[Token]) -> Result<Expr, Fail> {
+    let (tree, to) = expression_of(alloc, tokens, 0)?;
+    only(tree, to, tokens.len())
 }
 
 /// The tree of a text that is an expression from end to end.
 fn whole(alloc: Global, text: &str) -> Result<Expr, Fail> {
-    let tokens = lex(alloc, text.as_bytes())?;
-    let (tree, to) = first(alloc, &tokens, 0)?;
-    if to < tokens.len() {
-        return Err(Fail::new("more than an expression"));
-    }
-    Ok(tree)
+    let tokens = tokens_of(alloc, text)?;
+    whole_of(alloc, &tokens)
 }
 
 /// Whether two texts are one expression.
@@ -187,7 +198,7 @@ static NODES: [(&str, &str, usize); 60] = [
 
 /// Whether tokens begin with so many that are an expression of this node.
 fn begin(alloc: Global, tokens: &[Token], node: &str, count: usize) -> Result<bool, Fail> {
-    let (tree, to) = first(alloc, tokens, 0)?;
+    let (tree, to) = expression_of(alloc, tokens, 0)?;
     if to != count {
         return Ok(false);
     }
@@ -196,7 +207,7 @@ fn begin(alloc: Global, tokens: &[Token], node: &str, count: usize) -> Result<bo
 
 /// The same of a text.
 fn begins(alloc: Global, text: &str, node: &str, count: usize) -> Result<bool, Fail> {
-    let tokens = lex(alloc, text.as_bytes())?;
+    let tokens = tokens_of(alloc, text)?;
     begin(alloc, &tokens, node, count)
 }
 
@@ -229,11 +240,16 @@ static TREES: [(&str, &str); 4] = [
     ),
 ];
 
+/// Whether a tree is printed so.
+fn prints(alloc: Global, tree: &Expr, want: &str) -> Result<bool, Fail> {
+    let shown = format!(in alloc; "{tree:?}")?;
+    Ok(shown.as_str() == want)
+}
+
 /// Whether the tree of a text is printed so.
 fn is_printed(alloc: Global, text: &str, want: &str) -> Result<bool, Fail> {
     let tree = whole(alloc, text)?;
-    let shown = format!(in alloc; "{tree:?}")?;
-    Ok(shown.as_str() == want)
+    prints(alloc, &tree, want)
 }
 
 #[test]
@@ -320,7 +336,7 @@ static NO_TOKENS: [&str; 5] = ["18446744073709551616u", "''", "'ab'", "'\u{e9}'"
 #[test]
 fn malformed_literals_are_no_tokens(rt: HostRuntime) {
     for text in NO_TOKENS.iter() {
-        assert!(rt; lex(rt.alloc(), text.as_bytes()).is_err(), "{text}");
+        assert!(rt; tokens_of(rt.alloc(), text).is_err(), "{text}");
     }
 }
 
@@ -344,14 +360,14 @@ fn format_of(tree: &Expr) -> Option<(usize, &str)> {
 
 /// Whether tokens begin with so many that are a call with this format, whose strings are at byte 7.
 fn have_format(alloc: Global, tokens: &[Token], want: &str, count: usize) -> Result<bool, Fail> {
-    let (tree, to) = first(alloc, tokens, 0)?;
+    let (tree, to) = expression_of(alloc, tokens, 0)?;
     Ok(to == count && format_of(&tree) == Some((7, want)))
 }
 
 /// The same of a call with these strings.
 fn has_format(alloc: Global, strings: &str, want: &str, count: usize) -> Result<bool, Fail> {
     let text = format!(in alloc; "printf({strings})")?;
-    let tokens = lex(alloc, text.as_bytes())?;
+    let tokens = tokens_of(alloc, &text)?;
     have_format(alloc, &tokens, want, count)
 }
 
@@ -522,10 +538,7 @@ static ENDS: [(&str, u32, Result<usize, SyntaxFault>); 73] = [
 fn expressions_end_where_the_grammar_ends(rt: HostRuntime) -> Result<(), Fail> {
     let alloc = rt.alloc();
     for (text, depth, end) in ENDS.iter() {
-        let found = match read(alloc, text, *depth)? {
-            Ok((_, to)) => Ok(to),
-            Err(fault) => Err(fault),
-        };
+        let found = read(alloc, text, *depth)?;
         assert_eq!(rt; found, *end, "{text}");
     }
     Ok(())

@@ -1,6 +1,7 @@
 //! Tests of the front's crates by their public calls: what no clause says, that the calls succeed with ample memory, and
 //! that the definitions which the clauses cite mean what they should, on small texts and on values chosen by hand.
 //!
+//! - `reading`: the calls that the tests make
 //! - `lexer`: tokens and their faults
 //! - `scopes`: declarations in nested tables
 //! - `trees`: which definitions are the same, and copies
@@ -15,6 +16,8 @@ mod expressions;
 mod lexer;
 #[cfg(test)]
 mod programs;
+#[cfg(test)]
+mod reading;
 #[cfg(test)]
 mod scopes;
 #[cfg(test)]

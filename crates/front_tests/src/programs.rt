@@ -1,8 +1,8 @@
 //! Programs: their items, their faults and their depth.
+use crate::reading::{program_in, program_of, tokens_of};
 use c_expr_parser::SyntaxFault;
-use c_lexer::lex;
-use c_parser::parse;
-use c_tree::{DefKind, StmtNode};
+use c_lexer::Token;
+use c_tree::{Def, DefKind, Stmt, StmtNode};
 use std::alloc::Global;
 use std::test::Fail;
 
@@ -44,11 +44,16 @@ static ACCEPTED: [(&str, usize); 16] = [
     ),
 ];
 
-/// How many definitions a text has, and its end.
-fn read(alloc: Global, text: &str) -> Result<(usize, usize), Fail> {
-    let tokens = lex(alloc, text.as_bytes())?;
-    let program = parse(alloc, tokens.as_slice())?;
+/// How many definitions some tokens are, and where the text of the last one ends.
+fn read_of(alloc: Global, tokens: &[Token]) -> Result<(usize, usize), SyntaxFault> {
+    let program = program_of(alloc, tokens)?;
     Ok((program.definitions.as_slice().len(), program.end))
+}
+
+/// The same of a text.
+fn read(alloc: Global, text: &str) -> Result<(usize, usize), Fail> {
+    let tokens = tokens_of(alloc, text)?;
+    Ok(read_of(alloc, &tokens)?)
 }
 
 #[test]
@@ -62,8 +67,8 @@ fn each_kind_of_item_is_read(rt: HostRuntime) -> Result<(), Fail> {
 
 /// The fault of a text.
 fn fault(alloc: Global, text: &str) -> Result<Option<SyntaxFault>, Fail> {
-    let tokens = lex(alloc, text.as_bytes())?;
-    Ok(parse(alloc, tokens.as_slice()).err())
+    let tokens = tokens_of(alloc, text)?;
+    Ok(read_of(alloc, &tokens).err())
 }
 
 /// Texts that are none, and the number of the token where that is seen.
@@ -125,43 +130,75 @@ fn the_sixty_fifth_level_is_too_deep(rt: HostRuntime) -> Result<(), Fail> {
     Ok(())
 }
 
-#[test]
-fn an_else_belongs_to_the_nearest_if(rt: HostRuntime) -> Result<(), Fail> {
-    let tokens = lex(
-        rt.alloc(),
-        b"static int f(void) { if (a) if (b) x; else y; }",
-    )?;
-    let program = parse(rt.alloc(), tokens.as_slice())?;
-    for def in program.definitions.as_slice() {
-        let DefKind::Function(function) = &def.kind else {
-            return Err(Fail::new("no function"));
-        };
-        assert_eq!(rt; def.place, 7);
-        assert_eq!(rt; function.tokens, 20);
-        for stmt in function.body.as_slice() {
-            let StmtNode::If(_, inner) = &stmt.node else {
-                return Err(Fail::new("the first `if` has an `else`"));
-            };
-            let is_whole = match &inner.get().node {
-                StmtNode::IfElse(_, _, _) => true,
-                _ => false,
-            };
-            assert!(rt; is_whole);
-        }
+/// Whether a statement is an `if` without an `else`, of one that has it.
+fn is_nested_if(stmt: &Stmt) -> bool {
+    match &stmt.node {
+        StmtNode::If(_, inner) => matches!(&inner.get().node, StmtNode::IfElse(_, _, _)),
+        _ => false,
     }
-    Ok(())
+}
+
+/// Whether statements are one of that kind.
+fn are_nested_if(stmts: &[Stmt]) -> bool {
+    match stmts {
+        [only] => is_nested_if(only),
+        _ => false,
+    }
+}
+
+/// Whether a definition is a function at this byte, of so many tokens, whose body is one such statement.
+fn has_nested_if(def: &Def, place: usize, tokens: u32) -> bool {
+    match &def.kind {
+        DefKind::Function(function) => def.place == place
+            && function.tokens == tokens
+            && are_nested_if(function.body.as_slice()),
+        _ => false,
+    }
+}
+
+/// Whether definitions are one such function.
+fn have_nested_if(defs: &[Def], place: usize, tokens: u32) -> bool {
+    match defs {
+        [only] => has_nested_if(only, place, tokens),
+        _ => false,
+    }
+}
+
+/// The same of a text.
+fn has_nested_if_in(alloc: Global, text: &str, place: usize, tokens: u32) -> Result<bool, Fail> {
+    let program = program_in(alloc, text)?;
+    Ok(have_nested_if(program.definitions.as_slice(), place, tokens))
 }
 
 #[test]
-fn the_longest_text_is_read(rt: HostRuntime) -> Result<(), Fail> {
-    let mut text = String::new(rt.alloc());
+fn an_else_belongs_to_the_nearest_if(rt: HostRuntime) -> Result<(), Fail> {
+    let text = "static int f(void) { if (a) if (b) x; else y; }";
+    let holds = has_nested_if_in(rt.alloc(), text, 7, 20)?;
+    assert!(rt; holds);
+    Ok(())
+}
+
+/// A text with as many tokens as one may have.
+fn longest(alloc: Global) -> Result<String, Fail> {
+    let mut text = String::new(alloc);
     for _ in 0..21_842 {
         text.push_str("int x;\n")?;
     }
     text.push_str("int x, y; int x, y;")?;
-    let tokens = lex(rt.alloc(), text.as_bytes())?;
-    assert_eq!(rt; tokens.as_slice().len(), 65_536);
-    let (count, _) = read(rt.alloc(), &text)?;
-    assert_eq!(rt; count, 21_846);
+    Ok(text)
+}
+
+/// How many tokens a text has, and how many definitions.
+fn counts(alloc: Global, text: &str) -> Result<(usize, usize), Fail> {
+    let tokens = tokens_of(alloc, text)?;
+    let (definitions, _) = read_of(alloc, &tokens)?;
+    Ok((tokens.len(), definitions))
+}
+
+#[test]
+fn the_longest_text_is_read(rt: HostRuntime) -> Result<(), Fail> {
+    let text = longest(rt.alloc())?;
+    let found = counts(rt.alloc(), &text)?;
+    assert_eq!(rt; found, (65_536, 21_846));
     Ok(())
 }

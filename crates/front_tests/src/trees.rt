@@ -1,7 +1,5 @@
 //! Trees: which definitions are the same, and what a copy holds.
-use c_expr_parser::SyntaxFault;
-use c_lexer::{Token, lex};
-use c_parser::parse;
+use crate::reading::program_in;
 use c_tree::{Def, Program, same_def};
 use std::alloc::{AllocError, Global};
 use std::test::Fail;
@@ -519,11 +517,6 @@ fn contains(shown: &str, part: &str) -> bool {
     shown.contains(part)
 }
 
-/// The program that some tokens are. All tests call `parse` here, since each caller of it is dear to prove.
-fn read(alloc: Global, tokens: &[Token]) -> Result<Program, SyntaxFault> {
-    parse(alloc, tokens)
-}
-
 /// The last definition of a program.
 fn last(program: Program) -> Result<Def, Fail> {
     let mut definitions = program.definitions.into_vec();
@@ -533,15 +526,9 @@ fn last(program: Program) -> Result<Def, Fail> {
     }
 }
 
-/// The one definition that some tokens are.
-fn definition_of(alloc: Global, tokens: &[Token]) -> Result<Def, Fail> {
-    last(read(alloc, tokens)?)
-}
-
 /// The one definition that a text is.
 fn definition(alloc: Global, text: &str) -> Result<Def, Fail> {
-    let tokens = lex(alloc, text.as_bytes())?;
-    definition_of(alloc, &tokens)
+    last(program_in(alloc, text)?)
 }
 
 /// Adds the one definition that a text is.

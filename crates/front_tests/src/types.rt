@@ -1,27 +1,23 @@
 //! The first fault of texts, or that they have none: with ample memory a text is read, and its fault is told where a reader of
 //! the rules finds it.
 
-use c_lexer::lex;
-use c_parser::parse;
+use crate::reading::{program_in, typed_of};
 use c_tree::{Def, Program};
-use c_types::{Known, TypeFault, TypeKind, check};
+use c_types::{Known, TypeFault, TypeKind};
 use std::alloc::{AllocError, Global};
 use std::test::Fail;
 
 /// The tree of a text that the grammar has.
-fn tree(alloc: Global, text: &str) -> Option<Program> {
-    let tokens = lex(alloc, text.as_bytes()).ok()?;
-    let mut program = parse(alloc, &tokens).ok()?;
+fn tree(alloc: Global, text: &str) -> Result<Program, Fail> {
+    let mut program = program_in(alloc, text)?;
     program.end = text.len();
-    Some(program)
+    Ok(program)
 }
 
-/// The fault of a text; a text that isn't read has that of memory, which no case below expects.
-fn fault(alloc: Global, text: &str) -> Option<TypeFault> {
-    match tree(alloc, text) {
-        Some(program) => check(alloc, program).err(),
-        None => Some(TypeFault::Memory),
-    }
+/// The fault of a text.
+fn fault(alloc: Global, text: &str) -> Result<Option<TypeFault>, Fail> {
+    let program = tree(alloc, text)?;
+    Ok(typed_of(alloc, program).err())
 }
 
 /// A text and its first fault.
@@ -118,7 +114,8 @@ static RIGHT: [&str; 5] = [
 fn the_first_fault_is_told(rt: HostRuntime) -> Result<(), Fail> {
     for case in &CASES {
         let due = TypeFault::Refused(case.kind, case.at);
-        assert_eq!(rt; fault(rt.alloc(), case.text), Some(due), "{}", case.text);
+        let found = fault(rt.alloc(), case.text)?;
+        assert_eq!(rt; found, Some(due), "{}", case.text);
     }
     Ok(())
 }
@@ -126,7 +123,7 @@ fn the_first_fault_is_told(rt: HostRuntime) -> Result<(), Fail> {
 #[test]
 fn right_texts_have_none(rt: HostRuntime) -> Result<(), Fail> {
     for text in RIGHT.iter() {
-        let found = fault(rt.alloc(), text);
+        let found = fault(rt.alloc(), text)?;
         assert_eq!(rt; found, None, "{text}");
     }
     Ok(())
@@ -138,14 +135,16 @@ const EACH_KIND: &str =
     dsu_transform struct t { v = old.v; } dsu_transform g = 1; int f(void) { return 1; } int main(void) { return 1; }";
 
 /// The end of the tree of a text without a fault.
-fn typed_end(alloc: Global, text: &str) -> Option<usize> {
-    let typed = check(alloc, tree(alloc, text)?).ok()?;
-    Some(typed.program().end)
+fn typed_end(alloc: Global, text: &str) -> Result<usize, Fail> {
+    let program = tree(alloc, text)?;
+    let typed = typed_of(alloc, program)?;
+    Ok(typed.program().end)
 }
 
 #[test]
 fn each_kind_of_definition_is_accepted(rt: HostRuntime) -> Result<(), Fail> {
-    assert_eq!(rt; typed_end(rt.alloc(), EACH_KIND), Some(EACH_KIND.len()));
+    let end = typed_end(rt.alloc(), EACH_KIND)?;
+    assert_eq!(rt; end, EACH_KIND.len());
     Ok(())
 }
 
@@ -229,16 +228,27 @@ static PAST_LIMITS: [Pieces; 4] = [
     ],
 ];
 
+/// The fault of the text of some pieces.
+fn fault_of(alloc: Global, pieces: &Pieces) -> Result<Option<TypeFault>, Fail> {
+    let text = text_of(alloc, pieces)?;
+    fault(alloc, &text)
+}
+
 #[test]
 fn needs_and_variables_are_counted(rt: HostRuntime) -> Result<(), Fail> {
-    for pieces in &AT_LIMITS {
-        let text = text_of(rt.alloc(), pieces)?;
-        assert_eq!(rt; fault(rt.alloc(), &text), None, "{text}");
+    for (row, pieces) in AT_LIMITS.iter().enumerate() {
+        let found = fault_of(rt.alloc(), pieces)?;
+        assert_eq!(rt; found, None, "row {row}");
     }
-    for pieces in &PAST_LIMITS {
-        let text = text_of(rt.alloc(), pieces)?;
-        let due = TypeFault::Refused(TypeKind::OverLimit, 0);
-        assert_eq!(rt; fault(rt.alloc(), &text), Some(due), "{text}");
+    Ok(())
+}
+
+#[test]
+fn one_more_is_over_the_limit(rt: HostRuntime) -> Result<(), Fail> {
+    let due = TypeFault::Refused(TypeKind::OverLimit, 0);
+    for (row, pieces) in PAST_LIMITS.iter().enumerate() {
+        let found = fault_of(rt.alloc(), pieces)?;
+        assert_eq!(rt; found, Some(due), "row {row}");
     }
     Ok(())
 }
@@ -277,12 +287,15 @@ fn are_found_in(alloc: Global, definitions: &[Def]) -> Result<bool, Fail> {
     Ok(are_found(&known))
 }
 
+/// The same in a text.
+fn are_found_in_text(alloc: Global, text: &str) -> Result<bool, Fail> {
+    let program = tree(alloc, text)?;
+    are_found_in(alloc, program.definitions.as_slice())
+}
+
 #[test]
 fn definitions_are_found_by_their_names(rt: HostRuntime) -> Result<(), Fail> {
-    let Some(program) = tree(rt.alloc(), DEFINITIONS) else {
-        return Err(Fail::new("no tree"));
-    };
-    let are_found = are_found_in(rt.alloc(), program.definitions.as_slice())?;
+    let are_found = are_found_in_text(rt.alloc(), DEFINITIONS)?;
     assert!(rt; are_found);
     Ok(())
 }

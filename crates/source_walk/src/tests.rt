@@ -2,11 +2,11 @@
 //! memory.
 use crate::tests::Came::{Finished, Other, Usage};
 use crate::top::walk_main;
+use c_front::read_text;
 use dsu_io::{MemoryFiles, MemorySink, Text};
 use source_runner::{SourceMove, SourceRun, SourceState, SourceWait, Stepped};
 use std::alloc::{AllocError, Global};
 use std::test::Fail;
-use c_front::read_text;
 
 const SUM: &str = "int main(void) { printf(\"%d\\n\", 2+3*4); return 0; }";
 

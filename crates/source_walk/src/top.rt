@@ -6,9 +6,9 @@ use dsu_cli::CliFault;
 use dsu_io::{Failed, Files, Sink, Text, put, put_all};
 use dsu_report::{FaultLine, ending_status, write_ending, write_fault};
 use itoa::Buffer;
+use program_file::source_of;
 use source_runner::SourceWait;
 use std::alloc::Global;
-use program_file::source_of;
 
 const USAGE: &[u8] = b"usage: source_walk FILE [--moves N] [--objects N]\n";
 

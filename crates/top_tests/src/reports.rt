@@ -2,9 +2,9 @@
 //! sink does.
 
 use bytecode::{Ending, TrapKind};
+use c_front::FaultKind;
 use c_types::TypeKind;
 use dsu_io::MemorySink;
-use c_front::FaultKind;
 use dsu_report::{FaultLine, LineWord, Place, place_of, write_ending, write_fault};
 use std::test::Fail;
 
