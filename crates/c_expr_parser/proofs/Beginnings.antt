@@ -5,7 +5,7 @@ use Rattle.std.proofs.lemmas.Bool.{false≢true, or_right}
 use Rattle.c_ints.specs.declared.operator.UnOp.{UnOp}
 use Rattle.c_lexer.specs.Words.{is_one_of}
 use Rattle.c_lexer.specs.declared.token.TokenKind.{TokenKind}
-use Rattle.c_lexer.specs.declared.token.TokenKind.TheVariants.{Identifier, Keyword, Profile, Number, Character, Str, Mark}
+use Rattle.c_lexer.specs.declared.token.TokenKind.TheVariants.{Identifier, Keyword, LibraryWord, Number, Character, Str, Punctuator}
 use Rattle.c_ints.specs.declared.kind.Kind.{Kind}
 use Rattle.c_ints.specs.declared.kind.Kind.TheVariants.{I8, U8, I16, U16, I32, U32, I64, U64}
 use Rattle.c_tree.specs.declared.name.CType.{CType}
@@ -23,15 +23,15 @@ abbrev pub begins_expression : TokenKind → List ℕ → Bool
 begins_expression Identifier spelling = true
 begins_expression Number spelling = true
 begins_expression Character spelling = true
-begins_expression Mark spelling =
+begins_expression Punctuator spelling =
     is_one_of (codes "(" ∷ codes "+" ∷ codes "-" ∷ codes "~" ∷ codes "!" ∷ codes "++" ∷ codes "--" ∷ []) spelling
-begins_expression Profile spelling =
+begins_expression LibraryWord spelling =
     is_one_of (codes "NULL" ∷ codes "thrd_success" ∷ codes "thrd_error" ∷ codes "printf" ∷ codes "calloc" ∷ codes "free"
     ∷ codes "thrd_create" ∷ codes "thrd_join" ∷ codes "mtx_init" ∷ codes "mtx_lock" ∷ codes "mtx_unlock" ∷ []) spelling
 begins_expression Keyword spelling = false
 begins_expression Str spelling = false
 
--- the first token passes a test of tokens, and stands at the depth
+-- the first token passes a test of tokens, and is at the depth
 pub record Opens (test : TokenKind → List ℕ → Bool) (d : ℕ) (ts : List Placed) : Type 0 where
   pub first : Placed
   pub rest : List Placed
@@ -56,7 +56,7 @@ before o more = record {
   begins = o.begins;
 }
 
-signed : {spelling : List ℕ} {op : UnOp} → UnaryOperator spelling op → IsTrue (begins_expression Mark spelling)
+signed : {spelling : List ℕ} {op : UnOp} → UnaryOperator spelling op → IsTrue (begins_expression Punctuator spelling)
 signed UnaryOperator.plus = refl
 signed UnaryOperator.negate = refl
 signed UnaryOperator.complement = refl
@@ -133,7 +133,7 @@ no_keyword {t} k a =
 -- the tokens that a type begins with
 abbrev pub begins_type : TokenKind → List ℕ → Bool
 begins_type Keyword spelling = is_one_of (codes "struct" ∷ integer_words) spelling
-begins_type Profile spelling = is_one_of (codes "thrd_t" ∷ []) spelling
+begins_type LibraryWord spelling = is_one_of (codes "thrd_t" ∷ []) spelling
 begins_type _ spelling = false
 
 word_opens : {d : ℕ} {t : Placed} → IsIntegerWord d t → (rest : List Placed) → Opens begins_type d (t ∷ rest)
@@ -168,21 +168,21 @@ type_opens (TypeName.thread s) = spelled s refl _
 
 -- the tokens that a statement begins with
 abbrev pub begins_statement : TokenKind → List ℕ → Bool
-begins_statement Mark spelling = is_one_of (codes "{" ∷ codes ";" ∷ []) spelling || begins_expression Mark spelling
+begins_statement Punctuator spelling = is_one_of (codes "{" ∷ codes ";" ∷ []) spelling || begins_expression Punctuator spelling
 begins_statement Keyword spelling =
     is_one_of (codes "if" ∷ codes "while" ∷ codes "do" ∷ codes "for" ∷ codes "break" ∷ codes "continue" ∷ codes "return" ∷ []) spelling
-begins_statement Profile spelling =
-    is_one_of (codes "dsu_update" ∷ codes "dsu_tx" ∷ []) spelling || begins_expression Profile spelling
+begins_statement LibraryWord spelling =
+    is_one_of (codes "dsu_update" ∷ codes "dsu_tx" ∷ []) spelling || begins_expression LibraryWord spelling
 begins_statement kind spelling = begins_expression kind spelling
 
 widened : (kind : TokenKind) (spelling : List ℕ) → IsTrue (begins_expression kind spelling) → IsTrue (begins_statement kind spelling)
 widened Identifier s h = h
 widened Keyword s h = absurd (false≢true h)
-widened Profile s h = or_right _ _ h
+widened LibraryWord s h = or_right _ _ h
 widened Number s h = h
 widened Character s h = h
 widened Str s h = h
-widened Mark s h = or_right _ _ h
+widened Punctuator s h = or_right _ _ h
 
 as_statement : {d : ℕ} {ts : List Placed} → Opens begins_expression d ts → Opens begins_statement d ts
 as_statement o = record {

@@ -1,4 +1,4 @@
--- What stands behind an operand: chains of operators, and where the walk stands behind a part of one.
+-- What comes after an operand: chains of operators, and where the walk comes after a part of one.
 use Rattle.std.specs.Prelude.{◌≡◌, ℕ, zero, suc, Bool, true, false, List, [], ◌∷◌, Option, Some, None, codes}
 use Rattle.std.proofs.Common.{refl, ap, sym, subst, ◌∙◌, arith}
 use Rattle.std.proofs.Math.Path.{fun_ext}
@@ -9,12 +9,12 @@ use Rattle.c_expr_parser.specs.declared.operand.Operand.{Operand}
 use Rattle.c_expr_parser.specs.Placed.{Placed, start}
 use Rattle.c_expr_parser.specs.Operators.{loosest}
 use Rattle.c_expr_parser.specs.Tables.{begins_type}
-use Rattle.c_expr_parser.specs.Walk.{Value, Plan, Trace, after, run, as_operand, as_expr, as_type, other, chains, conditional_rest, assignment, assignment_rest, mark, type_plan, operand_plan}
-use Rattle.c_expr_parser.specs.Walk.Value.{operand}
-use Rattle.c_expr_parser.specs.Walk.Wanted.{Typing, Cast, Inside, Postfix, Assigned, Chain, Chosen, Arguments, Further}
-use Rattle.c_expr_parser.specs.Walk.Plan.{Return, Then}
-use Rattle.c_expr_parser.specs.Walk.Trace.{Put, Dead}
-use Rattle.c_expr_parser.proofs.CompleteWalks.{Reaches, Skips, after_after, at_token, at_none, skipped}
+use Rattle.c_expr_parser.specs.Plans.{Value, Plan, Trace, after, run, as_operand, as_expr, as_type, other, chains, conditional_rest, assignment, assignment_rest, punctuator, type_plan, operand_plan}
+use Rattle.c_expr_parser.specs.Plans.Value.{operand}
+use Rattle.c_expr_parser.specs.Plans.Wanted.{Typing, Cast, Inside, Postfix, Assigned, Chain, Chosen, Arguments, Further}
+use Rattle.c_expr_parser.specs.Plans.Plan.{Return, Then}
+use Rattle.c_expr_parser.specs.Plans.Trace.{Put, Dead}
+use Rattle.c_expr_parser.proofs.CompletePlans.{Reaches, Skips, after_after, at_token, at_none, skipped}
 use Rattle.c_expr_parser.proofs.CompleteEnds.{EndsBinary, EndsExpression}
 
 -- the operand of some tokens
@@ -26,7 +26,7 @@ abbrev pub opening : Bool → ℕ → ℕ → (Value → Plan) → Value → Pla
 opening false level d k v = after (chains level d v) k
 opening true level d k v = Then (Assigned d (as_operand v)) (λ w. after (chains level d w) k)
 
--- where the walk stands behind an operand of a level
+-- where the walk comes after an operand of a level
 abbrev pub loop : ℕ → ℕ → Value → (Value → Plan) → Plan
 loop zero d v k = k v
 loop (suc level) d v k = Then (Chain level d (as_operand v)) k
@@ -79,10 +79,10 @@ conditional_ends d {ts} {rest} {p} a k ends r =
 -- what follows a type inside parentheses, an expression there, and a first argument
 abbrev pub cast_behind : ℕ → ℕ → Value → Plan
 cast_behind d place ty =
-    mark (codes ")") d (Then (Cast (suc d)) (λ v. Return (operand (other place (node.Cast (as_type ty) (as_expr v))))))
+    punctuator (codes ")") d (Then (Cast (suc d)) (λ v. Return (operand (other place (node.Cast (as_type ty) (as_expr v))))))
 
 abbrev pub close_behind : ℕ → ℕ → Value → Plan
-close_behind d place v = mark (codes ")") d (Then (Postfix d (record { expr = as_expr v; start = place; is_unary = true })) Return)
+close_behind d place v = punctuator (codes ")") d (Then (Postfix d (record { expr = as_expr v; start = place; is_unary = true })) Return)
 
 abbrev pub argument_behind : ℕ → Value → Plan
 argument_behind d v = Then (Further d (as_expr v ∷ [])) Return

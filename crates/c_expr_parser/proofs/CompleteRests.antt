@@ -5,7 +5,7 @@ use Rattle.std.proofs.Common.{refl, sym}
 use Rattle.std.proofs.lemmas.Bool.{false≢true}
 use Rattle.c_lexer.specs.Words.{is_one_of}
 use Rattle.c_lexer.specs.declared.token.Token.{Token}
-use Rattle.c_lexer.specs.declared.token.TokenKind.TheVariants.{Mark}
+use Rattle.c_lexer.specs.declared.token.TokenKind.TheVariants.{Punctuator}
 use Rattle.c_expr_parser.specs.Tables.{look, is_kind, is_integer_word, binary_operators, compound_operators}
 use Rattle.c_expr_parser.proofs.CompleteEnds.{EndsUnary, EndsExpression, at_end, no_assignment}
 use Rattle.c_expr_parser.proofs.CompleteTypes.{EndsType}
@@ -19,17 +19,17 @@ Rests test (t ∷ ts) = test t ≡ false
 abbrev spelled_in : {A : Type 0} → List (List ℕ × A) → List (List ℕ)
 spelled_in rows = map (λ row. row.0) rows
 
--- the marks that go on with a unary expression, and with an expression
-abbrev postfix_marks : List (List ℕ)
-postfix_marks = codes "(" ∷ codes "[" ∷ codes "->" ∷ codes "." ∷ codes "++" ∷ codes "--" ∷ []
+-- the punctuators that go on with a unary expression, and with an expression
+abbrev postfix_punctuators : List (List ℕ)
+postfix_punctuators = codes "(" ∷ codes "[" ∷ codes "->" ∷ codes "." ∷ codes "++" ∷ codes "--" ∷ []
 
 abbrev pub goes_on_unary : Token → Bool
-goes_on_unary t = is_kind Mark t && is_one_of postfix_marks t.text
+goes_on_unary t = is_kind Punctuator t && is_one_of postfix_punctuators t.text
 
 abbrev pub goes_on_expression : Token → Bool
 goes_on_expression t =
-    is_kind Mark t
-    && (is_one_of postfix_marks t.text
+    is_kind Punctuator t
+    && (is_one_of postfix_punctuators t.text
     || (is_one_of (codes "=" ∷ codes "?" ∷ []) t.text
     || (is_one_of (spelled_in compound_operators) t.text || is_one_of (spelled_in binary_operators) t.text)))
 
@@ -55,36 +55,36 @@ each_of_six text a b c d e f h =
     let h5 = neither (bytes_eq text e) _ h4.1 in
     (h1.0, (h2.0, (h3.0, (h4.0, (h5.0, (neither (bytes_eq text f) _ h5.1).0)))))
 
--- what is no mark goes on with nothing
-no_mark : (t : Token) (ts : List Token) → is_kind Mark t ≡ false → EndsExpression (t ∷ ts)
-no_mark t ts k = record {
+-- what is no punctuator goes on with nothing
+no_punctuator : (t : Token) (ts : List Token) → is_kind Punctuator t ≡ false → EndsExpression (t ∷ ts)
+no_punctuator t ts k = record {
   unary = record { behind = λ d place text. rw k refl; postfix = λ d a. rw k refl };
   assigned = λ d a. no_assignment d a t (rw k refl);
   chains = λ i d a. rw k refl;
   chosen = λ d a. rw k refl;
 }
 
-unary_mark : (t : Token) (ts : List Token) → is_kind Mark t ≡ true → is_one_of postfix_marks t.text ≡ false → EndsUnary (t ∷ ts)
-unary_mark t ts k h =
+unary_punctuator : (t : Token) (ts : List Token) → is_kind Punctuator t ≡ true → is_one_of postfix_punctuators t.text ≡ false → EndsUnary (t ∷ ts)
+unary_punctuator t ts k h =
     let parts = each_of_six t.text _ _ _ _ _ _ h in
     record {
       behind = λ d place text. rw (k, parts.0, parts.1.0) refl;
       postfix = λ d a. rw (k, parts.1.1.0, parts.1.1.1.0, parts.1.1.1.1.0, parts.1.1.1.1.1) refl;
     }
 
-other_mark : (t : Token) (ts : List Token) → is_kind Mark t ≡ true
-    → (is_one_of postfix_marks t.text
+other_punctuator : (t : Token) (ts : List Token) → is_kind Punctuator t ≡ true
+    → (is_one_of postfix_punctuators t.text
     || (is_one_of (codes "=" ∷ codes "?" ∷ []) t.text
     || (is_one_of (spelled_in compound_operators) t.text || is_one_of (spelled_in binary_operators) t.text))) ≡ false
     → EndsExpression (t ∷ ts)
-other_mark t ts k h =
-    let first = neither (is_one_of postfix_marks t.text) _ h in
+other_punctuator t ts k h =
+    let first = neither (is_one_of postfix_punctuators t.text) _ h in
     let second = neither (is_one_of (codes "=" ∷ codes "?" ∷ []) t.text) _ first.1 in
     let third = neither (is_one_of (spelled_in compound_operators) t.text) _ second.1 in
     let equals = neither (bytes_eq t.text (codes "=")) _ second.0 in
     let asks = neither (bytes_eq t.text (codes "?")) _ equals.1 in
     record {
-      unary = unary_mark t ts k first.0;
+      unary = unary_punctuator t ts k first.0;
       assigned = λ d a. no_assignment d a t (rw (k, equals.0, look_none t.text compound_operators third.0) refl);
       chains = λ i d a. rw (k, look_none t.text binary_operators third.1) refl;
       chosen = λ d a. rw (k, asks.0) refl;
@@ -94,17 +94,17 @@ other_mark t ts k h =
 pub ends_expression : (rest : List Token) → Rests goes_on_expression rest → EndsExpression rest
 ends_expression [] h = at_end
 ends_expression (t ∷ ts) h =
-    (elim (is_kind Mark t) as (λ mark. is_kind Mark t ≡ mark → EndsExpression (t ∷ ts)) [
-      | true ↦ λ k. other_mark t ts k (rw k at h)
-      | false ↦ λ k. no_mark t ts k
+    (elim (is_kind Punctuator t) as (λ punctuator. is_kind Punctuator t ≡ punctuator → EndsExpression (t ∷ ts)) [
+      | true ↦ λ k. other_punctuator t ts k (rw k at h)
+      | false ↦ λ k. no_punctuator t ts k
     ]) refl
 
 pub ends_unary : (rest : List Token) → Rests goes_on_unary rest → EndsUnary rest
 ends_unary [] h = at_end.unary
 ends_unary (t ∷ ts) h =
-    (elim (is_kind Mark t) as (λ mark. is_kind Mark t ≡ mark → EndsUnary (t ∷ ts)) [
-      | true ↦ λ k. unary_mark t ts k (rw k at h)
-      | false ↦ λ k. (no_mark t ts k).unary
+    (elim (is_kind Punctuator t) as (λ punctuator. is_kind Punctuator t ≡ punctuator → EndsUnary (t ∷ ts)) [
+      | true ↦ λ k. unary_punctuator t ts k (rw k at h)
+      | false ↦ λ k. (no_punctuator t ts k).unary
     ]) refl
 
 -- and a type, where the next token is no word of an integer type

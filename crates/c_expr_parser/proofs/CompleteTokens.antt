@@ -13,11 +13,11 @@ use Rattle.c_expr_parser.specs.Terminals.{Spells, IsIdentifier, IsNumber, IsCons
 use Rattle.c_expr_parser.specs.Quoted.{IsQuoted}
 use Rattle.std.specs.Str.{bytes_eq}
 use Rattle.c_expr_parser.specs.Tables.{is, kind_number, before_quote, unquoted, constant_of}
-use Rattle.c_expr_parser.specs.Walk.{Value, Wanted, Plan, after, depth_of, takes, operand_plan}
-use Rattle.c_expr_parser.specs.Walk.Value.{nothing, named}
-use Rattle.c_expr_parser.specs.Walk.Wanted.{Word, Naming, One, MoreStrings, Cast, Unary}
-use Rattle.c_expr_parser.specs.Walk.Plan.{Return, Then}
-use Rattle.c_expr_parser.proofs.CompleteWalks.{Reaches, stays, taken}
+use Rattle.c_expr_parser.specs.Plans.{Value, Wanted, Plan, after, depth_of, takes, operand_plan}
+use Rattle.c_expr_parser.specs.Plans.Value.{nothing, named}
+use Rattle.c_expr_parser.specs.Plans.Wanted.{Word, Naming, One, MoreStrings, Cast, Unary}
+use Rattle.c_expr_parser.specs.Plans.Plan.{Return, Then}
+use Rattle.c_expr_parser.proofs.CompletePlans.{Reaches, stays, taken}
 
 bytes_same : (s : List ℕ) → bytes_eq s s ≡ true
 bytes_same s = (bytes_eq-Decides s s).1 refl
@@ -70,7 +70,7 @@ before_closing q (b ∷ c ∷ body) = rw (before_closing q (c ∷ body)) refl
 pub unquoted_is : {q : ℕ} {spelling bytes : List ℕ} → IsQuoted q spelling bytes → unquoted q spelling ≡ Some bytes
 unquoted_is {q} i = rw (i.are, eq-eqb q q refl, before_closing q i.body, i.means) refl
 
--- further strings behind some
+-- further strings after some
 more_strings : {d : ℕ} {ts : List Placed} {bytes : List ℕ} {rest : List Token} {k : Value → Plan} → Strings d ts bytes
     → (place : ℕ) (before : List ℕ)
     → Reaches ts rest (Then (MoreStrings d place before) k) (Then (MoreStrings d place (before ++ bytes)) k)

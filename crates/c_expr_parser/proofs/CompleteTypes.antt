@@ -8,20 +8,20 @@ use Rattle.c_ints.specs.declared.kind.Kind.{Kind}
 use Rattle.c_lexer.specs.Words.{is_one_of}
 use Rattle.c_lexer.specs.declared.token.Token.{Token}
 use Rattle.c_lexer.specs.declared.token.TokenKind.{TokenKind}
-use Rattle.c_lexer.specs.declared.token.TokenKind.TheVariants.{Identifier, Keyword, Profile, Number, Character, Str, Mark}
+use Rattle.c_lexer.specs.declared.token.TokenKind.TheVariants.{Identifier, Keyword, LibraryWord, Number, Character, Str, Punctuator}
 use Rattle.c_tree.specs.declared.name.CType.{CType}
 use Rattle.c_tree.specs.declared.name.CType.TheVariants.{Integer}
 use Rattle.c_expr_parser.specs.Placed.{Placed, text}
 use Rattle.c_expr_parser.specs.TypeNames.{TypeName, IntegerWords, IsIntegerWord, integer_words, is_spelling}
 use Rattle.c_expr_parser.specs.Tables.{kind_of, is_integer_word, begins_type}
-use Rattle.c_expr_parser.specs.Walk.{Value, Plan, takes, left_out}
-use Rattle.c_expr_parser.specs.Walk.Value.{typed}
-use Rattle.c_expr_parser.specs.Walk.Wanted.{Typing, Words}
-use Rattle.c_expr_parser.specs.Walk.Plan.{Return, Then}
+use Rattle.c_expr_parser.specs.Plans.{Value, Plan, takes, left_out}
+use Rattle.c_expr_parser.specs.Plans.Value.{typed}
+use Rattle.c_expr_parser.specs.Plans.Wanted.{Typing, Words}
+use Rattle.c_expr_parser.specs.Plans.Plan.{Return, Then}
 use Rattle.c_expr_parser.proofs.OneKind.{means}
 use Rattle.c_expr_parser.proofs.Beginnings.{Opens, type_opens}
 use Rattle.c_expr_parser.proofs.Beginnings
-use Rattle.c_expr_parser.proofs.CompleteWalks.{Reaches, Skips, stays, taken, skipped}
+use Rattle.c_expr_parser.proofs.CompletePlans.{Reaches, Skips, stays, taken, skipped}
 use Rattle.c_expr_parser.proofs.CompleteWords.{front_means}
 use Rattle.c_expr_parser.proofs.CompleteTokens.{taken_spelled, word, naming}
 
@@ -36,7 +36,7 @@ some_plan : {A : Type 0} (p : Plan) (o : Option A) → is_some o ≡ true → op
 some_plan p None h = absurd (false≢true h)
 some_plan p (Some a) h = refl
 
--- further words behind some
+-- further words after some
 more_words : {d : ℕ} {ts : List Placed} {words : List (List ℕ)} {rest : List Token} {k : Value → Plan} → IntegerWords d ts words
     → (kind : Kind) (one : List ℕ) (before : List (List ℕ)) → IsTrue (is_one_of integer_words one)
     → IsTrue (is_spelling kind ((one ∷ before) ++ words))
@@ -81,30 +81,30 @@ or_false false = refl
 pub begins_same : (kind : TokenKind) (place many : ℕ) (spelling : List ℕ)
     → begins_type (record { kind = kind; at = place; len = many; text = spelling }) ≡ Beginnings.begins_type kind spelling
 begins_same Keyword p m s = either_way _ _
-begins_same Profile p m s = or_false _
+begins_same LibraryWord p m s = or_false _
 begins_same Identifier p m s = refl
 begins_same Number p m s = refl
 begins_same Character p m s = refl
 begins_same Str p m s = refl
-begins_same Mark p m s = refl
+begins_same Punctuator p m s = refl
 
 -- what begins an expression begins no type
 apart : (spelling : List ℕ) (same : Bool) → bytes_eq spelling (codes "thrd_t") ≡ same
-    → Beginnings.begins_expression Profile spelling ≡ true → (same || false) ≡ false
+    → Beginnings.begins_expression LibraryWord spelling ≡ true → (same || false) ≡ false
 apart spelling false e h = refl
 apart spelling true e h =
     let is : spelling ≡ codes "thrd_t" = (bytes_eq-Decides spelling (codes "thrd_t")).0 e in
-    absurd (false≢true (subst (λ s. Beginnings.begins_expression Profile s ≡ true) is h))
+    absurd (false≢true (subst (λ s. Beginnings.begins_expression LibraryWord s ≡ true) is h))
 
 begins_no_type : (kind : TokenKind) (spelling : List ℕ) → Beginnings.begins_expression kind spelling ≡ true
     → Beginnings.begins_type kind spelling ≡ false
 begins_no_type Keyword s h = absurd (false≢true h)
-begins_no_type Profile s h = apart s (bytes_eq s (codes "thrd_t")) refl h
+begins_no_type LibraryWord s h = apart s (bytes_eq s (codes "thrd_t")) refl h
 begins_no_type Identifier s h = refl
 begins_no_type Number s h = refl
 begins_no_type Character s h = refl
 begins_no_type Str s h = refl
-begins_no_type Mark s h = refl
+begins_no_type Punctuator s h = refl
 
 pub no_type : (t : Token) → Beginnings.begins_expression t.kind t.text ≡ true → begins_type t ≡ false
 no_type t h = begins_same t.kind t.at t.len t.text ∙ begins_no_type t.kind t.text h

@@ -1,4 +1,4 @@
--- The words of an integer type can be read one by one: some of them from the front on already mean a type.
+-- The words of an integer type can be read one by one: some of them from the start on already mean a type.
 use Rattle.std.specs.Prelude.{◌≡◌, ◌≤◌, ◌+◌, ◌==◌, ◌&&◌, ◌||◌, ℕ, zero, suc, Bool, true, cond, IsTrue, List, [], ◌∷◌, ◌++◌, is_some, codes}
 use Rattle.std.specs.List.{list_any, find, count_by}
 use Rattle.std.specs.Str.{bytes_eq}
@@ -146,7 +146,7 @@ some_counted word words known z =
       | inr (inr (inr (inr (inr e)))) ↦ counted_one (bytes_eq (codes "unsigned")) word words (rw e refl) parts.1.1.1.1.1
     ]
 
--- some of a spelling's words from the front on mean a type
+-- some of a spelling's words from the start on mean a type
 pub front_means : (kind : Kind) (word : List ℕ) (words back : List (List ℕ)) → IsTrue (is_one_of integer_words word)
     → IsTrue (is_spelling kind ((word ∷ words) ++ back)) → is_some (kind_of (word ∷ words)) ≡ true
 front_means kind word words back known h =

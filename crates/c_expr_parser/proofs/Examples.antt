@@ -24,7 +24,7 @@ use Rattle.c_expr_parser.specs.Statements.{stmt, Statement, Items, First, Option
 use Rattle.c_expr_parser.specs.Statements.Ending.{dangling, complete}
 use Rattle.c_expr_parser.specs.Definitions.{def, Static, ResultType, ParameterList, FunctionDefinition, Item, ItemList, TranslationUnit}
 use Rattle.c_expr_parser.specs.Terminals.{IsConstant}
-use Rattle.c_expr_parser.proofs.Samples.{placed, profile, is_profile, mark, keyword, identifier, is_mark, is_keyword, is_identifier, variable, reads_variable, sum, term, whole, reads}
+use Rattle.c_expr_parser.proofs.Samples.{placed, library_word, is_library_word, punctuator, keyword, identifier, is_punctuator, is_keyword, is_identifier, variable, reads_variable, sum, term, whole, reads}
 
 -- the words of a type in any order
 short_int : is_spelling I16 (codes "int" ∷ codes "short" ∷ []) ≡ true
@@ -48,11 +48,11 @@ zero_character = record { body = codes "\\0"; are = refl; means = refl }
 
 -- a - b - c
 minus : {d : ℕ} (place : ℕ) {left right : List Placed} {a b : Expr} → Binary 2 d left a → Binary 1 d right b
-    → Binary 2 d (left ++ mark d place "-" ∷ right) (expr (start left) (node.Binary Sub a b))
-minus {d} place a b = Binary.chain a BinaryOperator.minus (is_mark d place "-") b
+    → Binary 2 d (left ++ punctuator d place "-" ∷ right) (expr (start left) (node.Binary Sub a b))
+minus {d} place a b = Binary.chain a BinaryOperator.minus (is_punctuator d place "-") b
 
 from_the_left : Assignment 0
-    (identifier 0 0 "a" ∷ mark 0 2 "-" ∷ identifier 0 4 "b" ∷ mark 0 6 "-" ∷ identifier 0 8 "c" ∷ [])
+    (identifier 0 0 "a" ∷ punctuator 0 2 "-" ∷ identifier 0 4 "b" ∷ punctuator 0 6 "-" ∷ identifier 0 8 "c" ∷ [])
     (expr 0 (node.Binary Sub (expr 0 (node.Binary Sub (variable 0 "a") (variable 4 "b"))) (variable 8 "c")))
 from_the_left =
     sum (minus 6 (minus 2 (Binary.tighter (term (Cast.unary (reads_variable 0 0 "a")))) (term (Cast.unary (reads_variable 0 4 "b"))))
@@ -65,64 +65,64 @@ int_type depth place =
     (record { keyword = record { sort = refl; stands = refl }; known = refl }) IntegerWords.none) refl
 
 a_cast : Assignment 0
-    (mark 0 0 "(" ∷ keyword 1 1 "int" ∷ mark 0 4 ")" ∷ identifier 1 6 "x" ∷ [])
+    (punctuator 0 0 "(" ∷ keyword 1 1 "int" ∷ punctuator 0 4 ")" ∷ identifier 1 6 "x" ∷ [])
     (expr 0 (node.Cast (Integer I32) (variable 6 "x")))
-a_cast = whole (Cast.cast (is_mark 0 0 "(") (int_type 1 1) (is_mark 0 4 ")") (Cast.unary (reads_variable 1 6 "x")))
+a_cast = whole (Cast.cast (is_punctuator 0 0 "(") (int_type 1 1) (is_punctuator 0 4 ")") (Cast.unary (reads_variable 1 6 "x")))
 
 -- x = y = z, the right side one deeper each time
 right_sides : Assignment 0
-    (identifier 0 0 "x" ∷ mark 0 2 "=" ∷ identifier 1 4 "y" ∷ mark 1 6 "=" ∷ identifier 2 8 "z" ∷ [])
+    (identifier 0 0 "x" ∷ punctuator 0 2 "=" ∷ identifier 1 4 "y" ∷ punctuator 1 6 "=" ∷ identifier 2 8 "z" ∷ [])
     (expr 0 (node.Assign (variable 0 "x") (expr 4 (node.Assign (variable 4 "y") (variable 8 "z")))))
 right_sides =
-    Assignment.assign (reads_variable 0 0 "x") (is_mark 0 2 "=")
-    (Assignment.assign (reads_variable 1 4 "y") (is_mark 1 6 "=") (whole (Cast.unary (reads_variable 2 8 "z"))))
+    Assignment.assign (reads_variable 0 0 "x") (is_punctuator 0 2 "=")
+    (Assignment.assign (reads_variable 1 4 "y") (is_punctuator 1 6 "=") (whole (Cast.unary (reads_variable 2 8 "z"))))
 
 -- (a) - b: the parentheses make no node, and the difference begins at them
 parentheses : Assignment 0
-    (mark 0 0 "(" ∷ identifier 1 1 "a" ∷ mark 0 2 ")" ∷ mark 0 4 "-" ∷ identifier 0 6 "b" ∷ [])
+    (punctuator 0 0 "(" ∷ identifier 1 1 "a" ∷ punctuator 0 2 ")" ∷ punctuator 0 4 "-" ∷ identifier 0 6 "b" ∷ [])
     (expr 0 (node.Binary Sub (variable 1 "a") (variable 6 "b")))
 parentheses =
     sum (minus 4
     (Binary.tighter (term (Cast.unary (Unary.postfix (Postfix.primary
-    (Primary.parentheses (is_mark 0 0 "(") (reads 1 1 "a") (is_mark 0 2 ")")))))))
+    (Primary.parentheses (is_punctuator 0 0 "(") (reads 1 1 "a") (is_punctuator 0 2 ")")))))))
     (term (Cast.unary (reads_variable 0 6 "b"))))
 
 -- an `else` belongs to the nearest `if`: if (a) if (b) ; else ;
 nearest : Statement dangling 0
-    (keyword 0 0 "if" ∷ mark 0 3 "(" ∷ identifier 1 4 "a" ∷ mark 0 5 ")"
-    ∷ keyword 1 7 "if" ∷ mark 1 10 "(" ∷ identifier 2 11 "b" ∷ mark 1 12 ")" ∷ mark 2 14 ";"
-    ∷ keyword 1 16 "else" ∷ mark 2 21 ";" ∷ [])
+    (keyword 0 0 "if" ∷ punctuator 0 3 "(" ∷ identifier 1 4 "a" ∷ punctuator 0 5 ")"
+    ∷ keyword 1 7 "if" ∷ punctuator 1 10 "(" ∷ identifier 2 11 "b" ∷ punctuator 1 12 ")" ∷ punctuator 2 14 ";"
+    ∷ keyword 1 16 "else" ∷ punctuator 2 21 ";" ∷ [])
     (stmt 0 (made.If (variable 4 "a") (stmt 7 (made.IfElse (variable 11 "b") (stmt 14 made.Empty) (stmt 21 made.Empty)))))
 nearest =
-    Statement.if_only (is_keyword 0 0 "if") (is_mark 0 3 "(") (reads 1 4 "a") (is_mark 0 5 ")")
-    (Statement.if_else (is_keyword 1 7 "if") (is_mark 1 10 "(") (reads 2 11 "b") (is_mark 1 12 ")")
-    (Statement.empty (is_mark 2 14 ";")) (is_keyword 1 16 "else") (Statement.empty (is_mark 2 21 ";")))
+    Statement.if_only (is_keyword 0 0 "if") (is_punctuator 0 3 "(") (reads 1 4 "a") (is_punctuator 0 5 ")")
+    (Statement.if_else (is_keyword 1 7 "if") (is_punctuator 1 10 "(") (reads 2 11 "b") (is_punctuator 1 12 ")")
+    (Statement.empty (is_punctuator 2 14 ";")) (is_keyword 1 16 "else") (Statement.empty (is_punctuator 2 21 ";")))
 
 -- for (int i = n, j; ; i++) ;
 a_for : Statement complete 0
-    (keyword 0 0 "for" ∷ mark 0 4 "(" ∷ keyword 1 5 "int" ∷ identifier 1 9 "i" ∷ mark 1 11 "=" ∷ identifier 1 13 "n"
-    ∷ mark 1 14 "," ∷ identifier 1 16 "j" ∷ mark 1 17 ";" ∷ mark 1 19 ";" ∷ identifier 1 21 "i" ∷ mark 1 22 "++"
-    ∷ mark 0 24 ")" ∷ mark 1 26 ";" ∷ [])
+    (keyword 0 0 "for" ∷ punctuator 0 4 "(" ∷ keyword 1 5 "int" ∷ identifier 1 9 "i" ∷ punctuator 1 11 "=" ∷ identifier 1 13 "n"
+    ∷ punctuator 1 14 "," ∷ identifier 1 16 "j" ∷ punctuator 1 17 ";" ∷ punctuator 1 19 ";" ∷ identifier 1 21 "i" ∷ punctuator 1 22 "++"
+    ∷ punctuator 0 24 ")" ∷ punctuator 1 26 ";" ∷ [])
     (stmt 0 (made.For
     (stmt 5 (made.Declare (record { declared = Integer I32; name = record { place = 9; text = codes "i" }; initial = Some (variable 13 "n") }))
     ∷ stmt 5 (made.Declare (record { declared = Integer I32; name = record { place = 16; text = codes "j" }; initial = None }))
     ∷ [])
     None (Some (expr 21 (node.Step PostIncrement (variable 21 "i")))) (stmt 26 made.Empty)))
 a_for =
-    Statement.for (is_keyword 0 0 "for") (is_mark 0 4 "(")
+    Statement.for (is_keyword 0 0 "for") (is_punctuator 0 4 "(")
     (First.declaration (Variables.declaration (int_type 1 5)
-    (Declarators.more (Variable.initialised (is_identifier 1 9 "i") (is_mark 1 11 "=") (reads 1 13 "n")) (is_mark 1 14 ",")
+    (Declarators.more (Variable.initialised (is_identifier 1 9 "i") (is_punctuator 1 11 "=") (reads 1 13 "n")) (is_punctuator 1 14 ",")
     Star.integer (Declarators.last (Variable.plain (is_identifier 1 16 "j"))))
-    (is_mark 1 17 ";")))
-    Optional.absent (is_mark 1 19 ";")
+    (is_punctuator 1 17 ";")))
+    Optional.absent (is_punctuator 1 19 ";")
     (Optional.present (whole (Cast.unary (Unary.postfix (Postfix.post_increment
-    (Postfix.primary (Primary.variable (is_identifier 1 21 "i"))) (is_mark 1 22 "++"))))))
-    (is_mark 0 24 ")") (Statement.empty (is_mark 1 26 ";"))
+    (Postfix.primary (Primary.variable (is_identifier 1 21 "i"))) (is_punctuator 1 22 "++"))))))
+    (is_punctuator 0 24 ")") (Statement.empty (is_punctuator 1 26 ";"))
 
 -- static int f(void) { return; }
 a_program : TranslationUnit
-    (keyword 0 0 "static" ∷ keyword 0 7 "int" ∷ identifier 0 11 "f" ∷ mark 0 12 "(" ∷ keyword 1 13 "void" ∷ mark 0 17 ")"
-    ∷ mark 0 19 "{" ∷ keyword 1 21 "return" ∷ mark 1 27 ";" ∷ mark 0 29 "}" ∷ [])
+    (keyword 0 0 "static" ∷ keyword 0 7 "int" ∷ identifier 0 11 "f" ∷ punctuator 0 12 "(" ∷ keyword 1 13 "void" ∷ punctuator 0 17 ")"
+    ∷ punctuator 0 19 "{" ∷ keyword 1 21 "return" ∷ punctuator 1 27 ";" ∷ punctuator 0 29 "}" ∷ [])
     (record {
       definitions = def 7 (kind.Function (record {
         result = Some (Integer I32);
@@ -136,10 +136,10 @@ a_program : TranslationUnit
     })
 a_program = TranslationUnit.program (ItemList.more
     (Item.function (Static.present (is_keyword 0 0 "static"))
-    (FunctionDefinition.function (ResultType.value (int_type 0 7)) (is_identifier 0 11 "f") (is_mark 0 12 "(")
-    (ParameterList.void (is_keyword 1 13 "void")) (is_mark 0 17 ")") (is_mark 0 19 "{")
-    (Items.statement (Statement.return (is_keyword 1 21 "return") (is_mark 1 27 ";")) Items.none)
-    (is_mark 0 29 "}") refl))
+    (FunctionDefinition.function (ResultType.value (int_type 0 7)) (is_identifier 0 11 "f") (is_punctuator 0 12 "(")
+    (ParameterList.void (is_keyword 1 13 "void")) (is_punctuator 0 17 ")") (is_punctuator 0 19 "{")
+    (Items.statement (Statement.return (is_keyword 1 21 "return") (is_punctuator 1 27 ";")) Items.none)
+    (is_punctuator 0 29 "}") refl))
     ItemList.none)
 
 -- an empty text
@@ -165,9 +165,9 @@ one = record {
 
 -- calloc(1, sizeof(struct s)) makes an object of s
 new : Assignment 0
-    (profile 0 0 "calloc" ∷ mark 0 6 "(" ∷ placed Number 1 7 "1" ∷ mark 1 8 "," ∷ keyword 1 10 "sizeof" ∷ mark 1 16 "("
-    ∷ keyword 2 17 "struct" ∷ identifier 2 24 "s" ∷ mark 1 25 ")" ∷ mark 0 26 ")" ∷ [])
+    (library_word 0 0 "calloc" ∷ punctuator 0 6 "(" ∷ placed Number 1 7 "1" ∷ punctuator 1 8 "," ∷ keyword 1 10 "sizeof" ∷ punctuator 1 16 "("
+    ∷ keyword 2 17 "struct" ∷ identifier 2 24 "s" ∷ punctuator 1 25 ")" ∷ punctuator 0 26 ")" ∷ [])
     (expr 0 (node.Calloc (record { place = 24; text = codes "s" })))
-new = whole (Cast.unary (Unary.postfix (Postfix.primary (Primary.calloc (is_profile 0 0 "calloc") (is_mark 0 6 "(")
-    (record { sort = refl; stands = refl; constant = one }) refl (is_mark 1 8 ",") (is_keyword 1 10 "sizeof") (is_mark 1 16 "(")
-    (is_keyword 2 17 "struct") (is_identifier 2 24 "s") (is_mark 1 25 ")") (is_mark 0 26 ")")))))
+new = whole (Cast.unary (Unary.postfix (Postfix.primary (Primary.calloc (is_library_word 0 0 "calloc") (is_punctuator 0 6 "(")
+    (record { sort = refl; stands = refl; constant = one }) refl (is_punctuator 1 8 ",") (is_keyword 1 10 "sizeof") (is_punctuator 1 16 "(")
+    (is_keyword 2 17 "struct") (is_identifier 2 24 "s") (is_punctuator 1 25 ")") (is_punctuator 0 26 ")")))))

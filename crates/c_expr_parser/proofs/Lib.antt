@@ -3,23 +3,23 @@ pub mod Examples
 pub mod Beginnings
 mod OneKind
 mod Tables
-mod WalkExamples
-pub mod Traces
-pub mod Parsing
-pub mod Steps
-pub mod Forms
-pub mod Exits
-pub mod Reading
-pub mod CompleteWalks
+mod PlanExamples
+pub mod JoinedTraces
+pub mod PlanResults
+pub mod OperandContinuations
+pub mod OperandBeginnings
+pub mod FunctionReturns
+pub mod ExpressionAnswers
+pub mod CompletePlans
 pub mod CompleteWords
 pub mod CompleteTokens
 pub mod CompleteEnds
 pub mod CompleteTypes
 pub mod CompleteLoops
 pub mod CompleteRests
-pub mod Complete
-pub mod SoundPlans
-pub mod SoundMeans
+pub mod CompleteExpressions
+pub mod TraceMeaning
+pub mod WantedMeaning
 pub mod SoundTables
 mod SoundTypes
 pub mod SoundTerminals
@@ -29,10 +29,10 @@ mod SoundAssignment
 mod SoundCalls
 mod SoundOperands
 mod SoundParts
-pub mod Sound
-mod ExactTraces
-mod Exact
-pub mod ExactExpression
-pub mod LeafWords
-pub mod LeafStrings
-pub mod LeafTypes
+pub mod SoundExpressions
+mod TraceParts
+mod ExactPlans
+pub mod ExpressionLaws
+pub mod IntegerTypeWords
+pub mod StringReading
+pub mod TypeReading

@@ -3,11 +3,11 @@ use Rattle.std.specs.Prelude.{ℕ, List, [], ◌∷◌, length, codes}
 use Rattle.std.proofs.Common.{refl}
 use Prim.Native.String.{String}
 use Rattle.c_lexer.specs.declared.token.TokenKind.{TokenKind}
-use Rattle.c_lexer.specs.declared.token.TokenKind.TheVariants.{Identifier, Keyword, Profile, Mark}
+use Rattle.c_lexer.specs.declared.token.TokenKind.TheVariants.{Identifier, Keyword, LibraryWord, Punctuator}
 use Rattle.c_tree.specs.declared.expr.Expr.{Expr}
 use Rattle.c_tree.specs.declared.expr.ExprNode.TheVariants as node
 use Rattle.c_expr_parser.specs.Placed.{Placed}
-use Rattle.c_expr_parser.specs.Terminals.{IsMark, IsKeyword, IsProfile, IsIdentifier}
+use Rattle.c_expr_parser.specs.Terminals.{IsPunctuator, IsKeyword, IsLibraryWord, IsIdentifier}
 use Rattle.c_expr_parser.specs.Expressions.{expr, Assignment, Conditional, Binary, Cast, Unary, Postfix, Primary}
 
 -- a token of a kind at a depth, with its place and spelling
@@ -15,26 +15,26 @@ abbrev pub placed : TokenKind → ℕ → ℕ → String → Placed
 placed kind depth place spelling =
     record { token = record { kind = kind; at = place; len = length (codes spelling); text = codes spelling }; depth = depth }
 
-abbrev pub mark : ℕ → ℕ → String → Placed
-mark = placed Mark
+abbrev pub punctuator : ℕ → ℕ → String → Placed
+punctuator = placed Punctuator
 
 abbrev pub keyword : ℕ → ℕ → String → Placed
 keyword = placed Keyword
 
-abbrev pub profile : ℕ → ℕ → String → Placed
-profile = placed Profile
+abbrev pub library_word : ℕ → ℕ → String → Placed
+library_word = placed LibraryWord
 
 abbrev pub identifier : ℕ → ℕ → String → Placed
 identifier = placed Identifier
 
-abbrev pub is_mark : (depth place : ℕ) (spelling : String) → IsMark depth spelling (mark depth place spelling)
-is_mark depth place spelling = record { sort = refl; stands = refl; spelled = refl }
+abbrev pub is_punctuator : (depth place : ℕ) (spelling : String) → IsPunctuator depth spelling (punctuator depth place spelling)
+is_punctuator depth place spelling = record { sort = refl; stands = refl; spelled = refl }
 
 abbrev pub is_keyword : (depth place : ℕ) (spelling : String) → IsKeyword depth spelling (keyword depth place spelling)
 is_keyword depth place spelling = record { sort = refl; stands = refl; spelled = refl }
 
-abbrev pub is_profile : (depth place : ℕ) (spelling : String) → IsProfile depth spelling (profile depth place spelling)
-is_profile depth place spelling = record { sort = refl; stands = refl; spelled = refl }
+abbrev pub is_library_word : (depth place : ℕ) (spelling : String) → IsLibraryWord depth spelling (library_word depth place spelling)
+is_library_word depth place spelling = record { sort = refl; stands = refl; spelled = refl }
 
 abbrev pub is_identifier : (depth place : ℕ) (spelling : String) → IsIdentifier depth (identifier depth place spelling)
 is_identifier depth place spelling = record { sort = refl; stands = refl }

@@ -3,18 +3,18 @@ use Rattle.std.specs.Prelude.{◌≡◌, ℕ, zero, suc, ◌≤◌, true, List, 
 use Rattle.std.proofs.Common.{refl, sym, subst, arith}
 use Rattle.c_ints.specs.declared.operator.BinOp.{BinOp}
 use Rattle.c_lexer.specs.declared.token.Token.{Token}
-use Rattle.c_lexer.specs.declared.token.TokenKind.TheVariants.{Mark}
+use Rattle.c_lexer.specs.declared.token.TokenKind.TheVariants.{Punctuator}
 use Rattle.c_tree.specs.declared.expr.Expr.{Expr}
 use Rattle.c_expr_parser.specs.declared.operand.Operand.{Operand}
 use Rattle.c_expr_parser.specs.Placed.{Placed, at}
 use Rattle.c_expr_parser.specs.Expressions.{expr, Assignment, Unary}
 use Rattle.c_expr_parser.specs.Tables.{is, when_some, compound_operator}
-use Rattle.c_expr_parser.specs.Walk.{Value, Plan, met, after, Trace, run, as_expr, conditional_rest, assignment_rest, assignment, expr_then, other, assigned, assignment_operator}
-use Rattle.c_expr_parser.specs.Walk.Value.{operand}
-use Rattle.c_expr_parser.specs.Walk.Plan.{Return}
-use Rattle.c_expr_parser.proofs.Traces.{after_return}
-use Rattle.c_expr_parser.proofs.SoundPlans.{Explained, Sound, Behind, behind_return, behind_after}
-use Rattle.c_expr_parser.proofs.SoundMeans.{Reads, AsAssignment, AsOperand, Fits, fits_fewer, sound_cast_then, reads_case}
+use Rattle.c_expr_parser.specs.Plans.{Value, Plan, met, after, Trace, run, as_expr, conditional_rest, assignment_rest, assignment, expr_then, other, assigned, assignment_operator}
+use Rattle.c_expr_parser.specs.Plans.Value.{operand}
+use Rattle.c_expr_parser.specs.Plans.Plan.{Return}
+use Rattle.c_expr_parser.proofs.JoinedTraces.{after_return}
+use Rattle.c_expr_parser.proofs.TraceMeaning.{Explained, Sound, Behind, behind_return, behind_after}
+use Rattle.c_expr_parser.proofs.WantedMeaning.{Reads, AsAssignment, AsOperand, Fits, fits_fewer, sound_cast_then, reads_case}
 use Rattle.c_expr_parser.proofs.SoundTables.{placed_at, Each, each_at, each_if, each_when, each_map, spelled_at, compound_is}
 use Rattle.c_expr_parser.proofs.SoundEnds.{assignment_stays}
 use Rattle.c_expr_parser.proofs.SoundRest.{sound_conditional_rest}
@@ -33,8 +33,8 @@ pub by_operator : {d : ℕ} {t : Placed} {ts right : List Placed} {a b : Expr} (
     → Unary d (t ∷ ts) a → Assignment (suc d) right b → assignment_operator x ≡ Some o → IsAssigned d t ts a x right b o
 by_operator {d} {t} {ts} {right} {a} {b} x o u r e =
     each_at (IsAssigned d t ts a x right b) (assignment_operator x) o e
-    (each_if (IsAssigned d t ts a x right b) (is Mark (codes "=") x) (Some None) (option_map (λ op. Some op) (compound_operator x))
-    (λ h. Assignment.assign u (spelled_at Mark d (codes "=") x h) r)
+    (each_if (IsAssigned d t ts a x right b) (is Punctuator (codes "=") x) (Some None) (option_map (λ op. Some op) (compound_operator x))
+    (λ h. Assignment.assign u (spelled_at Punctuator d (codes "=") x h) r)
     (λ h. each_map (IsAssigned d t ts a x right b) (λ op. Some op) (compound_operator x)
     (λ op k. let is = compound_is d x op k in Assignment.update u is.0 is.1 r)))
 

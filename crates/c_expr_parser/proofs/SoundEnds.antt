@@ -1,22 +1,22 @@
--- Where the plans of expressions end: at a token that doesn't go on with them. So behind the right side of an assignment,
+-- Where the plans of expressions end: at a token that doesn't go on with them. So after the right side of an assignment,
 -- what could go on with its left side stays out.
 use Rattle.std.specs.Prelude.{◌≡◌, ℕ, zero, suc, ◌<◌, ◌≤◌, Bool, true, false, List, [], ◌∷◌, length, Option, Some, None, option_map, codes}
 use Rattle.std.proofs.Common.{refl, ap, sym, subst, ◌∙◌, arith, ◌⊎◌, inl, inr}
 use Rattle.c_lexer.specs.declared.token.Token.{Token}
-use Rattle.c_lexer.specs.declared.token.TokenKind.TheVariants.{Mark}
+use Rattle.c_lexer.specs.declared.token.TokenKind.TheVariants.{Punctuator}
 use Rattle.c_tree.specs.declared.expr.ExprNode.TheVariants as node
 use Rattle.c_expr_parser.specs.declared.operand.Operand.{Operand}
 use Rattle.c_expr_parser.specs.Placed.{Placed}
 use Rattle.c_expr_parser.specs.declared.operators.Joint.{Joint}
 use Rattle.c_expr_parser.specs.Operators.{joined, loosest}
 use Rattle.c_expr_parser.specs.Tables.{is, when_some, binary_operator}
-use Rattle.c_expr_parser.specs.Walk.{Value, Wanted, Plan, met, after, Trace, run, remaining, as_operand, chains, binary, conditional, conditional_rest, assignment, other, as_expr, expr_then, mark}
-use Rattle.c_expr_parser.specs.Walk.Value.{operand}
-use Rattle.c_expr_parser.specs.Walk.Plan.{Return, Then}
-use Rattle.c_expr_parser.specs.Walk.Trace.{Put, Took, Dead}
-use Rattle.c_expr_parser.proofs.Traces.{bind, after_after, after_return, run_after, remaining_run}
+use Rattle.c_expr_parser.specs.Plans.{Value, Wanted, Plan, met, after, Trace, run, remaining, as_operand, chains, binary, conditional, conditional_rest, assignment, other, as_expr, expr_then, punctuator}
+use Rattle.c_expr_parser.specs.Plans.Value.{operand}
+use Rattle.c_expr_parser.specs.Plans.Plan.{Return, Then}
+use Rattle.c_expr_parser.specs.Plans.Trace.{Put, Took, Dead}
+use Rattle.c_expr_parser.proofs.JoinedTraces.{bind, after_after, after_return, run_after, remaining_run}
 
--- where something was read, the tokens behind it are as R says
+-- where something was read, the tokens after it are as R says
 abbrev Ends : (List Token → Type 0) → Trace → Type 0
 Ends R (Put t tr) = Ends R tr
 Ends R (Took v rest) = R rest
@@ -111,10 +111,10 @@ chains_leave (suc level) n d v =
 -- the next token goes on with no operand of `?:`, nor with its first part
 abbrev Still : List Token → Type 0
 Still [] = Unit {0}
-Still (t ∷ ts) = ((level : ℕ) → level < loosest → binary_operator (suc level) t ≡ None) × (is Mark (codes "?") t ≡ false)
+Still (t ∷ ts) = ((level : ℕ) → level < loosest → binary_operator (suc level) t ≡ None) × (is Punctuator (codes "?") t ≡ false)
 
 question_met : (t : Token) (ts : List Token) (place : Placed) (later : Plan → Trace) (v : Value) (p : Plan) (test : Bool)
-    → is Mark (codes "?") t ≡ test → NoOperator loosest (t ∷ ts) → Ends Still (later p)
+    → is Punctuator (codes "?") t ≡ test → NoOperator loosest (t ∷ ts) → Ends Still (later p)
     → Ends Still (met place later (Took v (t ∷ ts)) (when_some test (Some p)))
 question_met t ts place later v p false e before f = (before, e)
 question_met t ts place later v p true e before f = f
@@ -129,16 +129,16 @@ chosen_ends : (n : ℕ) → ((d : ℕ) (v : Value) → Leaves n Still (condition
 chosen_ends n shorter d a [] h before = tt
 chosen_ends n shorter d a (t ∷ ts) h before =
     question_met t ts (record { token = t; depth = d }) (λ p. run ts (after p Return)) (operand a) made
-    (is Mark (codes "?") t) refl before
+    (is Punctuator (codes "?") t) refl before
     (subst (λ p. Ends Still (run ts p)) (sym (after_return made))
-    ((leaves_last {n = n} (assignment d) (λ b. leaves_then (Wanted.Word Mark (codes ":") d) (λ u. leaves_after {R = Still}
+    ((leaves_last {n = n} (assignment d) (λ b. leaves_then (Wanted.Word Punctuator (codes ":") d) (λ u. leaves_after {R = Still}
     (leaves_then (Wanted.Cast (suc d)) (λ v. shorter (suc d) v)) (λ c rest l r. stays (third b c) rest r)))).trace ts (omega arith)))
   where
     third : Value → Value → Value
     third b c = operand (other a.start (node.Choice a.expr (as_expr b) (as_expr c)))
 
     made : Plan
-    made = expr_then d (λ b. mark (codes ":") d (after (conditional (suc d)) (λ c.
+    made = expr_then d (λ b. punctuator (codes ":") d (after (conditional (suc d)) (λ c.
         Return (operand (other a.start (node.Choice a.expr b (as_expr c)))))))
 
     stays : (v : Value) (rest : List Token) → Still rest → Ends Still (run rest (Return v))
@@ -163,7 +163,7 @@ chains_pass (suc level) d a k t ts e =
     ∙ (chains_pass level d a (λ w. Then (Wanted.Chain level d (as_operand w)) k) t ts (λ l h. e l (omega arith))
     ∙ chain_passes level d a k t ts (e level (omega arith)))
 
-chosen_passes : (d : ℕ) (a : Operand) (k : Value → Plan) (t : Token) (ts : List Token) → is Mark (codes "?") t ≡ false
+chosen_passes : (d : ℕ) (a : Operand) (k : Value → Plan) (t : Token) (ts : List Token) → is Punctuator (codes "?") t ≡ false
     → run (t ∷ ts) (Then (Wanted.Chosen d a) k) ≡ run (t ∷ ts) (k (operand a))
 chosen_passes d a k t ts e = rw e refl
 
@@ -177,7 +177,7 @@ assignment_leaves : (n d : ℕ) → Leaves n Still (assignment d)
 assignment_leaves n d =
     leaves_then (Wanted.Cast d) (λ v. leaves_then (Wanted.Assigned d (as_operand v)) (λ w. conditional_leaves n d w))
 
--- behind an assignment, what could go on with its left side stays out
+-- after an assignment, what could go on with its left side stays out
 pub assignment_stays : (d e : ℕ) (made : Value → Operand) (ts : List Token)
     → run ts (after (after (assignment d) (λ v. Return (operand (made v)))) (conditional_rest e))
     ≡ run ts (after (assignment d) (λ v. Return (operand (made v))))

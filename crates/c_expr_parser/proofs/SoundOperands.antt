@@ -9,26 +9,26 @@ use Rattle.c_ints.specs.Number.{number}
 use Rattle.c_lexer.specs.Bytes.{quote}
 use Rattle.c_lexer.specs.declared.token.Token.{Token}
 use Rattle.c_lexer.specs.declared.token.TokenKind.{TokenKind}
-use Rattle.c_lexer.specs.declared.token.TokenKind.TheVariants.{Identifier, Keyword, Profile, Number, Character, Str, Mark}
+use Rattle.c_lexer.specs.declared.token.TokenKind.TheVariants.{Identifier, Keyword, LibraryWord, Number, Character, Str, Punctuator}
 use Rattle.c_tree.specs.declared.expr.ExprNode.TheVariants as node
 use Rattle.c_tree.specs.declared.expr.StepOp.TheVariants.{PreIncrement, PreDecrement}
 use Rattle.c_expr_parser.specs.declared.operand.Operand.{Operand}
 use Rattle.c_expr_parser.specs.Placed.{Placed, at}
 use Rattle.c_expr_parser.specs.Quoted.{IsQuoted}
-use Rattle.c_expr_parser.specs.Terminals.{IsMark, IsCharacter}
+use Rattle.c_expr_parser.specs.Terminals.{IsPunctuator, IsCharacter}
 use Rattle.c_expr_parser.specs.Expressions.{Assignment, Unary, Primary}
 use Rattle.c_expr_parser.specs.Tables.{unary_operator, unquoted, only, constant_of}
-use Rattle.c_expr_parser.specs.Walk.{Value, Wanted, Plan, after, as_operand, as_expr, unary, mark_operand, operand_by, operand_plan, assignment_rest}
-use Rattle.c_expr_parser.specs.Walk.Value.{operand}
-use Rattle.c_expr_parser.specs.Walk.Plan.{Return, Then}
-use Rattle.c_expr_parser.proofs.SoundPlans.{Sound, sound_map, Behind, behind_return, behind_after}
-use Rattle.c_expr_parser.proofs.SoundMeans.{Reads, AsAssignment, AsOperand, Fits, sound_then, sound_cast_then, reads_case}
+use Rattle.c_expr_parser.specs.Plans.{Value, Wanted, Plan, after, as_operand, as_expr, unary, punctuator_operand, operand_by, operand_plan, assignment_rest}
+use Rattle.c_expr_parser.specs.Plans.Value.{operand}
+use Rattle.c_expr_parser.specs.Plans.Plan.{Return, Then}
+use Rattle.c_expr_parser.proofs.TraceMeaning.{Sound, sound_map, Behind, behind_return, behind_after}
+use Rattle.c_expr_parser.proofs.WantedMeaning.{Reads, AsAssignment, AsOperand, Fits, sound_then, sound_cast_then, reads_case}
 use Rattle.c_expr_parser.proofs.SoundAssignment.{sound_assignment_rest}
-use Rattle.c_expr_parser.proofs.SoundCalls.{After, unary_operand, postfix_on, primary_on, sound_unary, profile_taken}
+use Rattle.c_expr_parser.proofs.SoundCalls.{After, unary_operand, postfix_on, primary_on, sound_unary, library_word_taken}
 use Rattle.c_expr_parser.proofs.SoundTables.{placed_at, spelled_as, Each, each_at, each_if, each_map, unary_is}
 use Rattle.c_expr_parser.proofs.SoundTerminals.{unquoted_is, only_is, constant_is}
 
--- an operand behind a sign
+-- an operand after a sign
 unary_done : {n : ℕ} (casts : Bool) {d : ℕ} {t : Placed} {ts : List Placed} (a : Operand) → Unary d (t ∷ ts) a.expr → a.start ≡ at t
     → Behind n (Reads (AsOperand casts d)) (t ∷ ts) (Return (operand a))
 unary_done casts {d} {t} {ts} a u e =
@@ -42,21 +42,21 @@ operator_sound fits casts d t op e =
     sound_cast_then {k = λ v. Return (operand (unary t.at (node.Unary op (as_expr v))))} fits (λ u us a p l.
     unary_done casts (unary t.at (node.Unary op a.expr)) (Unary.operator is.0 is.1 p.0) refl)
 
-inside_sound : {n : ℕ} → Fits n → (casts : Bool) (d : ℕ) (t : Token) → IsMark d "(" (placed_at d t)
+inside_sound : {n : ℕ} → Fits n → (casts : Bool) (d : ℕ) (t : Token) → IsPunctuator d "(" (placed_at d t)
     → After n casts d (placed_at d t) (Then (Wanted.Inside casts d t.at) Return)
 inside_sound fits casts d t s = sound_map (λ ts v m. m (placed_at d t) s refl) (fits.wanted (Wanted.Inside casts d t.at))
 
--- a mark that begins an operand
-mark_taken : {n : ℕ} → Fits n → (casts : Bool) (d : ℕ) (t : Token) → t.kind ≡ Mark
-    → Each (After n casts d (placed_at d t)) (mark_operand casts d t)
-mark_taken {n} fits casts d t h =
-    each_if P (bytes_eq t.text (codes "(")) _ _ (λ e. inside_sound fits casts d t (spelled_as Mark d (codes "(") t h ((bytes_eq-Decides t.text _).0 e)))
+-- a punctuator that begins an operand
+punctuator_taken : {n : ℕ} → Fits n → (casts : Bool) (d : ℕ) (t : Token) → t.kind ≡ Punctuator
+    → Each (After n casts d (placed_at d t)) (punctuator_operand casts d t)
+punctuator_taken {n} fits casts d t h =
+    each_if P (bytes_eq t.text (codes "(")) _ _ (λ e. inside_sound fits casts d t (spelled_as Punctuator d (codes "(") t h ((bytes_eq-Decides t.text _).0 e)))
     (λ e. each_if P (bytes_eq t.text (codes "++")) _ _
     (λ e. sound_unary fits (suc d) (λ u us x p.
-    unary_done casts (unary t.at (node.Step PreIncrement x)) (Unary.pre_increment (spelled_as Mark d (codes "++") t h ((bytes_eq-Decides t.text _).0 e)) p) refl))
+    unary_done casts (unary t.at (node.Step PreIncrement x)) (Unary.pre_increment (spelled_as Punctuator d (codes "++") t h ((bytes_eq-Decides t.text _).0 e)) p) refl))
     (λ e. each_if P (bytes_eq t.text (codes "--")) _ _
     (λ e. sound_unary fits (suc d) (λ u us x p.
-    unary_done casts (unary t.at (node.Step PreDecrement x)) (Unary.pre_decrement (spelled_as Mark d (codes "--") t h ((bytes_eq-Decides t.text _).0 e)) p) refl))
+    unary_done casts (unary t.at (node.Step PreDecrement x)) (Unary.pre_decrement (spelled_as Punctuator d (codes "--") t h ((bytes_eq-Decides t.text _).0 e)) p) refl))
     (λ e. each_map P _ (unary_operator t) (λ op k. operator_sound fits casts d t op k))))
   where
     P : Plan → Type 0
@@ -86,7 +86,7 @@ operand_by_taken : {n : ℕ} → Fits n → (casts : Bool) (d : ℕ) (t : Token)
     → Each (After n casts d (placed_at d t)) (operand_by kind casts d t)
 operand_by_taken fits casts d t Identifier h = name_sound fits casts d t h
 operand_by_taken fits casts d t Keyword h = tt
-operand_by_taken fits casts d t Profile h = profile_taken fits casts d t h
+operand_by_taken fits casts d t LibraryWord h = library_word_taken fits casts d t h
 operand_by_taken {n} fits casts d t Number h =
     each_map (After n casts d (placed_at d t)) _ (constant_of t.text) (λ value e.
     primary_on fits casts (Primary.number (record { sort = h; stands = refl; constant = constant_is t.text value e })))
@@ -94,7 +94,7 @@ operand_by_taken {n} fits casts d t Character h =
     each_map (After n casts d (placed_at d t)) _ (only (unquoted quote t.text)) (λ byte e.
     primary_on fits casts (Primary.character (character_at d t byte h e)))
 operand_by_taken fits casts d t Str h = tt
-operand_by_taken fits casts d t Mark h = mark_taken fits casts d t h
+operand_by_taken fits casts d t Punctuator h = punctuator_taken fits casts d t h
 
 -- the token that begins an operand
 pub operand_taken : {n : ℕ} → Fits n → (casts : Bool) (d : ℕ) (t : Token)

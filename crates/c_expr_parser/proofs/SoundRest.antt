@@ -5,14 +5,14 @@ use Rattle.c_expr_parser.specs.declared.operand.Operand.{Operand}
 use Rattle.c_expr_parser.specs.Placed.{Placed, at}
 use Rattle.c_expr_parser.specs.Operators.{loosest}
 use Rattle.c_expr_parser.specs.Expressions.{Conditional, Binary, Cast}
-use Rattle.c_expr_parser.specs.Walk.{Value, Wanted, Plan, after, as_operand, chains, binary, conditional, conditional_rest}
-use Rattle.c_expr_parser.specs.Walk.Value.{operand}
-use Rattle.c_expr_parser.specs.Walk.Plan.{Return, Then}
-use Rattle.c_expr_parser.proofs.Traces.{after_after}
-use Rattle.c_expr_parser.proofs.SoundPlans.{Sound, Behind}
-use Rattle.c_expr_parser.proofs.SoundMeans.{AsConditional, AsBinary, Fits, sound_cast_then, sound_on}
+use Rattle.c_expr_parser.specs.Plans.{Value, Wanted, Plan, after, as_operand, chains, binary, conditional, conditional_rest}
+use Rattle.c_expr_parser.specs.Plans.Value.{operand}
+use Rattle.c_expr_parser.specs.Plans.Plan.{Return, Then}
+use Rattle.c_expr_parser.proofs.JoinedTraces.{after_after}
+use Rattle.c_expr_parser.proofs.TraceMeaning.{Sound, Behind}
+use Rattle.c_expr_parser.proofs.WantedMeaning.{AsConditional, AsBinary, Fits, sound_cast_then, sound_on}
 
--- behind an operand: the operators up to a level
+-- after an operand: the operators up to a level
 pub sound_chains : {n : ℕ} (Q : List Placed → Value → Type 0) (k : Value → Plan) {d : ℕ} {t : Placed} {ts : List Placed} (a : Operand)
     → Fits n → (level : ℕ) → Binary zero d (t ∷ ts) a.expr → a.start ≡ at t
     → ((u : Placed) (us : List Placed) (b : Operand) → Binary level d (u ∷ us) b.expr → b.start ≡ at u → Behind n Q (u ∷ us) (k (operand b)))

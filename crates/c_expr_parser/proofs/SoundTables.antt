@@ -8,7 +8,7 @@ use Rattle.c_ints.specs.declared.operator.BinOp.{BinOp}
 use Rattle.c_ints.specs.declared.operator.UnOp.{UnOp}
 use Rattle.c_lexer.specs.declared.token.Token.{Token}
 use Rattle.c_lexer.specs.declared.token.TokenKind.{TokenKind}
-use Rattle.c_lexer.specs.declared.token.TokenKind.TheVariants.{Identifier, Keyword, Profile, Number, Character, Str, Mark}
+use Rattle.c_lexer.specs.declared.token.TokenKind.TheVariants.{Identifier, Keyword, LibraryWord, Number, Character, Str, Punctuator}
 use Rattle.c_expr_parser.specs.Placed.{Placed}
 use Rattle.c_expr_parser.specs.Terminals.{IsToken, Spells}
 use Rattle.c_expr_parser.specs.declared.operators.Joint.{Joint}
@@ -53,16 +53,16 @@ each_row P spelling row a below here later =
 
 -- the kind of a number
 abbrev kind_at : ℕ → TokenKind
-kind_at n = get_or (Identifier ∷ Keyword ∷ Profile ∷ Number ∷ Character ∷ Str ∷ []) n Mark
+kind_at n = get_or (Identifier ∷ Keyword ∷ LibraryWord ∷ Number ∷ Character ∷ Str ∷ []) n Punctuator
 
 numbered : (kind : TokenKind) → kind_at (kind_number kind) ≡ kind
 numbered Identifier = refl
 numbered Keyword = refl
-numbered Profile = refl
+numbered LibraryWord = refl
 numbered Number = refl
 numbered Character = refl
 numbered Str = refl
-numbered Mark = refl
+numbered Punctuator = refl
 
 pub of_kind : (kind : TokenKind) (t : Token) → is_kind kind t ≡ true → t.kind ≡ kind
 of_kind kind t h = sym (numbered t.kind) ∙ (ap kind_at (eqb-true (kind_number t.kind) (kind_number kind) h) ∙ numbered kind)
@@ -103,21 +103,21 @@ row_parts level (Some row) joint e = by_test (row.0 == level) refl e
     by_test false h e = absurd (grind (arith, e))
 
 pub binary_is : (level d : ℕ) (t : Token) (joint : Joint) → binary_operator level t ≡ Some joint
-    → BinaryOperator level t.text joint × Spells Mark d t.text (placed_at d t)
+    → BinaryOperator level t.text joint × Spells Punctuator d t.text (placed_at d t)
 binary_is level d t joint e =
-    let parts = when_parts (is_kind Mark t) (at_level level (look t.text binary_operators)) joint e in (
+    let parts = when_parts (is_kind Punctuator t) (at_level level (look t.text binary_operators)) joint e in (
       binary_found level t.text joint (row_parts level (look t.text binary_operators) joint parts.1),
-      spelled_as Mark d t.text t (of_kind Mark t parts.0) refl,
+      spelled_as Punctuator d t.text t (of_kind Punctuator t parts.0) refl,
     )
 
 pub unary_is : (d : ℕ) (t : Token) (op : UnOp) → unary_operator t ≡ Some op
-    → UnaryOperator t.text op × Spells Mark d t.text (placed_at d t)
+    → UnaryOperator t.text op × Spells Punctuator d t.text (placed_at d t)
 unary_is d t op e =
-    let parts = when_parts (is_kind Mark t) (look t.text unary_operators) op e in
-    (unary_found t.text op parts.1, spelled_as Mark d t.text t (of_kind Mark t parts.0) refl)
+    let parts = when_parts (is_kind Punctuator t) (look t.text unary_operators) op e in
+    (unary_found t.text op parts.1, spelled_as Punctuator d t.text t (of_kind Punctuator t parts.0) refl)
 
 pub compound_is : (d : ℕ) (t : Token) (op : BinOp) → compound_operator t ≡ Some op
-    → CompoundOperator t.text op × Spells Mark d t.text (placed_at d t)
+    → CompoundOperator t.text op × Spells Punctuator d t.text (placed_at d t)
 compound_is d t op e =
-    let parts = when_parts (is_kind Mark t) (look t.text compound_operators) op e in
-    (compound_found t.text op parts.1, spelled_as Mark d t.text t (of_kind Mark t parts.0) refl)
+    let parts = when_parts (is_kind Punctuator t) (look t.text compound_operators) op e in
+    (compound_found t.text op parts.1, spelled_as Punctuator d t.text t (of_kind Punctuator t parts.0) refl)

@@ -19,13 +19,13 @@ use Rattle.c_expr_parser.specs.Placed.{Placed}
 use Rattle.c_expr_parser.specs.Quoted.{IsQuoted, unescaped}
 use Rattle.c_expr_parser.specs.Terminals.{IsConstant, IsString, Strings}
 use Rattle.c_expr_parser.specs.Tables.{is_kind, before_quote, unquoted, only, if_ok, constant_of, is_one}
-use Rattle.c_expr_parser.specs.Walk.{Value, Wanted, Plan, takes, left_out}
-use Rattle.c_expr_parser.specs.Walk.Plan.{Return, Then}
-use Rattle.c_expr_parser.proofs.SoundPlans.{Sound, sound_return, sound_map}
-use Rattle.c_expr_parser.proofs.SoundMeans.{IsOne, IsQuotation, Means, Fits}
+use Rattle.c_expr_parser.specs.Plans.{Value, Wanted, Plan, takes, left_out}
+use Rattle.c_expr_parser.specs.Plans.Plan.{Return, Then}
+use Rattle.c_expr_parser.proofs.TraceMeaning.{Sound, sound_return, sound_map}
+use Rattle.c_expr_parser.proofs.WantedMeaning.{IsOne, IsQuotation, Means, Fits}
 use Rattle.c_expr_parser.proofs.SoundTables.{placed_at, Each, each_at, each_if, each_when, each_map, each_mapped, of_kind}
 
--- what stands before the closing quote
+-- what comes before the closing quote
 before_is : (quote : ℕ) (bytes : List ℕ) → Each (λ front. bytes ≡ front ++ quote ∷ []) (before_quote quote bytes)
 before_is quote [] = tt
 before_is quote (b ∷ []) =

@@ -9,16 +9,16 @@ use Rattle.c_ints.specs.declared.kind.Kind.{Kind}
 use Rattle.c_ints.specs.declared.kind.Kind.TheVariants.{I8, U8, I16, U16, I32, U32, I64, U64}
 use Rattle.c_lexer.specs.Words.{is_one_of}
 use Rattle.c_lexer.specs.declared.token.Token.{Token}
-use Rattle.c_lexer.specs.declared.token.TokenKind.TheVariants.{Keyword, Profile}
+use Rattle.c_lexer.specs.declared.token.TokenKind.TheVariants.{Keyword, LibraryWord}
 use Rattle.c_tree.specs.declared.name.CType.TheVariants.{Integer, Handle, Thread}
 use Rattle.c_expr_parser.specs.Placed.{Placed, text}
 use Rattle.c_expr_parser.specs.TypeNames.{TypeName, IntegerWords, IsIntegerWord, integer_words, is_spelling}
 use Rattle.c_expr_parser.specs.Tables.{is, is_kind, is_integer_word, kind_of, longer_kind}
-use Rattle.c_expr_parser.specs.Walk.{Wanted, Plan, type_plan, name_then, mark, takes, left_out}
-use Rattle.c_expr_parser.specs.Walk.Value.{typed}
-use Rattle.c_expr_parser.specs.Walk.Plan.{Return, Then}
-use Rattle.c_expr_parser.proofs.SoundPlans.{Sound, sound_return, sound_map}
-use Rattle.c_expr_parser.proofs.SoundMeans.{IsTyped, Means, Fits, sound_word, sound_naming}
+use Rattle.c_expr_parser.specs.Plans.{Wanted, Plan, type_plan, name_then, punctuator, takes, left_out}
+use Rattle.c_expr_parser.specs.Plans.Value.{typed}
+use Rattle.c_expr_parser.specs.Plans.Plan.{Return, Then}
+use Rattle.c_expr_parser.proofs.TraceMeaning.{Sound, sound_return, sound_map}
+use Rattle.c_expr_parser.proofs.WantedMeaning.{IsTyped, Means, Fits, sound_word, sound_naming}
 use Rattle.c_expr_parser.proofs.SoundTables.{placed_at, Each, each_at, each_if, each_map, when_parts, token_at, spelled_at}
 
 -- what is found passes the test
@@ -90,7 +90,7 @@ pub type_taken : {n : ℕ} → Fits n → (d : ℕ) (t : Token)
 type_taken {n} fits d t =
     each_if P (is_integer_word t) _ _ (λ h. integer h)
     (λ h. each_if P (is Keyword (codes "struct") t) _ _ (λ s. handle s)
-    (λ s. each_if P (is Profile (codes "thrd_t") t) _ _ (λ p. thread p) (λ p. tt)))
+    (λ s. each_if P (is LibraryWord (codes "thrd_t") t) _ _ (λ p. thread p) (λ p. tt)))
   where
     P : Plan → Type 0
     P p = Sound n (λ more v. IsTyped d (placed_at d t ∷ more) v) p
@@ -102,10 +102,10 @@ type_taken {n} fits d t =
         sound_map (λ more v m. m (placed_at d t ∷ []) kind.0 (IntegerWords.more one IntegerWords.none) kind.1)
         (fits.wanted (Wanted.Words d (t.text ∷ [])))
 
-    handle : is Keyword (codes "struct") t ≡ true → P (name_then d (λ tag. mark (codes "*") d (Return (typed (Handle tag)))))
+    handle : is Keyword (codes "struct") t ≡ true → P (name_then d (λ tag. punctuator (codes "*") d (Return (typed (Handle tag)))))
     handle h =
         sound_naming fits (λ tag i. sound_word fits (λ star s.
         sound_return (IsTyped.type_name (TypeName.handle (spelled_at Keyword d (codes "struct") t h) i s))))
 
-    thread : is Profile (codes "thrd_t") t ≡ true → P (Return (typed Thread))
-    thread h = sound_return (IsTyped.type_name (TypeName.thread (spelled_at Profile d (codes "thrd_t") t h)))
+    thread : is LibraryWord (codes "thrd_t") t ≡ true → P (Return (typed Thread))
+    thread h = sound_return (IsTyped.type_name (TypeName.thread (spelled_at LibraryWord d (codes "thrd_t") t h)))

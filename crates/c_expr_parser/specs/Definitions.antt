@@ -1,4 +1,4 @@
--- Definitions and whole texts (6.9). What stands at the first level has depth 0.
+-- Definitions and whole texts (6.9). What is at the first level has depth 0.
 use Rattle.std.specs.Prelude.{◌≡◌, ℕ, List, [], ◌∷◌, ◌++◌, map, length, Option, Some, None}
 use Rattle.c_ints.specs.declared.int.Int.{Int}
 use Rattle.c_tree.specs.declared.name.CType.{CType}
@@ -15,7 +15,7 @@ use Rattle.c_tree.specs.declared.def.DefKind.{DefKind}
 use Rattle.c_tree.specs.declared.def.DefKind.TheVariants as kind
 use Rattle.c_tree.specs.declared.def.Program.{Program}
 use Rattle.c_expr_parser.specs.Placed.{Placed, at, start, end}
-use Rattle.c_expr_parser.specs.Terminals.{IsMark, IsKeyword, IsProfile, IsIdentifier, IsNumber, name}
+use Rattle.c_expr_parser.specs.Terminals.{IsPunctuator, IsKeyword, IsLibraryWord, IsIdentifier, IsNumber, name}
 use Rattle.c_expr_parser.specs.TypeNames.{TypeName}
 use Rattle.c_expr_parser.specs.Expressions.{Conditional}
 use Rattle.c_expr_parser.specs.Declarations.{Commas, Declarators, Members}
@@ -55,8 +55,8 @@ pub data ParameterList (depth : ℕ) : List Placed → List Binding → Type 0 w
 pub data FunctionDefinition : List Placed → Function → Type 0 where
   function : {whole result parameters body : List Placed} {function paren close brace final : Placed}
       {r : Option CType} {ps : List Binding} {ss : List Stmt}
-      → ResultType result r → IsIdentifier 0 function → IsMark 0 "(" paren → ParameterList 1 parameters ps
-      → IsMark 0 ")" close → IsMark 0 "{" brace → Items 1 body ss → IsMark 0 "}" final
+      → ResultType result r → IsIdentifier 0 function → IsPunctuator 0 "(" paren → ParameterList 1 parameters ps
+      → IsPunctuator 0 ")" close → IsPunctuator 0 "{" brace → Items 1 body ss → IsPunctuator 0 "}" final
       → whole ≡ result ++ (function ∷ paren ∷ parameters ++ (close ∷ brace ∷ body ++ final ∷ []))
       → FunctionDefinition whole (record {
         result = r;
@@ -77,25 +77,25 @@ pub data PrototypeParameters (depth : ℕ) : List Placed → Parameters → Type
 -- a prototype (6.7.6.3)
 pub data PrototypeDeclaration : List Placed → Prototype → Type 0 where
   prototype : {result parameters : List Placed} {function paren close semicolon : Placed} {r : Option CType} {ps : Parameters}
-      → ResultType result r → IsIdentifier 0 function → IsMark 0 "(" paren → PrototypeParameters 1 parameters ps
-      → IsMark 0 ")" close → IsMark 0 ";" semicolon
+      → ResultType result r → IsIdentifier 0 function → IsPunctuator 0 "(" paren → PrototypeParameters 1 parameters ps
+      → IsPunctuator 0 ")" close → IsPunctuator 0 ";" semicolon
       → PrototypeDeclaration (result ++ (function ∷ paren ∷ parameters ++ close ∷ semicolon ∷ []))
       (record { result = r; name = name function; parameters = ps })
 
 -- a comma, or nothing
 pub data TrailingComma (depth : ℕ) : List Placed → Type 0 where
   absent : TrailingComma depth []
-  present : {comma : Placed} → IsMark depth "," comma → TrailingComma depth (comma ∷ [])
+  present : {comma : Placed} → IsPunctuator depth "," comma → TrailingComma depth (comma ∷ [])
 
 -- a global variable or array, alone or with its initialisers (6.7.6.2, 6.7.9)
 pub data GlobalDeclarator (t : CType) : List Placed → DefKind → Type 0 where
   plain : {global : Placed} → IsIdentifier 0 global
       → GlobalDeclarator t (global ∷ []) (kind.Global (record { declared = t; name = name global; initial = None }))
   initialised : {global sign : Placed} {ts : List Placed} {e : Expr}
-      → IsIdentifier 0 global → IsMark 0 "=" sign → Conditional 0 ts e
+      → IsIdentifier 0 global → IsPunctuator 0 "=" sign → Conditional 0 ts e
       → GlobalDeclarator t (global ∷ sign ∷ ts) (kind.Global (record { declared = t; name = name global; initial = Some e }))
   array : {global bracket number close : Placed} {length : Int}
-      → IsIdentifier 0 global → IsMark 0 "[" bracket → IsNumber 1 length number → IsMark 0 "]" close
+      → IsIdentifier 0 global → IsPunctuator 0 "[" bracket → IsNumber 1 length number → IsPunctuator 0 "]" close
       → GlobalDeclarator t (global ∷ bracket ∷ number ∷ close ∷ []) (kind.Array (record {
         element = t;
         name = name global;
@@ -103,9 +103,9 @@ pub data GlobalDeclarator (t : CType) : List Placed → DefKind → Type 0 where
         initial = None;
       }))
   initialised_array : {global bracket number close sign brace final : Placed} {ts trailing : List Placed} {length : Int} {es : List Expr}
-      → IsIdentifier 0 global → IsMark 0 "[" bracket → IsNumber 1 length number → IsMark 0 "]" close
-      → IsMark 0 "=" sign → IsMark 0 "{" brace → Commas 1 (Conditional 1) ts es → TrailingComma 1 trailing
-      → IsMark 0 "}" final
+      → IsIdentifier 0 global → IsPunctuator 0 "[" bracket → IsNumber 1 length number → IsPunctuator 0 "]" close
+      → IsPunctuator 0 "=" sign → IsPunctuator 0 "{" brace → Commas 1 (Conditional 1) ts es → TrailingComma 1 trailing
+      → IsPunctuator 0 "}" final
       → GlobalDeclarator t (global ∷ bracket ∷ number ∷ close ∷ sign ∷ brace ∷ ts ++ (trailing ++ final ∷ [])) (kind.Array (record {
         element = t;
         name = name global;
@@ -117,37 +117,37 @@ pub data GlobalDeclarator (t : CType) : List Placed → DefKind → Type 0 where
 pub data Updates (depth : ℕ) : List Placed → List FieldValue → Type 0 where
   none : Updates depth [] []
   more : {field sign semicolon : Placed} {ts rest : List Placed} {e : Expr} {updates : List FieldValue}
-      → IsIdentifier depth field → IsMark depth "=" sign → Conditional depth ts e → IsMark depth ";" semicolon
+      → IsIdentifier depth field → IsPunctuator depth "=" sign → Conditional depth ts e → IsPunctuator depth ";" semicolon
       → Updates depth rest updates
       → Updates depth (field ∷ sign ∷ ts ++ semicolon ∷ rest) (record { field = name field; value = e } ∷ updates)
 
--- what stands at the first level of a text: a definition for each name that it declares
+-- what is at the first level of a text: a definition for each name that it declares
 pub data Item : List Placed → List Def → Type 0 where
   forward : {word tag semicolon : Placed}
-      → IsKeyword 0 "struct" word → IsIdentifier 0 tag → IsMark 0 ";" semicolon
+      → IsKeyword 0 "struct" word → IsIdentifier 0 tag → IsPunctuator 0 ";" semicolon
       → Item (word ∷ tag ∷ semicolon ∷ []) (def (at word) (kind.Forward (name tag)) ∷ [])
   struct : {word tag brace final semicolon : Placed} {ts : List Placed} {members : List Binding}
-      → IsKeyword 0 "struct" word → IsIdentifier 0 tag → IsMark 0 "{" brace → Members 1 ts members → IsMark 0 "}" final
-      → IsMark 0 ";" semicolon
+      → IsKeyword 0 "struct" word → IsIdentifier 0 tag → IsPunctuator 0 "{" brace → Members 1 ts members → IsPunctuator 0 "}" final
+      → IsPunctuator 0 ";" semicolon
       → Item (word ∷ tag ∷ brace ∷ ts ++ final ∷ semicolon ∷ []) (def (at word) (kind.Struct (name tag) members) ∷ [])
   mutex : {static : List Placed} {word variable semicolon : Placed}
-      → Static static → IsProfile 0 "mtx_t" word → IsIdentifier 0 variable → IsMark 0 ";" semicolon
+      → Static static → IsLibraryWord 0 "mtx_t" word → IsIdentifier 0 variable → IsPunctuator 0 ";" semicolon
       → Item (static ++ word ∷ variable ∷ semicolon ∷ []) (def (at word) (kind.Mutex (name variable)) ∷ [])
   function : {static ts : List Placed} {f : Function} → Static static → FunctionDefinition ts f
       → Item (static ++ ts) (def (start ts) (kind.Function f) ∷ [])
   prototype : {static ts : List Placed} {p : Prototype} → Static static → PrototypeDeclaration ts p
       → Item (static ++ ts) (def (start ts) (kind.Prototype p) ∷ [])
   global : {static ts names : List Placed} {semicolon : Placed} {t : CType} {globals : List DefKind}
-      → Static static → TypeName 0 ts t → Declarators 0 t (GlobalDeclarator t) names globals → IsMark 0 ";" semicolon
+      → Static static → TypeName 0 ts t → Declarators 0 t (GlobalDeclarator t) names globals → IsPunctuator 0 ";" semicolon
       → Item (static ++ (ts ++ (names ++ semicolon ∷ []))) (defs (start ts) globals)
   transform_struct : {word struct tag brace final : Placed} {ts : List Placed} {updates : List FieldValue}
-      → IsProfile 0 "dsu_transform" word → IsKeyword 0 "struct" struct → IsIdentifier 0 tag → IsMark 0 "{" brace
-      → Updates 1 ts updates → IsMark 0 "}" final
+      → IsLibraryWord 0 "dsu_transform" word → IsKeyword 0 "struct" struct → IsIdentifier 0 tag → IsPunctuator 0 "{" brace
+      → Updates 1 ts updates → IsPunctuator 0 "}" final
       → Item (word ∷ struct ∷ tag ∷ brace ∷ ts ++ final ∷ [])
       (def (at word) (kind.TransformStruct (record { name = name tag; values = updates })) ∷ [])
   transform_global : {word global sign semicolon : Placed} {ts : List Placed} {e : Expr}
-      → IsProfile 0 "dsu_transform" word → IsIdentifier 0 global → IsMark 0 "=" sign → Conditional 0 ts e
-      → IsMark 0 ";" semicolon
+      → IsLibraryWord 0 "dsu_transform" word → IsIdentifier 0 global → IsPunctuator 0 "=" sign → Conditional 0 ts e
+      → IsPunctuator 0 ";" semicolon
       → Item (word ∷ global ∷ sign ∷ ts ++ semicolon ∷ []) (def (at word) (kind.TransformGlobal (name global) e) ∷ [])
 
 -- what a text consists of (6.9), and the definitions that it makes
@@ -156,7 +156,7 @@ pub data ItemList : List Placed → List Def → Type 0 where
   more : {ts rest : List Placed} {made others : List Def} → Item ts made → ItemList rest others
       → ItemList (ts ++ rest) (made ++ others)
 
--- the tokens of a whole text and its tree; the tree ends behind the last token
+-- the tokens of a whole text and its tree; the tree ends after the last token
 pub data TranslationUnit : List Placed → Program → Type 0 where
   program : {ts : List Placed} {made : List Def} → ItemList ts made
       → TranslationUnit ts (record { definitions = made; end = end ts })

@@ -11,5 +11,5 @@ pub mod Readings
 pub mod Reading
 pub mod Laws
 pub mod Tables
-pub mod Walk
-pub mod Seen
+pub mod Plans
+pub mod WordCounts

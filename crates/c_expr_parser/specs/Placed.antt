@@ -26,7 +26,7 @@ abbrev pub start : List Placed → ℕ
 start [] = 0
 start (t ∷ ts) = at t
 
--- where they end: the place behind the last, and 0 where there is none
+-- where they end: the place after the last, and 0 where there is none
 abbrev pub end : List Placed → ℕ
 end [] = 0
 end (t ∷ []) = t.token.at + t.token.len

@@ -1,5 +1,5 @@
 -- What is answered where a phrase is read from tokens of which the first has a number: what was read and the number of the
--- token behind it, or a fault at a token's number.
+-- token after it, or a fault at a token's number.
 use Rattle.std.specs.Prelude.{◌≡◌, ℕ, ◌+◌, ◌≤◌, ◌⊎◌, List, take, Result, Err}
 use Rattle.c_lexer.specs.declared.token.Token.{Token}
 use Rattle.c_expr_parser.specs.declared.parser.SyntaxFault.{SyntaxFault}
@@ -8,7 +8,7 @@ use Rattle.c_expr_parser.specs.Placed.{Placed}
 use Rattle.c_expr_parser.specs.Readings.{Reads, ReadsTo, FaultBefore, TooDeepAt}
 
 module _ {Tree : Type 0} (Phrase : List Placed → Tree → Type 0) where
-  -- as many tokens as begin a phrase are this tree, and the number is that of the token behind them
+  -- as many tokens as begin a phrase are this tree, and the number is that of the token after them
   abbrev pub IsRead : List Token → ℕ → Tree → ℕ → Type 0
   IsRead ts at tree behind = (n : ℕ) × (behind ≡ at + n) × ReadsTo Phrase ts n × Reads Phrase (take n ts) tree
 

@@ -6,7 +6,7 @@ use Rattle.c_tree.specs.declared.stmt.Stmt.{Stmt, roll-Stmt}
 use Rattle.c_tree.specs.declared.stmt.StmtNode.{StmtNode}
 use Rattle.c_tree.specs.declared.stmt.StmtNode.TheVariants as node
 use Rattle.c_expr_parser.specs.Placed.{Placed, at, start}
-use Rattle.c_expr_parser.specs.Terminals.{IsMark, IsKeyword, IsProfile}
+use Rattle.c_expr_parser.specs.Terminals.{IsPunctuator, IsKeyword, IsLibraryWord}
 use Rattle.c_expr_parser.specs.Expressions.{Assignment}
 use Rattle.c_expr_parser.specs.Declarations.{Variables}
 
@@ -18,7 +18,7 @@ stmt place made = roll-Stmt (record { place = place; node = made })
 abbrev pub declares : ℕ → List Declaration → List Stmt
 declares place declared = map (λ declaration. stmt place (node.Declare declaration)) declared
 
--- how a statement ends: dangling where an `else` behind it would belong to an `if` in it, else complete
+-- how a statement ends: dangling where an `else` after it would belong to an `if` in it, else complete
 pub data Ending : Type 0 where
   dangling : Ending
   complete : Ending
@@ -32,60 +32,60 @@ pub data Optional (depth : ℕ) : List Placed → Option Expr → Type 0 where
 pub data First (depth : ℕ) : List Placed → List Stmt → Type 0 where
   declaration : {ts : List Placed} {declared : List Declaration} → Variables depth ts declared
       → First depth ts (declares (start ts) declared)
-  expression : {ts : List Placed} {semicolon : Placed} {e : Expr} → Assignment depth ts e → IsMark depth ";" semicolon
+  expression : {ts : List Placed} {semicolon : Placed} {e : Expr} → Assignment depth ts e → IsPunctuator depth ";" semicolon
       → First depth (ts ++ semicolon ∷ []) (stmt (start ts) (node.Evaluate e) ∷ [])
-  nothing : {semicolon : Placed} → IsMark depth ";" semicolon → First depth (semicolon ∷ []) []
+  nothing : {semicolon : Placed} → IsPunctuator depth ";" semicolon → First depth (semicolon ∷ []) []
 
 mutual
   -- a statement. An `else` belongs to the nearest `if` before it that has none and may have it here (6.8.4.1p3): what
   -- stands between an `if` and its `else` is complete
   pub data Statement : Ending → ℕ → List Placed → Stmt → Type 0 where
     block : {d : ℕ} {brace end : Placed} {ts : List Placed} {ss : List Stmt}
-        → IsMark d "{" brace → Items (suc d) ts ss → IsMark d "}" end
+        → IsPunctuator d "{" brace → Items (suc d) ts ss → IsPunctuator d "}" end
         → Statement complete d (brace ∷ ts ++ end ∷ []) (stmt (at brace) (node.Block ss))
-    empty : {d : ℕ} {semicolon : Placed} → IsMark d ";" semicolon
+    empty : {d : ℕ} {semicolon : Placed} → IsPunctuator d ";" semicolon
         → Statement complete d (semicolon ∷ []) (stmt (at semicolon) node.Empty)
     evaluate : {d : ℕ} {ts : List Placed} {semicolon : Placed} {e : Expr}
-        → Assignment d ts e → IsMark d ";" semicolon
+        → Assignment d ts e → IsPunctuator d ";" semicolon
         → Statement complete d (ts ++ semicolon ∷ []) (stmt (start ts) (node.Evaluate e))
     if_only : {ending : Ending} {d : ℕ} {word paren close : Placed} {test body : List Placed} {c : Expr} {s : Stmt}
-        → IsKeyword d "if" word → IsMark d "(" paren → Assignment (suc d) test c → IsMark d ")" close
+        → IsKeyword d "if" word → IsPunctuator d "(" paren → Assignment (suc d) test c → IsPunctuator d ")" close
         → Statement ending (suc d) body s
         → Statement dangling d (word ∷ paren ∷ test ++ close ∷ body) (stmt (at word) (node.If c s))
     if_else : {ending : Ending} {d : ℕ} {word paren close other : Placed} {test first second : List Placed} {c : Expr} {s r : Stmt}
-        → IsKeyword d "if" word → IsMark d "(" paren → Assignment (suc d) test c → IsMark d ")" close
+        → IsKeyword d "if" word → IsPunctuator d "(" paren → Assignment (suc d) test c → IsPunctuator d ")" close
         → Statement complete (suc d) first s → IsKeyword d "else" other → Statement ending (suc d) second r
         → Statement ending d (word ∷ paren ∷ test ++ (close ∷ first ++ other ∷ second)) (stmt (at word) (node.IfElse c s r))
     while : {ending : Ending} {d : ℕ} {word paren close : Placed} {test body : List Placed} {c : Expr} {s : Stmt}
-        → IsKeyword d "while" word → IsMark d "(" paren → Assignment (suc d) test c → IsMark d ")" close
+        → IsKeyword d "while" word → IsPunctuator d "(" paren → Assignment (suc d) test c → IsPunctuator d ")" close
         → Statement ending (suc d) body s
         → Statement ending d (word ∷ paren ∷ test ++ close ∷ body) (stmt (at word) (node.While c s))
     do_while : {ending : Ending} {d : ℕ} {word again paren close semicolon : Placed} {body test : List Placed} {c : Expr} {s : Stmt}
-        → IsKeyword d "do" word → Statement ending (suc d) body s → IsKeyword d "while" again → IsMark d "(" paren
-        → Assignment (suc d) test c → IsMark d ")" close → IsMark d ";" semicolon
+        → IsKeyword d "do" word → Statement ending (suc d) body s → IsKeyword d "while" again → IsPunctuator d "(" paren
+        → Assignment (suc d) test c → IsPunctuator d ")" close → IsPunctuator d ";" semicolon
         → Statement complete d (word ∷ body ++ (again ∷ paren ∷ test ++ close ∷ semicolon ∷ [])) (stmt (at word) (node.DoWhile s c))
     for : {ending : Ending} {d : ℕ} {word paren semicolon close : Placed} {first test step body : List Placed}
         {before : List Stmt} {c e : Option Expr} {s : Stmt}
-        → IsKeyword d "for" word → IsMark d "(" paren → First (suc d) first before → Optional (suc d) test c
-        → IsMark (suc d) ";" semicolon → Optional (suc d) step e → IsMark d ")" close → Statement ending (suc d) body s
+        → IsKeyword d "for" word → IsPunctuator d "(" paren → First (suc d) first before → Optional (suc d) test c
+        → IsPunctuator (suc d) ";" semicolon → Optional (suc d) step e → IsPunctuator d ")" close → Statement ending (suc d) body s
         → Statement ending d (word ∷ paren ∷ first ++ (test ++ (semicolon ∷ step ++ close ∷ body)))
         (stmt (at word) (node.For before c e s))
-    break : {d : ℕ} {word semicolon : Placed} → IsKeyword d "break" word → IsMark d ";" semicolon
+    break : {d : ℕ} {word semicolon : Placed} → IsKeyword d "break" word → IsPunctuator d ";" semicolon
         → Statement complete d (word ∷ semicolon ∷ []) (stmt (at word) node.Break)
-    continue : {d : ℕ} {word semicolon : Placed} → IsKeyword d "continue" word → IsMark d ";" semicolon
+    continue : {d : ℕ} {word semicolon : Placed} → IsKeyword d "continue" word → IsPunctuator d ";" semicolon
         → Statement complete d (word ∷ semicolon ∷ []) (stmt (at word) node.Continue)
-    return : {d : ℕ} {word semicolon : Placed} → IsKeyword d "return" word → IsMark d ";" semicolon
+    return : {d : ℕ} {word semicolon : Placed} → IsKeyword d "return" word → IsPunctuator d ";" semicolon
         → Statement complete d (word ∷ semicolon ∷ []) (stmt (at word) node.Return)
     return_value : {d : ℕ} {word semicolon : Placed} {ts : List Placed} {e : Expr}
-        → IsKeyword d "return" word → Assignment d ts e → IsMark d ";" semicolon
+        → IsKeyword d "return" word → Assignment d ts e → IsPunctuator d ";" semicolon
         → Statement complete d (word ∷ ts ++ semicolon ∷ []) (stmt (at word) (node.ReturnValue e))
     -- a point where an update may come in
     update : {d : ℕ} {word paren close semicolon : Placed}
-        → IsProfile d "dsu_update" word → IsMark d "(" paren → IsMark d ")" close → IsMark d ";" semicolon
+        → IsLibraryWord d "dsu_update" word → IsPunctuator d "(" paren → IsPunctuator d ")" close → IsPunctuator d ";" semicolon
         → Statement complete d (word ∷ paren ∷ close ∷ semicolon ∷ []) (stmt (at word) node.Update)
     -- a block that one version runs
     transaction : {d : ℕ} {word brace end : Placed} {ts : List Placed} {ss : List Stmt}
-        → IsProfile d "dsu_tx" word → IsMark d "{" brace → Items (suc d) ts ss → IsMark d "}" end
+        → IsLibraryWord d "dsu_tx" word → IsPunctuator d "{" brace → Items (suc d) ts ss → IsPunctuator d "}" end
         → Statement complete d (word ∷ brace ∷ ts ++ end ∷ []) (stmt (at word) (node.Transaction ss (at end)))
 
   -- what stands between the braces of a block (6.8.2)

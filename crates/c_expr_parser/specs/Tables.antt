@@ -22,7 +22,7 @@ use Rattle.c_expr_parser.specs.declared.operators.Prefix.TheVariants as prefix
 use Rattle.c_expr_parser.specs.declared.postfix.PostfixOp.{PostfixOp}
 use Rattle.c_expr_parser.specs.declared.postfix.PostfixOp.TheVariants.{Arrow, Dot, Increment, Decrement}
 use Rattle.c_lexer.specs.declared.token.TokenKind.{TokenKind}
-use Rattle.c_lexer.specs.declared.token.TokenKind.TheVariants.{Identifier, Keyword, Profile, Number, Character, Str, Mark}
+use Rattle.c_lexer.specs.declared.token.TokenKind.TheVariants.{Identifier, Keyword, LibraryWord, Number, Character, Str, Punctuator}
 use Rattle.c_lexer.specs.Words.{is_one_of}
 use Rattle.c_expr_parser.specs.declared.operators.Joint.{Joint}
 use Rattle.c_expr_parser.specs.declared.operators.Joint.TheVariants.{Operation, Both, Either}
@@ -57,11 +57,11 @@ compound_operators =
 abbrev pub kind_number : TokenKind → ℕ
 kind_number Identifier = 0
 kind_number Keyword = 1
-kind_number Profile = 2
+kind_number LibraryWord = 2
 kind_number Number = 3
 kind_number Character = 4
 kind_number Str = 5
-kind_number Mark = 6
+kind_number Punctuator = 6
 
 abbrev pub is_kind : TokenKind → Token → Bool
 is_kind kind t = kind_number t.kind == kind_number kind
@@ -83,18 +83,18 @@ abbrev pub when_some : {A : Type 0} → Bool → Option A → Option A
 when_some test o = if test then o else None
 
 abbrev pub unary_operator : Token → Option UnOp
-unary_operator t = when_some (is_kind Mark t) (look t.text unary_operators)
+unary_operator t = when_some (is_kind Punctuator t) (look t.text unary_operators)
 
 abbrev pub compound_operator : Token → Option BinOp
-compound_operator t = when_some (is_kind Mark t) (look t.text compound_operators)
+compound_operator t = when_some (is_kind Punctuator t) (look t.text compound_operators)
 
--- what a row of the binary operators has where it stands at a level
+-- what a row of the binary operators has where it is at a level
 abbrev pub at_level : ℕ → Option (ℕ × Joint) → Option Joint
 at_level level None = None
 at_level level (Some row) = if row.0 == level then Some row.1 else None
 
 abbrev pub binary_operator : ℕ → Token → Option Joint
-binary_operator level t = when_some (is_kind Mark t) (at_level level (look t.text binary_operators))
+binary_operator level t = when_some (is_kind Punctuator t) (at_level level (look t.text binary_operators))
 
 -- the integer type that words mean
 abbrev pub kind_of : List (List ℕ) → Option Kind
@@ -109,9 +109,9 @@ longer_kind words t = when_some (is_integer_word t) (kind_of (words ++ t.text �
 
 -- a type begins with the token
 abbrev pub begins_type : Token → Bool
-begins_type t = if is_integer_word t then true else (if is Keyword (codes "struct") t then true else is Profile (codes "thrd_t") t)
+begins_type t = if is_integer_word t then true else (if is Keyword (codes "struct") t then true else is LibraryWord (codes "thrd_t") t)
 
--- what stands before a closing quote that ends some bytes
+-- what comes before a closing quote that ends some bytes
 abbrev pub before_quote : ℕ → List ℕ → Option (List ℕ)
 before_quote quote [] = None
 before_quote quote (b ∷ []) = if b == quote then Some [] else None
@@ -143,21 +143,21 @@ abbrev pub is_one : Token → Bool
 is_one t = is_kind Number t && option_map_or (λ n. int_eq (value_of n) (pos 1)) (constant_of t.text) false
 
 -- the name of the library that begins an operand
-abbrev pub library_word : List ℕ → Option LibraryName
-library_word spelling =
+abbrev pub library_name : List ℕ → Option LibraryName
+library_name spelling =
     look spelling ((codes "NULL", Null) ∷ (codes "thrd_success", Success) ∷ (codes "thrd_error", Error)
     ∷ (codes "printf", Printf) ∷ (codes "calloc", Calloc) ∷ (codes "free", Free)
     ∷ (codes "thrd_create", Create) ∷ (codes "thrd_join", Join)
     ∷ (codes "mtx_init", Init) ∷ (codes "mtx_lock", Lock) ∷ (codes "mtx_unlock", Unlock) ∷ [])
 
--- an operator behind its operand
+-- an operator after its operand
 abbrev pub postfix_operators : List (List ℕ × PostfixOp)
 postfix_operators = (codes "->", Arrow) ∷ (codes ".", Dot) ∷ (codes "++", Increment) ∷ (codes "--", Decrement) ∷ []
 
 abbrev pub postfix_operator : Token → Option PostfixOp
-postfix_operator t = when_some (is_kind Mark t) (look t.text postfix_operators)
+postfix_operator t = when_some (is_kind Punctuator t) (look t.text postfix_operators)
 
--- what begins an operand with a mark
+-- what begins an operand with a punctuator
 abbrev pub prefix_of : List ℕ → Option Prefix
 prefix_of spelling =
     look spelling ((codes "(", prefix.Open) ∷ (codes "++", prefix.Increment) ∷ (codes "--", prefix.Decrement)

@@ -1,4 +1,4 @@
--- What a token must be to stand in a rule, and at which depth.
+-- What a token must be to be in a rule, and at which depth.
 use Rattle.std.specs.Prelude.{◌≡◌, ℕ, pos, List, [], ◌∷◌, ◌++◌, Ok, codes}
 use Prim.Native.String.{String}
 use Rattle.c_ints.specs.declared.int.Int.{Int}
@@ -9,7 +9,7 @@ use Rattle.c_ints.specs.Number.{number}
 use Rattle.c_ints.specs.Literal.{IsLiteral, literal_value}
 use Rattle.c_lexer.specs.Bytes.{quote, double_quote}
 use Rattle.c_lexer.specs.declared.token.TokenKind.{TokenKind}
-use Rattle.c_lexer.specs.declared.token.TokenKind.TheVariants.{Identifier, Keyword, Profile, Number, Character, Str, Mark}
+use Rattle.c_lexer.specs.declared.token.TokenKind.TheVariants.{Identifier, Keyword, LibraryWord, Number, Character, Str, Punctuator}
 use Rattle.c_tree.specs.declared.name.Name.{Name}
 use Rattle.c_expr_parser.specs.Placed.{Placed, at, text}
 use Rattle.c_expr_parser.specs.Quoted.{IsQuoted}
@@ -26,16 +26,16 @@ pub record Spells (kind : TokenKind) (depth : ℕ) (spelling : List ℕ) (t : Pl
   pub spelled : text t ≡ spelling
 
 -- a punctuator (6.4.6)
-abbrev pub IsMark : ℕ → String → Placed → Type 0
-IsMark depth mark t = Spells Mark depth (codes mark) t
+abbrev pub IsPunctuator : ℕ → String → Placed → Type 0
+IsPunctuator depth punctuator t = Spells Punctuator depth (codes punctuator) t
 
 -- a keyword (6.4.1)
 abbrev pub IsKeyword : ℕ → String → Placed → Type 0
 IsKeyword depth word t = Spells Keyword depth (codes word) t
 
 -- a name of the library or of updating
-abbrev pub IsProfile : ℕ → String → Placed → Type 0
-IsProfile depth word t = Spells Profile depth (codes word) t
+abbrev pub IsLibraryWord : ℕ → String → Placed → Type 0
+IsLibraryWord depth word t = Spells LibraryWord depth (codes word) t
 
 -- an identifier (6.4.2)
 abbrev pub IsIdentifier : ℕ → Placed → Type 0

@@ -10,7 +10,7 @@ use Rattle.c_tree.specs.declared.name.Name.{Name}
 use Rattle.c_tree.specs.declared.name.CType.{CType}
 use Rattle.c_tree.specs.declared.name.CType.TheVariants.{Integer, Handle, Thread}
 use Rattle.c_expr_parser.specs.Placed.{Placed, text}
-use Rattle.c_expr_parser.specs.Terminals.{IsToken, IsMark, IsKeyword, IsProfile, IsIdentifier, name}
+use Rattle.c_expr_parser.specs.Terminals.{IsToken, IsPunctuator, IsKeyword, IsLibraryWord, IsIdentifier, name}
 
 -- the words that integer types are written with
 abbrev pub integer_words : List (List ℕ)
@@ -32,7 +32,7 @@ spellings I64 =
     ∷ (codes "signed" ∷ codes "long" ∷ codes "int" ∷ []) ∷ []
 spellings U64 = (codes "unsigned" ∷ codes "long" ∷ []) ∷ (codes "unsigned" ∷ codes "long" ∷ codes "int" ∷ []) ∷ []
 
--- how often each of those words stands in a list of them: what stays of the list in any other order
+-- how often each of those words is in a list of them: what stays of the list in any other order
 abbrev pub counts : List (List ℕ) → List ℕ
 counts words = map (λ word. count_by (bytes_eq word) words) integer_words
 
@@ -55,12 +55,12 @@ pub data IntegerWords (depth : ℕ) : List Placed → List (List ℕ) → Type 0
 pub data TypeName (depth : ℕ) : List Placed → CType → Type 0 where
   integer : {kind : Kind} {ts : List Placed} {words : List (List ℕ)} → IntegerWords depth ts words
       → IsTrue (is_spelling kind words) → TypeName depth ts (Integer kind)
-  handle : {word tag star : Placed} → IsKeyword depth "struct" word → IsIdentifier depth tag → IsMark depth "*" star
+  handle : {word tag star : Placed} → IsKeyword depth "struct" word → IsIdentifier depth tag → IsPunctuator depth "*" star
       → TypeName depth (word ∷ tag ∷ star ∷ []) (Handle (name tag))
-  thread : {word : Placed} → IsProfile depth "thrd_t" word → TypeName depth (word ∷ []) Thread
+  thread : {word : Placed} → IsLibraryWord depth "thrd_t" word → TypeName depth (word ∷ []) Thread
 
--- what stands before the second name that a type declares, and before each further one: `*` where it's a handle
+-- what comes before the second name that a type declares, and before each further one: `*` where it's a handle
 pub data Star (depth : ℕ) : CType → List Placed → Type 0 where
   integer : {kind : Kind} → Star depth (Integer kind) []
-  handle : {tag : Name} {star : Placed} → IsMark depth "*" star → Star depth (Handle tag) (star ∷ [])
+  handle : {tag : Name} {star : Placed} → IsPunctuator depth "*" star → Star depth (Handle tag) (star ∷ [])
   thread : Star depth Thread []

@@ -1,9 +1,9 @@
 ghost use Rattle.c_lexer.specs.declared.token.Token.{Token};
-ghost use Rattle.std.specs.Prelude.{◌≡◌, ◌∷◌, ◌+◌, None, Some, MatchOption, ◌<◌, ◌≤◌, length, IfOk, MatchResult};
+ghost use Rattle.std.specs.Prelude.{◌≡◌, ◌∷◌, ◌+◌, None, Some, MatchOption, ◌<◌, ◌≤◌, length, IfOk};
 ghost use Rattle.c_expr_parser.specs.Readings.{most_depth};
 ghost use Rattle.c_expr_parser.specs.Operators.{loosest};
 ghost use Rattle.c_expr_parser.specs.Tables.{ahead, binary_operator};
-ghost use Rattle.c_expr_parser.specs.Walk.{assignment_sign, assignment, binary, conditional, conditional_rest, chains, Assigned, Chosen, Chain, operand as operand_value, read, parsed, reads, Stops};
+ghost use Rattle.c_expr_parser.specs.Plans.{assignment_sign, assignment, binary, conditional, conditional_rest, chains, Assigned, Chosen, Chain, operand as operand_value, read, parsed, reads, Finds};
 
 use crate::cursor::{shallow, skip, take};
 use crate::nodes::{assign, choose, join};
@@ -18,7 +18,7 @@ use std::alloc::Global;
 /// How many levels the binary operators have.
 pub const LEVELS: u32 = 10;
 
-/// An expression (6.5.16), and the tokens behind it.
+/// An expression (6.5.16), and the tokens after it.
 #[cycle(expression)]
 pub fn assignment<'a>(
     alloc: Global,
@@ -26,8 +26,7 @@ pub fn assignment<'a>(
     depth: u32,
 ) -> Result<(Operand, &'a [Token]), Stop>
     requires { depth ≤ most_depth + 1 }
-    ensures reads { let m = parsed (assignment depth) tokens.now in
-        MatchResult result (λ x. m ≡ read (operand_value x.0) x.1.now) (λ stop. Stops stop m) }
+    ensures reads { Finds (parsed (assignment depth) tokens.now) (λ x. read (operand_value x.0) x.1.now) result }
     ensures within { IfOk result (λ x. length x.1.now < length tokens.now) }
 {
     let (first, rest) = operand(alloc, tokens, depth, true)?;
@@ -44,8 +43,7 @@ fn assigned<'a>(
     depth: u32,
 ) -> Result<(Operand, &'a [Token]), Stop>
     requires { depth ≤ most_depth + 1 }
-    ensures reads { let m = reads (Assigned depth left) tokens.now in
-        MatchResult result (λ x. m ≡ read (operand_value x.0) x.1.now) (λ stop. Stops stop m) }
+    ensures reads { Finds (reads (Assigned depth left) tokens.now) (λ x. read (operand_value x.0) x.1.now) result }
     ensures within { IfOk result (λ x. length x.1.now ≤ length tokens.now) }
 {
     match assignment_ahead(&left, tokens) {
@@ -58,7 +56,7 @@ fn assigned<'a>(
     }
 }
 
-/// The operator of an assignment whose left side is an operand, and the tokens behind it, if it begins the tokens.
+/// The operator of an assignment whose left side is an operand, and the tokens after it, if it begins the tokens.
 fn assignment_ahead<'a>(left: &Operand, tokens: &'a [Token]) -> Option<(Option<BinOp>, &'a [Token])>
     ensures { MatchOption result (ahead (assignment_sign left.now) tokens.now ≡ None)
         (λ x. (t : Token) × (tokens.now ≡ t ∷ x.1.now) × (assignment_sign left.now t ≡ Some x.0)) }
@@ -71,7 +69,7 @@ fn assignment_ahead<'a>(left: &Operand, tokens: &'a [Token]) -> Option<(Option<B
     Some((op, rest))
 }
 
-/// What joins two operands at a level, and the tokens behind it, if it begins the tokens.
+/// What joins two operands at a level, and the tokens after it, if it begins the tokens.
 fn joint_ahead(tokens: &[Token], level: u32) -> Option<(Joint, &[Token])>
     ensures { MatchOption result (ahead (binary_operator level) tokens.now ≡ None)
         (λ x. (t : Token) × (tokens.now ≡ t ∷ x.1.now) × (binary_operator level t ≡ Some x.0)) }
@@ -81,7 +79,7 @@ fn joint_ahead(tokens: &[Token], level: u32) -> Option<(Joint, &[Token])>
     Some((joint, rest))
 }
 
-/// An expression that is no assignment (6.5.15), and the tokens behind it.
+/// An expression that is no assignment (6.5.15), and the tokens after it.
 #[cycle(expression)]
 pub fn conditional<'a>(
     alloc: Global,
@@ -89,8 +87,7 @@ pub fn conditional<'a>(
     depth: u32,
 ) -> Result<(Operand, &'a [Token]), Stop>
     requires { depth ≤ most_depth + 1 }
-    ensures reads { let m = parsed (conditional depth) tokens.now in
-        MatchResult result (λ x. m ≡ read (operand_value x.0) x.1.now) (λ stop. Stops stop m) }
+    ensures reads { Finds (parsed (conditional depth) tokens.now) (λ x. read (operand_value x.0) x.1.now) result }
     ensures within { IfOk result (λ x. length x.1.now < length tokens.now) }
 {
     let (first, rest) = operand(alloc, tokens, depth, true)?;
@@ -106,8 +103,7 @@ pub fn conditional_rest<'a>(
     depth: u32,
 ) -> Result<(Operand, &'a [Token]), Stop>
     requires { depth ≤ most_depth + 1 }
-    ensures reads { let m = parsed (conditional_rest depth (operand_value first)) tokens.now in
-        MatchResult result (λ x. m ≡ read (operand_value x.0) x.1.now) (λ stop. Stops stop m) }
+    ensures reads { Finds (parsed (conditional_rest depth (operand_value first)) tokens.now) (λ x. read (operand_value x.0) x.1.now) result }
     ensures within { IfOk result (λ x. length x.1.now ≤ length tokens.now) }
 {
     let (test, rest) = chains(alloc, first, tokens, depth, LEVELS)?;
@@ -123,21 +119,20 @@ fn chosen<'a>(
     depth: u32,
 ) -> Result<(Operand, &'a [Token]), Stop>
     requires { depth ≤ most_depth + 1 }
-    ensures reads { let m = reads (Chosen depth test) tokens.now in
-        MatchResult result (λ x. m ≡ read (operand_value x.0) x.1.now) (λ stop. Stops stop m) }
+    ensures reads { Finds (reads (Chosen depth test) tokens.now) (λ x. read (operand_value x.0) x.1.now) result }
     ensures within { IfOk result (λ x. length x.1.now ≤ length tokens.now) }
 {
-    let Some(behind) = skip(tokens, TokenKind::Mark, "?") else {
+    let Some(behind) = skip(tokens, TokenKind::Punctuator, "?") else {
         return Ok((test, tokens));
     };
     shallow(tokens, depth)?;
     let (first, rest) = assignment(alloc, behind, depth)?;
-    let rest = take(rest, TokenKind::Mark, ":", depth)?;
+    let rest = take(rest, TokenKind::Punctuator, ":", depth)?;
     let (second, rest) = conditional(alloc, rest, depth + 1)?;
     Ok((choose(alloc, test, first, second)?, rest))
 }
 
-/// An operand with the operators of the tightest levels behind it (6.5.5 to 6.5.14).
+/// An operand with the operators of the tightest levels after it (6.5.5 to 6.5.14).
 #[cycle(expression)]
 fn chains<'a>(
     alloc: Global,
@@ -148,8 +143,7 @@ fn chains<'a>(
 ) -> Result<(Operand, &'a [Token]), Stop>
     requires shallow { depth ≤ most_depth + 1 }
     requires known { levels ≤ loosest }
-    ensures reads { let m = parsed (chains levels depth (operand_value first)) tokens.now in
-        MatchResult result (λ x. m ≡ read (operand_value x.0) x.1.now) (λ stop. Stops stop m) }
+    ensures reads { Finds (parsed (chains levels depth (operand_value first)) tokens.now) (λ x. read (operand_value x.0) x.1.now) result }
     ensures within { IfOk result (λ x. length x.1.now ≤ length tokens.now) }
 {
     let mut a = first;
@@ -172,15 +166,14 @@ fn binary<'a>(
 ) -> Result<(Operand, &'a [Token]), Stop>
     requires shallow { depth ≤ most_depth + 1 }
     requires known { levels ≤ loosest }
-    ensures reads { let m = parsed (binary levels depth) tokens.now in
-        MatchResult result (λ x. m ≡ read (operand_value x.0) x.1.now) (λ stop. Stops stop m) }
+    ensures reads { Finds (parsed (binary levels depth) tokens.now) (λ x. read (operand_value x.0) x.1.now) result }
     ensures within { IfOk result (λ x. length x.1.now < length tokens.now) }
 {
     let (first, rest) = operand(alloc, tokens, depth, true)?;
     chains(alloc, first, rest, depth, levels)
 }
 
-/// An operand with the operators of one level behind it, which group from the left. The levels are counted from 0 here.
+/// An operand with the operators of one level after it, which group from the left. The levels are counted from 0 here.
 #[cycle(expression)]
 fn chain<'a>(
     alloc: Global,
@@ -191,8 +184,7 @@ fn chain<'a>(
 ) -> Result<(Operand, &'a [Token]), Stop>
     requires shallow { depth ≤ most_depth + 1 }
     requires known { level < loosest }
-    ensures reads { let m = reads (Chain level depth first) tokens.now in
-        MatchResult result (λ x. m ≡ read (operand_value x.0) x.1.now) (λ stop. Stops stop m) }
+    ensures reads { Finds (reads (Chain level depth first) tokens.now) (λ x. read (operand_value x.0) x.1.now) result }
     ensures within { IfOk result (λ x. length x.1.now ≤ length tokens.now) }
 {
     let mut a = first;

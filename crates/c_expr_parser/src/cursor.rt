@@ -2,14 +2,14 @@ ghost use Rattle.std.specs.Prelude.{◌≡◌, ◌∷◌, ◌<◌, ◌≤◌, le
 ghost use Rattle.c_lexer.specs.declared.token.Token.{Token};
 ghost use Rattle.c_expr_parser.specs.Tables.{is, is_kind, is_one, holds_ahead};
 ghost use Rattle.c_expr_parser.specs.Readings.{most_depth};
-ghost use Rattle.c_expr_parser.specs.Walk.{Word, Naming, One, read, nothing, named, reads, Stops};
+ghost use Rattle.c_expr_parser.specs.Plans.{Word, Naming, One, read, nothing, named, reads, Stops, Finds};
 
 use crate::constants::constant;
 use crate::stop::Stop;
 use c_lexer::{Token, TokenKind};
 use c_tree::Name;
 
-/// A token stands in at most so many constructs that count as depth.
+/// A token is in at most so many constructs that count as depth.
 pub const MOST_DEPTH: u32 = 64;
 
 /// Whether a token has a kind.
@@ -26,7 +26,7 @@ pub fn is(token: &Token, kind: TokenKind, spelling: &str) -> bool
     token.kind == kind && token.text.as_str() == spelling
 }
 
-/// The tokens behind the first, if that has a kind and a spelling.
+/// The tokens after the first, if that has a kind and a spelling.
 pub fn skip<'a>(tokens: &'a [Token], kind: TokenKind, spelling: &str) -> Option<&'a [Token]>
     ensures { MatchOption result (holds_ahead (is kind spelling.now) tokens.now ≡ false)
         (λ rest. (t : Token) × (tokens.now ≡ t ∷ rest.now) × (is kind spelling.now t ≡ true)) }
@@ -54,15 +54,14 @@ pub fn shallow(tokens: &[Token], depth: u32) -> Result<(), Stop>
     Ok(())
 }
 
-/// The tokens behind one of a kind and a spelling.
+/// The tokens after one of a kind and a spelling.
 pub fn take<'a>(
     tokens: &'a [Token],
     kind: TokenKind,
     spelling: &str,
     depth: u32,
 ) -> Result<&'a [Token], Stop>
-    ensures reads { let m = reads (Word kind spelling.now depth) tokens.now in
-        MatchResult result (λ rest. m ≡ read nothing rest.now) (λ stop. Stops stop m) }
+    ensures reads { Finds (reads (Word kind spelling.now depth) tokens.now) (λ rest. read nothing rest.now) result }
     ensures within { IfOk result (λ rest. (depth ≤ most_depth) × (length rest.now < length tokens.now)) }
 {
     match tokens.split_first() {
@@ -81,8 +80,7 @@ pub fn take<'a>(
 
 /// An identifier.
 pub fn name(tokens: &[Token], depth: u32) -> Result<(Name, &[Token]), Stop>
-    ensures reads { let m = reads (Naming depth) tokens.now in
-        MatchResult result (λ x. m ≡ read (named x.0) x.1.now) (λ stop. Stops stop m) }
+    ensures reads { Finds (reads (Naming depth) tokens.now) (λ x. read (named x.0) x.1.now) result }
     ensures within { IfOk result (λ x. (depth ≤ most_depth) × (length x.1.now < length tokens.now)) }
 {
     match tokens.split_first() {
@@ -105,8 +103,7 @@ pub fn name(tokens: &[Token], depth: u32) -> Result<(Name, &[Token]), Stop>
 
 /// A number of value 1.
 pub fn one(tokens: &[Token], depth: u32) -> Result<&[Token], Stop>
-    ensures reads { let m = reads (One depth) tokens.now in
-        MatchResult result (λ rest. m ≡ read nothing rest.now) (λ stop. Stops stop m) }
+    ensures reads { Finds (reads (One depth) tokens.now) (λ rest. read nothing rest.now) result }
     ensures within { IfOk result (λ rest. (depth ≤ most_depth) × (length rest.now < length tokens.now)) }
 {
     match tokens.split_first() {

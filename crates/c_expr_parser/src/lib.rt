@@ -12,9 +12,10 @@
 //! `Definitions` (the rules), `Readings` (what it is to read tokens, and where they can't be read),
 //! `Reading` (what `expression` answers), `Laws` (that there is one tree, and one depth).
 //!
-//! `Tables`, `Walk` and `Seen` are for private contracts: how the functions go through the tokens, as
-//! a plan of what is wanted next. `proofs/` shows that plans and grammar say the same: `Complete` from
-//! the grammar to the plans, `Sound` back, and `Exact` what follows for faults and for the laws.
+//! `Tables`, `Plans` and `WordCounts` are for private contracts: how the functions go through the tokens, as
+//! a plan of what is wanted next. `proofs/` shows that plans and grammar say the same: `CompleteExpressions`
+//! from the grammar to the plans, `SoundExpressions` back, and `ExactPlans` and `ExpressionLaws` what follows
+//! for faults and for the laws.
 #![tactic(auto)]
 
 mod climb;

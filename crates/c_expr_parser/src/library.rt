@@ -1,8 +1,8 @@
-ghost use Rattle.std.specs.Prelude.{◌≡◌, ◌∷◌, ◌<◌, ◌≤◌, ◌+◌, length, IfOk, MatchResult, List, Bool};
+ghost use Rattle.std.specs.Prelude.{◌≡◌, ◌∷◌, ◌<◌, ◌≤◌, ◌+◌, length, IfOk, List, Bool};
 ghost use Rattle.c_lexer.specs.declared.token.Token.{Token};
-ghost use Rattle.c_expr_parser.specs.Tables.{library_word};
+ghost use Rattle.c_expr_parser.specs.Tables.{library_name};
 ghost use Rattle.c_expr_parser.specs.Readings.{most_depth};
-ghost use Rattle.c_expr_parser.specs.Walk.{Target, target_value, create_place, create_function, named, size_of_struct, mutex_argument, word_call, wanted, print_call, calloc_call, free_call, create_call, join_call, init_call, mutex_call, operand as operand_value, read, parsed, reads, Stops};
+ghost use Rattle.c_expr_parser.specs.Plans.{Target, target_value, create_place, create_function, named, size_of_struct, mutex_argument, word_call, wanted, print_call, calloc_call, free_call, create_call, join_call, init_call, mutex_call, operand as operand_value, read, parsed, reads, Finds};
 
 use crate::climb::assignment;
 use crate::cursor::{name, one, shallow, skip, take};
@@ -34,7 +34,7 @@ pub enum LibraryName {
 
 /// The name of the library that a spelling is, if it begins an operand.
 fn word_of(spelling: &str) -> Option<LibraryName>
-    ensures { result ≡ library_word spelling.now }
+    ensures { result ≡ library_name spelling.now }
 {
     match spelling {
         "NULL" => Some(LibraryName::Null),
@@ -60,9 +60,7 @@ pub fn library<'a>(
     depth: u32,
 ) -> Result<(Operand, &'a [Token]), Stop>
     requires { depth ≤ most_depth + 1 }
-    ensures reads { (casts : Bool) → (t : Token) → (ts : List Token) → tokens.now ≡ t ∷ ts → t.kind ≡ TokenKind.Profile
-        → (let m = reads (wanted casts depth) tokens.now in
-        MatchResult result (λ x. m ≡ read (operand_value x.0) x.1.now) (λ stop. Stops stop m)) }
+    ensures reads { (casts : Bool) → (t : Token) → (ts : List Token) → tokens.now ≡ t ∷ ts → t.kind ≡ TokenKind.LibraryWord → Finds (reads (wanted casts depth) tokens.now) (λ x. read (operand_value x.0) x.1.now) result }
     ensures within { IfOk result (λ x. length x.1.now < length tokens.now) }
 {
     let Some((first, rest)) = tokens.split_first() else {
@@ -85,8 +83,7 @@ fn library_call<'a>(
     depth: u32,
 ) -> Result<(Operand, &'a [Token]), Stop>
     requires { depth ≤ most_depth }
-    ensures reads { let m = parsed (word_call word depth start) tokens.now in
-        MatchResult result (λ x. m ≡ read (operand_value x.0) x.1.now) (λ stop. Stops stop m) }
+    ensures reads { Finds (parsed (word_call word depth start) tokens.now) (λ x. read (operand_value x.0) x.1.now) result }
     ensures within { IfOk result (λ x. length x.1.now ≤ length tokens.now) }
 {
     match word {
@@ -110,7 +107,7 @@ fn library_call<'a>(
     }
 }
 
-/// `("..", a, b)` behind `printf`.
+/// `("..", a, b)` after `printf`.
 #[cycle(expression)]
 fn print_call<'a>(
     alloc: Global,
@@ -119,14 +116,13 @@ fn print_call<'a>(
     depth: u32,
 ) -> Result<(Operand, &'a [Token]), Stop>
     requires { depth ≤ most_depth }
-    ensures reads { let m = parsed (print_call depth start) tokens.now in
-        MatchResult result (λ x. m ≡ read (operand_value x.0) x.1.now) (λ stop. Stops stop m) }
+    ensures reads { Finds (parsed (print_call depth start) tokens.now) (λ x. read (operand_value x.0) x.1.now) result }
     ensures within { IfOk result (λ x. length x.1.now ≤ length tokens.now) }
 {
-    let rest = take(tokens, TokenKind::Mark, "(", depth)?;
+    let rest = take(tokens, TokenKind::Punctuator, "(", depth)?;
     let (format, rest) = strings(alloc, rest, depth + 1)?;
     let (arguments, rest) = further(alloc, Vec::new(alloc), rest, depth + 1)?;
-    let rest = take(rest, TokenKind::Mark, ")", depth)?;
+    let rest = take(rest, TokenKind::Punctuator, ")", depth)?;
     let node = ExprNode::Print {
         place: format.place,
         format: format.text,
@@ -135,7 +131,7 @@ fn print_call<'a>(
     primary(alloc, start, node, rest, depth)
 }
 
-/// `(1, sizeof(struct T))` behind `calloc`.
+/// `(1, sizeof(struct T))` after `calloc`.
 fn calloc_call<'a>(
     alloc: Global,
     start: usize,
@@ -143,34 +139,32 @@ fn calloc_call<'a>(
     depth: u32,
 ) -> Result<(Operand, &'a [Token]), Stop>
     requires { depth ≤ most_depth }
-    ensures reads { let m = parsed (calloc_call depth start) tokens.now in
-        MatchResult result (λ x. m ≡ read (operand_value x.0) x.1.now) (λ stop. Stops stop m) }
+    ensures reads { Finds (parsed (calloc_call depth start) tokens.now) (λ x. read (operand_value x.0) x.1.now) result }
     ensures within { IfOk result (λ x. length x.1.now ≤ length tokens.now) }
 {
-    let rest = take(tokens, TokenKind::Mark, "(", depth)?;
+    let rest = take(tokens, TokenKind::Punctuator, "(", depth)?;
     let rest = one(rest, depth + 1)?;
-    let rest = take(rest, TokenKind::Mark, ",", depth + 1)?;
+    let rest = take(rest, TokenKind::Punctuator, ",", depth + 1)?;
     let (tag, rest) = size_of_struct(rest, depth + 1)?;
-    let rest = take(rest, TokenKind::Mark, ")", depth)?;
+    let rest = take(rest, TokenKind::Punctuator, ")", depth)?;
     primary(alloc, start, ExprNode::Calloc(tag), rest, depth)
 }
 
 /// `sizeof(struct T)`, with the tag.
 fn size_of_struct(tokens: &[Token], depth: u32) -> Result<(Name, &[Token]), Stop>
     requires { depth ≤ most_depth + 1 }
-    ensures reads { let m = parsed (size_of_struct depth) tokens.now in
-        MatchResult result (λ x. m ≡ read (named x.0) x.1.now) (λ stop. Stops stop m) }
+    ensures reads { Finds (parsed (size_of_struct depth) tokens.now) (λ x. read (named x.0) x.1.now) result }
     ensures within { IfOk result (λ x. length x.1.now ≤ length tokens.now) }
 {
     let rest = take(tokens, TokenKind::Keyword, "sizeof", depth)?;
-    let rest = take(rest, TokenKind::Mark, "(", depth)?;
+    let rest = take(rest, TokenKind::Punctuator, "(", depth)?;
     let rest = take(rest, TokenKind::Keyword, "struct", depth + 1)?;
     let (tag, rest) = name(rest, depth + 1)?;
-    let rest = take(rest, TokenKind::Mark, ")", depth)?;
+    let rest = take(rest, TokenKind::Punctuator, ")", depth)?;
     Ok((tag, rest))
 }
 
-/// `(p)` behind `free`.
+/// `(p)` after `free`.
 #[cycle(expression)]
 fn free_call<'a>(
     alloc: Global,
@@ -179,17 +173,16 @@ fn free_call<'a>(
     depth: u32,
 ) -> Result<(Operand, &'a [Token]), Stop>
     requires { depth ≤ most_depth }
-    ensures reads { let m = parsed (free_call depth start) tokens.now in
-        MatchResult result (λ x. m ≡ read (operand_value x.0) x.1.now) (λ stop. Stops stop m) }
+    ensures reads { Finds (parsed (free_call depth start) tokens.now) (λ x. read (operand_value x.0) x.1.now) result }
     ensures within { IfOk result (λ x. length x.1.now ≤ length tokens.now) }
 {
-    let rest = take(tokens, TokenKind::Mark, "(", depth)?;
+    let rest = take(tokens, TokenKind::Punctuator, "(", depth)?;
     let (handle, rest) = assignment(alloc, rest, depth + 1)?;
-    let rest = take(rest, TokenKind::Mark, ")", depth)?;
+    let rest = take(rest, TokenKind::Punctuator, ")", depth)?;
     primary(alloc, start, ExprNode::Free(handle.expr), rest, depth)
 }
 
-/// `(&t, f, a)` behind `thrd_create`.
+/// `(&t, f, a)` after `thrd_create`.
 #[cycle(expression)]
 fn create_call<'a>(
     alloc: Global,
@@ -198,19 +191,18 @@ fn create_call<'a>(
     depth: u32,
 ) -> Result<(Operand, &'a [Token]), Stop>
     requires { depth ≤ most_depth }
-    ensures reads { let m = parsed (create_call depth start) tokens.now in
-        MatchResult result (λ x. m ≡ read (operand_value x.0) x.1.now) (λ stop. Stops stop m) }
+    ensures reads { Finds (parsed (create_call depth start) tokens.now) (λ x. read (operand_value x.0) x.1.now) result }
     ensures within { IfOk result (λ x. length x.1.now ≤ length tokens.now) }
 {
     let (place, rest) = create_place(alloc, tokens, depth)?;
     let (function, rest) = create_function(rest, depth + 1)?;
     let (argument, rest) = assignment(alloc, rest, depth + 1)?;
-    let rest = take(rest, TokenKind::Mark, ")", depth)?;
+    let rest = take(rest, TokenKind::Punctuator, ")", depth)?;
     let node = ExprNode::Create(place.expr, function, argument.expr);
     primary(alloc, start, node, rest, depth)
 }
 
-/// `(&t,` behind `thrd_create`, with the place.
+/// `(&t,` after `thrd_create`, with the place.
 #[cycle(expression)]
 fn create_place<'a>(
     alloc: Global,
@@ -218,29 +210,27 @@ fn create_place<'a>(
     depth: u32,
 ) -> Result<(Operand, &'a [Token]), Stop>
     requires { depth ≤ most_depth }
-    ensures reads { let m = parsed (create_place depth) tokens.now in
-        MatchResult result (λ x. m ≡ read (operand_value x.0) x.1.now) (λ stop. Stops stop m) }
+    ensures reads { Finds (parsed (create_place depth) tokens.now) (λ x. read (operand_value x.0) x.1.now) result }
     ensures within { IfOk result (λ x. length x.1.now < length tokens.now) }
 {
-    let rest = take(tokens, TokenKind::Mark, "(", depth)?;
-    let rest = take(rest, TokenKind::Mark, "&", depth + 1)?;
+    let rest = take(tokens, TokenKind::Punctuator, "(", depth)?;
+    let rest = take(rest, TokenKind::Punctuator, "&", depth + 1)?;
     let (place, rest) = operand(alloc, rest, depth + 1, false)?;
-    let rest = take(rest, TokenKind::Mark, ",", depth + 1)?;
+    let rest = take(rest, TokenKind::Punctuator, ",", depth + 1)?;
     Ok((place, rest))
 }
 
 /// `f,`, with the function.
 fn create_function(tokens: &[Token], depth: u32) -> Result<(Name, &[Token]), Stop>
-    ensures reads { let m = parsed (create_function depth) tokens.now in
-        MatchResult result (λ x. m ≡ read (named x.0) x.1.now) (λ stop. Stops stop m) }
+    ensures reads { Finds (parsed (create_function depth) tokens.now) (λ x. read (named x.0) x.1.now) result }
     ensures within { IfOk result (λ x. length x.1.now ≤ length tokens.now) }
 {
     let (function, rest) = name(tokens, depth)?;
-    let rest = take(rest, TokenKind::Mark, ",", depth)?;
+    let rest = take(rest, TokenKind::Punctuator, ",", depth)?;
     Ok((function, rest))
 }
 
-/// `(t, NULL)` or `(t, &x)` behind `thrd_join`.
+/// `(t, NULL)` or `(t, &x)` after `thrd_join`.
 #[cycle(expression)]
 fn join_call<'a>(
     alloc: Global,
@@ -249,15 +239,14 @@ fn join_call<'a>(
     depth: u32,
 ) -> Result<(Operand, &'a [Token]), Stop>
     requires { depth ≤ most_depth }
-    ensures reads { let m = parsed (join_call depth start) tokens.now in
-        MatchResult result (λ x. m ≡ read (operand_value x.0) x.1.now) (λ stop. Stops stop m) }
+    ensures reads { Finds (parsed (join_call depth start) tokens.now) (λ x. read (operand_value x.0) x.1.now) result }
     ensures within { IfOk result (λ x. length x.1.now ≤ length tokens.now) }
 {
-    let rest = take(tokens, TokenKind::Mark, "(", depth)?;
+    let rest = take(tokens, TokenKind::Punctuator, "(", depth)?;
     let (thread, rest) = assignment(alloc, rest, depth + 1)?;
-    let rest = take(rest, TokenKind::Mark, ",", depth + 1)?;
+    let rest = take(rest, TokenKind::Punctuator, ",", depth + 1)?;
     let (target, rest) = join_target(alloc, rest, depth + 1)?;
-    let rest = take(rest, TokenKind::Mark, ")", depth)?;
+    let rest = take(rest, TokenKind::Punctuator, ")", depth)?;
     let joined = join_thread(alloc, start, thread, target)?;
     postfix(alloc, joined, rest, depth)
 }
@@ -270,20 +259,19 @@ fn join_target<'a>(
     depth: u32,
 ) -> Result<(Option<Operand>, &'a [Token]), Stop>
     requires { depth ≤ most_depth + 1 }
-    ensures reads { let m = reads (Target depth) tokens.now in
-        MatchResult result (λ x. m ≡ read (target_value x.0) x.1.now) (λ stop. Stops stop m) }
+    ensures reads { Finds (reads (Target depth) tokens.now) (λ x. read (target_value x.0) x.1.now) result }
     ensures within { IfOk result (λ x. length x.1.now ≤ length tokens.now) }
 {
-    if let Some(rest) = skip(tokens, TokenKind::Profile, "NULL") {
+    if let Some(rest) = skip(tokens, TokenKind::LibraryWord, "NULL") {
         shallow(tokens, depth)?;
         return Ok((None, rest));
     }
-    let rest = take(tokens, TokenKind::Mark, "&", depth)?;
+    let rest = take(tokens, TokenKind::Punctuator, "&", depth)?;
     let (place, rest) = operand(alloc, rest, depth, false)?;
     Ok((Some(place), rest))
 }
 
-/// `(&m, mtx_plain)` behind `mtx_init`.
+/// `(&m, mtx_plain)` after `mtx_init`.
 fn init_call<'a>(
     alloc: Global,
     start: usize,
@@ -291,29 +279,27 @@ fn init_call<'a>(
     depth: u32,
 ) -> Result<(Operand, &'a [Token]), Stop>
     requires { depth ≤ most_depth }
-    ensures reads { let m = parsed (init_call depth start) tokens.now in
-        MatchResult result (λ x. m ≡ read (operand_value x.0) x.1.now) (λ stop. Stops stop m) }
+    ensures reads { Finds (parsed (init_call depth start) tokens.now) (λ x. read (operand_value x.0) x.1.now) result }
     ensures within { IfOk result (λ x. length x.1.now ≤ length tokens.now) }
 {
-    let rest = take(tokens, TokenKind::Mark, "(", depth)?;
-    let rest = take(rest, TokenKind::Mark, "&", depth + 1)?;
+    let rest = take(tokens, TokenKind::Punctuator, "(", depth)?;
+    let rest = take(rest, TokenKind::Punctuator, "&", depth + 1)?;
     let (mutex, rest) = name(rest, depth + 1)?;
-    let rest = take(rest, TokenKind::Mark, ",", depth + 1)?;
-    let rest = take(rest, TokenKind::Profile, "mtx_plain", depth + 1)?;
-    let rest = take(rest, TokenKind::Mark, ")", depth)?;
+    let rest = take(rest, TokenKind::Punctuator, ",", depth + 1)?;
+    let rest = take(rest, TokenKind::LibraryWord, "mtx_plain", depth + 1)?;
+    let rest = take(rest, TokenKind::Punctuator, ")", depth)?;
     primary(alloc, start, ExprNode::InitMutex(mutex), rest, depth)
 }
 
-/// `(&m)` behind `mtx_lock` and `mtx_unlock`, with the mutex's name.
+/// `(&m)` after `mtx_lock` and `mtx_unlock`, with the mutex's name.
 fn mutex_argument(tokens: &[Token], depth: u32) -> Result<(Name, &[Token]), Stop>
     requires { depth ≤ most_depth }
-    ensures reads { let m = parsed (mutex_argument depth) tokens.now in
-        MatchResult result (λ x. m ≡ read (named x.0) x.1.now) (λ stop. Stops stop m) }
+    ensures reads { Finds (parsed (mutex_argument depth) tokens.now) (λ x. read (named x.0) x.1.now) result }
     ensures within { IfOk result (λ x. length x.1.now ≤ length tokens.now) }
 {
-    let rest = take(tokens, TokenKind::Mark, "(", depth)?;
-    let rest = take(rest, TokenKind::Mark, "&", depth + 1)?;
+    let rest = take(tokens, TokenKind::Punctuator, "(", depth)?;
+    let rest = take(rest, TokenKind::Punctuator, "&", depth + 1)?;
     let (mutex, rest) = name(rest, depth + 1)?;
-    let rest = take(rest, TokenKind::Mark, ")", depth)?;
+    let rest = take(rest, TokenKind::Punctuator, ")", depth)?;
     Ok((mutex, rest))
 }

@@ -1,6 +1,6 @@
 ghost use Rattle.std.specs.Prelude.{◌≡◌, ◌∷◌, ◌++◌, [], IfOk, OnOk};
 ghost use Rattle.c_expr_parser.specs.Operators.{joined};
-ghost use Rattle.c_expr_parser.specs.Walk.{join_node, target_value, unary, other, assigned as assigned_to};
+ghost use Rattle.c_expr_parser.specs.Plans.{join_node, target_value, unary, other, assigned as assigned_to};
 
 use crate::operand::Operand;
 use crate::operators::Joint;
@@ -80,14 +80,14 @@ pub fn choose(
     other_of(alloc, test.start, node)
 }
 
-/// An operand behind its operator.
+/// An operand after its operator.
 pub fn prefix(alloc: Global, op: UnOp, start: usize, a: Operand) -> Result<Operand, AllocError>
     ensures { IfOk result (λ x. x ≡ unary start (ExprNode.Unary op a.expr)) }
 {
     unary_of(alloc, start, ExprNode::Unary(op, a.expr))
 }
 
-/// An operand that steps, before or behind its operator.
+/// An operand that steps, before or after its operator.
 pub fn step(alloc: Global, op: StepOp, start: usize, a: Operand) -> Result<Operand, AllocError>
     ensures { IfOk result (λ x. x ≡ unary start (ExprNode.Step op a.expr)) }
 {
@@ -101,7 +101,7 @@ pub fn convert(alloc: Global, to: CType, start: usize, a: Operand) -> Result<Ope
     other_of(alloc, start, ExprNode::Cast(to, a.expr))
 }
 
-/// A field behind an arrow.
+/// A field after an arrow.
 pub fn arrow(alloc: Global, a: Operand, field: Name) -> Result<Operand, AllocError>
     ensures { IfOk result (λ x. x ≡ unary a.start (ExprNode.Arrow a.expr field)) }
 {
@@ -109,7 +109,7 @@ pub fn arrow(alloc: Global, a: Operand, field: Name) -> Result<Operand, AllocErr
     unary_of(alloc, start, ExprNode::Arrow(a.expr, field))
 }
 
-/// A field behind a dot.
+/// A field after a dot.
 pub fn dot(alloc: Global, a: Operand, field: Name) -> Result<Operand, AllocError>
     ensures { IfOk result (λ x. x ≡ unary a.start (ExprNode.Dot a.expr field)) }
 {

@@ -8,6 +8,6 @@ pub struct Operand {
     pub expr: Boxed<Expr>,
     /// The first byte of its first token, which may be a parenthesis.
     pub start: usize,
-    /// Whether it's a unary expression (6.5.3), which may stand before an assignment's operator.
+    /// Whether it's a unary expression (6.5.3), which may come before an assignment's operator.
     pub is_unary: bool,
 }

@@ -1,6 +1,6 @@
 ghost use Rattle.std.specs.Prelude.{◌≡◌};
 ghost use Rattle.c_expr_parser.specs.Tables.{look, binary_operators, binary_operator, compound_operators, compound_operator, prefix_of};
-ghost use Rattle.c_expr_parser.specs.Walk.{assignment_operator};
+ghost use Rattle.c_expr_parser.specs.Plans.{assignment_operator};
 
 use crate::cursor::{is, is_kind};
 use c_ints::{BinOp, UnOp};
@@ -21,7 +21,7 @@ pub enum Joint {
 pub fn assignment_operator(token: &Token) -> Option<Option<BinOp>>
     ensures { result ≡ assignment_operator token.now }
 {
-    if is(token, TokenKind::Mark, "=") {
+    if is(token, TokenKind::Punctuator, "=") {
         return Some(None);
     }
     match compound_operator(token) {
@@ -33,7 +33,7 @@ pub fn assignment_operator(token: &Token) -> Option<Option<BinOp>>
 fn compound_operator(token: &Token) -> Option<BinOp>
     ensures { result ≡ compound_operator token.now }
 {
-    if !is_kind(token, TokenKind::Mark) {
+    if !is_kind(token, TokenKind::Punctuator) {
         return None;
     }
     spelled_compound(token.text.as_str())
@@ -61,7 +61,7 @@ fn spelled_compound(text: &str) -> Option<BinOp>
 pub fn binary_operator(token: &Token, level: u32) -> Option<Joint>
     ensures { result ≡ binary_operator level token.now }
 {
-    if !is_kind(token, TokenKind::Mark) {
+    if !is_kind(token, TokenKind::Punctuator) {
         return None;
     }
     match spelled_binary(token.text.as_str()) {
@@ -97,7 +97,7 @@ fn spelled_binary(text: &str) -> Option<(u32, Joint)>
     }
 }
 
-/// What begins an operand with a mark (6.5.1, 6.5.3).
+/// What begins an operand with a punctuator (6.5.1, 6.5.3).
 #[derive(Clone, Copy)]
 pub enum Prefix {
     /// `(`, of a cast or of parentheses
@@ -109,7 +109,7 @@ pub enum Prefix {
     Operator(UnOp),
 }
 
-/// What begins an operand with a mark of this spelling.
+/// What begins an operand with a punctuator of this spelling.
 pub fn prefix_of(text: &str) -> Option<Prefix>
     ensures { result ≡ prefix_of text.now }
 {

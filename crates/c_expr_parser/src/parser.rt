@@ -5,7 +5,7 @@ ghost use Rattle.c_expr_parser.specs.Expressions.{Assignment};
 ghost use Rattle.c_expr_parser.specs.Laws.{OneExpression, ExpressionDepth};
 ghost use Rattle.c_expr_parser.specs.Reading.{IsRead, IsFault, IsUnlessMemory};
 ghost use Rattle.c_expr_parser.specs.Readings.{Reads, ReadsTo, FaultBefore, TooDeepAt, most_depth};
-ghost use Rattle.c_expr_parser.specs.Walk.{Value, as_expr, assignment as assignment_plan, parsed, read, Told};
+ghost use Rattle.c_expr_parser.specs.Plans.{Value, as_expr, assignment as assignment_plan, parsed, read, Told};
 
 use crate::climb::assignment;
 use crate::stop::Stop;
@@ -20,7 +20,7 @@ pub enum SyntaxFault {
     At(usize),
     /// The tokens up to this one can go on to what is read, and it's the first that is too deep.
     TooDeep(usize),
-    /// Want of memory.
+    /// Lack of memory.
     Memory,
 }
 
@@ -34,9 +34,9 @@ impl From<AllocError> for SyntaxFault {
     }
 }
 
-/// The expression that begins with the token of a number, and the number of the token behind it.
+/// The expression that begins with the token of a number, and the number of the token after it.
 ///
-/// The token at `at` stands at the given depth, and a token at a depth over 64 is a fault. As many tokens are read as
+/// The token at `at` is at the given depth, and a token at a depth over 64 is a fault. As many tokens are read as
 /// begin an expression: where these are none, or where memory wants, the answer is a fault. Of two faults it is the one
 /// with the lesser place. The time is linear in the number of tokens read.
 pub fn expression(
@@ -63,11 +63,11 @@ pub fn expression(
     ensures deep { (k : ℕ) → TooDeepAt (Assignment depth) (drop at tokens.now) k
         → IsUnlessMemory result (Err (SyntaxFault.TooDeep (at + k))) }
 {
-    walk(alloc, tokens, at, depth)
+    expression_at(alloc, tokens, at, depth)
 }
 
-/// The same, by what the walk through the tokens gives.
-fn walk(
+/// The same, by what the plan for an expression gives on the tokens.
+fn expression_at(
     alloc: Global,
     tokens: &[Token],
     at: usize,

@@ -1,6 +1,6 @@
 //! What a parser of statements and definitions reads its expressions, types and single tokens with.
 //!
-//! Each function reads from the tokens that are left and gives what is behind. Their contracts speak of
+//! Each function reads from the tokens that are left and gives what is after. Their contracts speak of
 //! the walk through the tokens, as the layer above continues it.
 
 pub use crate::climb::{assignment, conditional};

@@ -1,7 +1,7 @@
 ghost use Rattle.c_lexer.specs.declared.token.Token.{Token};
-ghost use Rattle.std.specs.Prelude.{◌≡◌, ◌∷◌, ◌≤◌, length, IfOk, MatchOption, MatchResult};
+ghost use Rattle.std.specs.Prelude.{◌≡◌, ◌∷◌, ◌≤◌, length, IfOk, MatchOption};
 ghost use Rattle.c_expr_parser.specs.Tables.{ahead, look, postfix_operator, postfix_operators};
-ghost use Rattle.c_expr_parser.specs.Walk.{Postfix, one_postfix, primary, operand as operand_value, parsed, read, reads, Stops};
+ghost use Rattle.c_expr_parser.specs.Plans.{Postfix, one_postfix, primary, operand as operand_value, parsed, read, reads, Finds};
 
 use crate::cursor::{name, shallow};
 use crate::nodes::{arrow, dot, step, unary_of};
@@ -20,13 +20,13 @@ pub enum PostfixOp {
     Decrement,
 }
 
-/// The postfix operator that the first token is, and the tokens behind it.
+/// The postfix operator that the first token is, and the tokens after it.
 fn postfix_ahead(tokens: &[Token]) -> Option<(PostfixOp, &[Token])>
     ensures { MatchOption result (ahead postfix_operator tokens.now ≡ None)
         (λ x. (t : Token) × (tokens.now ≡ t ∷ x.1.now) × (postfix_operator t ≡ Some x.0)) }
 {
     let (first, rest) = tokens.split_first()?;
-    if first.kind != TokenKind::Mark {
+    if first.kind != TokenKind::Punctuator {
         return None;
     }
     let op = spelled(first.text.as_str())?;
@@ -45,15 +45,14 @@ fn spelled(text: &str) -> Option<PostfixOp>
     }
 }
 
-/// An operand with the postfix operators behind it.
+/// An operand with the postfix operators after it.
 pub fn postfix<'a>(
     alloc: Global,
     first: Operand,
     tokens: &'a [Token],
     depth: u32,
 ) -> Result<(Operand, &'a [Token]), Stop>
-    ensures reads { let m = reads (Postfix depth first) tokens.now in
-        MatchResult result (λ x. m ≡ read (operand_value x.0) x.1.now) (λ stop. Stops stop m) }
+    ensures reads { Finds (reads (Postfix depth first) tokens.now) (λ x. read (operand_value x.0) x.1.now) result }
     ensures within { IfOk result (λ x. length x.1.now ≤ length tokens.now) }
 {
     let mut a = first;
@@ -67,7 +66,7 @@ pub fn postfix<'a>(
     Ok((a, rest))
 }
 
-/// A primary expression of a node that begins at a place (6.5.1), with the postfix operators behind it.
+/// A primary expression of a node that begins at a place (6.5.1), with the postfix operators after it.
 pub fn primary<'a>(
     alloc: Global,
     start: usize,
@@ -75,15 +74,14 @@ pub fn primary<'a>(
     tokens: &'a [Token],
     depth: u32,
 ) -> Result<(Operand, &'a [Token]), Stop>
-    ensures reads { let m = parsed (primary depth start node) tokens.now in
-        MatchResult result (λ x. m ≡ read (operand_value x.0) x.1.now) (λ stop. Stops stop m) }
+    ensures reads { Finds (parsed (primary depth start node) tokens.now) (λ x. read (operand_value x.0) x.1.now) result }
     ensures within { IfOk result (λ x. length x.1.now ≤ length tokens.now) }
 {
     let first = unary_of(alloc, start, node)?;
     postfix(alloc, first, tokens, depth)
 }
 
-/// An operand with one postfix operator, behind the operator's mark.
+/// An operand with one postfix operator, after the operator's punctuator.
 fn one_postfix<'a>(
     alloc: Global,
     operator: PostfixOp,
@@ -91,8 +89,7 @@ fn one_postfix<'a>(
     tokens: &'a [Token],
     depth: u32,
 ) -> Result<(Operand, &'a [Token]), Stop>
-    ensures reads { let m = parsed (one_postfix depth a operator) tokens.now in
-        MatchResult result (λ x. m ≡ read (operand_value x.0) x.1.now) (λ stop. Stops stop m) }
+    ensures reads { Finds (parsed (one_postfix depth a operator) tokens.now) (λ x. read (operand_value x.0) x.1.now) result }
     ensures within { IfOk result (λ x. length x.1.now ≤ length tokens.now) }
 {
     let start = a.start;

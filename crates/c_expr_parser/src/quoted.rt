@@ -1,4 +1,4 @@
-ghost use Rattle.std.specs.Prelude.{◌≡◌, ◌<◌, ◌≤◌, ◌++◌, length, pos, ℕ, List, Some, None, [], true, false, if◌then◌else◌, option_map, unwrap_or, is_some, string_bytes, IfOk, MatchOption, MatchResult};
+ghost use Rattle.std.specs.Prelude.{◌≡◌, ◌<◌, ◌≤◌, ◌++◌, length, pos, ℕ, List, Some, None, [], true, false, if◌then◌else◌, option_map, unwrap_or, is_some, string_bytes, IfOk, MatchOption};
 ghost use Rattle.c_ints.specs.declared.kind.Kind.TheVariants.{I32};
 ghost use Rattle.c_ints.specs.Number.{number};
 ghost use Rattle.c_lexer.specs.Bytes.{quote, double_quote};
@@ -6,7 +6,7 @@ ghost use Rattle.c_lexer.specs.declared.token.TokenKind.TheVariants.{Str};
 ghost use Rattle.c_expr_parser.specs.Quoted.{escaped, unescaped};
 ghost use Rattle.c_expr_parser.specs.Readings.{most_depth};
 ghost use Rattle.c_expr_parser.specs.Tables.{is_kind, only, unquoted, when_some};
-ghost use Rattle.c_expr_parser.specs.Walk.{MoreStrings, Strings, read, quoted, reads, Stops};
+ghost use Rattle.c_expr_parser.specs.Plans.{MoreStrings, Strings, read, quoted, reads, Finds};
 
 use crate::cursor::{MOST_DEPTH, is_kind};
 use crate::stop::Stop;
@@ -38,8 +38,7 @@ pub fn character(text: &str) -> Option<Int>
 
 /// Adjacent strings, which are read as one (6.4.5 paragraph 5).
 pub fn strings(alloc: Global, tokens: &[Token], depth: u32) -> Result<(Format, &[Token]), Stop>
-    ensures reads { let m = reads (Strings depth) tokens.now in
-        MatchResult result (λ x. m ≡ read (quoted x.0.place x.0.text) x.1.now) (λ stop. Stops stop m) }
+    ensures reads { Finds (reads (Strings depth) tokens.now) (λ x. read (quoted x.0.place x.0.text) x.1.now) result }
     ensures within { IfOk result (λ x. (depth ≤ most_depth) × (length x.1.now < length tokens.now)) }
 {
     let Some((first, behind)) = tokens.split_first() else {
@@ -60,7 +59,7 @@ pub fn strings(alloc: Global, tokens: &[Token], depth: u32) -> Result<(Format, &
     Ok((format, rest))
 }
 
-/// Appends what the strings at the front mean, and gives the tokens behind them.
+/// Appends what the strings at the start mean, and gives the tokens after them.
 fn append_strings<'a>(tokens: &'a [Token], into: &mut String) -> Result<&'a [Token], AllocError>
     ensures reads { IfOk result (λ rest. (depth place : ℕ) → depth ≤ most_depth
         → reads (MoreStrings depth place (string_bytes into.old)) tokens.now ≡ read (quoted place (string_bytes into.new)) rest.now) }

@@ -2,14 +2,14 @@ ghost use Rattle.std.specs.Prelude.{◌≡◌};
 
 use std::alloc::AllocError;
 
-/// Why some tokens aren't what is wanted. A place is told by the number of tokens that are left there.
+/// Why some tokens aren't what is wanted. A place is reported by the number of tokens that are left there.
 #[derive(Clone, Copy)]
 pub enum Stop {
     /// The next token doesn't fit, or there is none.
     Stuck(usize),
     /// The next token fits and is too deep.
     Deep(usize),
-    /// Want of memory.
+    /// Lack of memory.
     Memory,
 }
 

@@ -1,10 +1,10 @@
-ghost use Rattle.std.specs.Prelude.{◌≡◌, ◌<◌, ◌≤◌, ◌++◌, ◌∷◌, [], length, List, ℕ, Some, None, true, false, if◌then◌else◌, IfOk, MatchOption, MatchResult, codes};
+ghost use Rattle.std.specs.Prelude.{◌≡◌, ◌<◌, ◌≤◌, ◌++◌, ◌∷◌, [], length, List, ℕ, Some, None, true, false, if◌then◌else◌, IfOk, MatchOption, codes};
 ghost use Rattle.c_tree.specs.declared.name.CType.TheVariants.{Handle, Integer};
 ghost use Rattle.c_expr_parser.specs.Tables.{begins_type, is_integer_word, kind_of, longer_kind};
 ghost use Rattle.c_expr_parser.specs.TypeNames.{counts};
 ghost use Rattle.c_expr_parser.specs.Readings.{most_depth};
-ghost use Rattle.c_expr_parser.specs.Walk.{Return, Typing, Words as MoreWords, keyword, mark, name_then, parsed, read, typed, reads, Stops};
-ghost use Rattle.c_expr_parser.specs.Seen.{has, seen, spelled};
+ghost use Rattle.c_expr_parser.specs.Plans.{Return, Typing, Words as MoreWords, keyword, punctuator, name_then, parsed, read, typed, reads, Finds};
+ghost use Rattle.c_expr_parser.specs.WordCounts.{has, seen, spelled};
 
 use crate::cursor::{MOST_DEPTH, is, is_kind, name, take};
 use crate::stop::Stop;
@@ -48,7 +48,7 @@ impl Words {
         }
     }
 
-    /// The longest type that the words begin, of this kind so far, and the tokens behind it.
+    /// The longest type that the words begin, of this kind so far, and the tokens after it.
     fn rest_of_type(self, kind: Kind, tokens: &[Token]) -> (CType, &[Token])
         ensures reads { (words : List (List ℕ)) (depth : ℕ) → seen self ≡ counts words → kind_of words ≡ Some kind → depth ≤ most_depth
             → reads (MoreWords depth words) tokens.now ≡ read (typed result.0) result.1.now }
@@ -160,13 +160,12 @@ pub fn begins_type(token: &Token) -> bool
 {
     integer_word(token).is_some()
         || is(token, TokenKind::Keyword, "struct")
-        || is(token, TokenKind::Profile, "thrd_t")
+        || is(token, TokenKind::LibraryWord, "thrd_t")
 }
 
 /// A type (C11 6.7.2).
 pub fn type_name(tokens: &[Token], depth: u32) -> Result<(CType, &[Token]), Stop>
-    ensures reads { let m = reads (Typing depth) tokens.now in
-        MatchResult result (λ x. m ≡ read (typed x.0) x.1.now) (λ stop. Stops stop m) }
+    ensures reads { Finds (reads (Typing depth) tokens.now) (λ x. read (typed x.0) x.1.now) result }
     ensures within { IfOk result (λ x. (depth ≤ most_depth) × (length x.1.now < length tokens.now)) }
 {
     let Some((token, rest)) = tokens.split_first() else {
@@ -181,20 +180,18 @@ pub fn type_name(tokens: &[Token], depth: u32) -> Result<(CType, &[Token]), Stop
     if is(token, TokenKind::Keyword, "struct") {
         return handle(tokens, depth);
     }
-    let rest = take(tokens, TokenKind::Profile, "thrd_t", depth)?;
+    let rest = take(tokens, TokenKind::LibraryWord, "thrd_t", depth)?;
     Ok((CType::Thread, rest))
 }
 
 /// A handle's type: `struct`, a tag and `*`.
 fn handle(tokens: &[Token], depth: u32) -> Result<(CType, &[Token]), Stop>
-    ensures reads { let m = parsed (keyword (codes "struct") depth (name_then depth (λ tag. mark (codes "*") depth
-        (Return (typed (Handle tag)))))) tokens.now in
-        MatchResult result (λ x. m ≡ read (typed x.0) x.1.now) (λ stop. Stops stop m) }
+    ensures reads { Finds (parsed (keyword (codes "struct") depth (name_then depth (λ tag. punctuator (codes "*") depth (Return (typed (Handle tag)))))) tokens.now) (λ x. read (typed x.0) x.1.now) result }
     ensures within { IfOk result (λ x. (depth ≤ most_depth) × (length x.1.now < length tokens.now)) }
 {
     let rest = take(tokens, TokenKind::Keyword, "struct", depth)?;
     let (tag, rest) = name(rest, depth)?;
-    let rest = take(rest, TokenKind::Mark, "*", depth)?;
+    let rest = take(rest, TokenKind::Punctuator, "*", depth)?;
     Ok((CType::Handle(tag), rest))
 }
 

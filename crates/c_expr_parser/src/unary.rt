@@ -1,7 +1,8 @@
-ghost use Rattle.std.specs.Prelude.{◌≡◌, ◌∷◌, ◌+◌, ◌<◌, ◌≤◌, length, List, IfOk, MatchResult};
+ghost use Rattle.std.specs.Prelude.{◌≡◌, ◌∷◌, ◌+◌, ◌<◌, ◌≤◌, length, List, IfOk};
 ghost use Rattle.c_lexer.specs.declared.token.Token.{Token};
+ghost use Rattle.c_tree.specs.declared.expr.ExprNode.TheVariants.{Number, Character};
 ghost use Rattle.c_expr_parser.specs.Readings.{most_depth};
-ghost use Rattle.c_expr_parser.specs.Walk.{at_depth, prefixed, primary, behind_name, arguments, wanted, Inside, Further, operand as operand_value, listed, read, parsed, reads, Stops};
+ghost use Rattle.c_expr_parser.specs.Plans.{at_depth, prefixed, primary, behind_name, arguments, wanted, Inside, Further, operand as operand_value, listed, read, parsed, reads, Finds};
 
 use crate::climb::assignment;
 use crate::constants::constant;
@@ -14,6 +15,7 @@ use crate::postfix::{postfix, primary};
 use crate::quoted::character;
 use crate::stop::Stop;
 use crate::type_name::{begins_type, type_name};
+use c_ints::Int;
 use c_lexer::{Token, TokenKind};
 use c_tree::{Expr, ExprNode, StepOp};
 use dsu_io::List;
@@ -28,8 +30,7 @@ pub fn operand<'a>(
     casts: bool,
 ) -> Result<(Operand, &'a [Token]), Stop>
     requires { depth ≤ most_depth + 1 }
-    ensures reads { let m = reads (wanted casts depth) tokens.now in
-        MatchResult result (λ x. m ≡ read (operand_value x.0) x.1.now) (λ stop. Stops stop m) }
+    ensures reads { Finds (reads (wanted casts depth) tokens.now) (λ x. read (operand_value x.0) x.1.now) result }
     ensures within { IfOk result (λ x. length x.1.now < length tokens.now) }
 {
     let Some((first, rest)) = tokens.split_first() else {
@@ -41,50 +42,63 @@ pub fn operand<'a>(
             named(alloc, first, rest, depth)
         }
         TokenKind::Number => match constant(first.text.as_str()) {
-            Some(value) => plain(alloc, tokens, depth, ExprNode::Number(value)),
+            Some(value) => integer_constant(alloc, tokens, depth, value),
             None => Err(Stop::Stuck(tokens.len())),
         },
         TokenKind::Character => match character(first.text.as_str()) {
-            Some(value) => plain(alloc, tokens, depth, ExprNode::Character(value)),
+            Some(value) => character_constant(alloc, tokens, depth, value),
             None => Err(Stop::Stuck(tokens.len())),
         },
-        TokenKind::Mark => marked(alloc, tokens, depth, casts),
-        TokenKind::Profile => library(alloc, tokens, depth),
+        TokenKind::Punctuator => begun_by_punctuator(alloc, tokens, depth, casts),
+        TokenKind::LibraryWord => library(alloc, tokens, depth),
         TokenKind::Keyword | TokenKind::Str => Err(Stop::Stuck(tokens.len())),
     }
 }
 
-/// An operand that is its first token, with what follows it.
-fn plain<'a>(
+/// An integer constant of a value that the first token is, with what follows it (6.4.4.1).
+fn integer_constant<'a>(
     alloc: Global,
     tokens: &'a [Token],
     depth: u32,
-    node: ExprNode<Expr>,
+    value: Int,
 ) -> Result<(Operand, &'a [Token]), Stop>
-    ensures reads { (t : Token) → (ts : List Token) → tokens.now ≡ t ∷ ts
-        → (let m = at_depth depth (length tokens.now) (parsed (primary depth t.at node) ts) in
-        MatchResult result (λ x. m ≡ read (operand_value x.0) x.1.now) (λ stop. Stops stop m)) }
+    ensures reads { (t : Token) → (ts : List Token) → tokens.now ≡ t ∷ ts → Finds (at_depth depth (length tokens.now) (parsed (primary depth t.at (Number value)) ts)) (λ x. read (operand_value x.0) x.1.now) result }
     ensures within { IfOk result (λ x. length x.1.now < length tokens.now) }
 {
     let Some((first, rest)) = tokens.split_first() else {
         return Err(Stop::Stuck(0));
     };
     shallow(tokens, depth)?;
-    primary(alloc, first.at, node, rest, depth)
+    primary(alloc, first.at, ExprNode::Number(value), rest, depth)
 }
 
-/// An operand that begins with a mark.
+/// A character constant of a value that the first token is, with what follows it (6.4.4.4).
+fn character_constant<'a>(
+    alloc: Global,
+    tokens: &'a [Token],
+    depth: u32,
+    value: Int,
+) -> Result<(Operand, &'a [Token]), Stop>
+    ensures reads { (t : Token) → (ts : List Token) → tokens.now ≡ t ∷ ts → Finds (at_depth depth (length tokens.now) (parsed (primary depth t.at (Character value)) ts)) (λ x. read (operand_value x.0) x.1.now) result }
+    ensures within { IfOk result (λ x. length x.1.now < length tokens.now) }
+{
+    let Some((first, rest)) = tokens.split_first() else {
+        return Err(Stop::Stuck(0));
+    };
+    shallow(tokens, depth)?;
+    primary(alloc, first.at, ExprNode::Character(value), rest, depth)
+}
+
+/// An operand that begins with a punctuator.
 #[cycle(expression)]
-fn marked<'a>(
+fn begun_by_punctuator<'a>(
     alloc: Global,
     tokens: &'a [Token],
     depth: u32,
     casts: bool,
 ) -> Result<(Operand, &'a [Token]), Stop>
     requires { depth ≤ most_depth + 1 }
-    ensures reads { (t : Token) → (ts : List Token) → tokens.now ≡ t ∷ ts → t.kind ≡ TokenKind.Mark
-        → (let m = reads (wanted casts depth) tokens.now in
-        MatchResult result (λ x. m ≡ read (operand_value x.0) x.1.now) (λ stop. Stops stop m)) }
+    ensures reads { (t : Token) → (ts : List Token) → tokens.now ≡ t ∷ ts → t.kind ≡ TokenKind.Punctuator → Finds (reads (wanted casts depth) tokens.now) (λ x. read (operand_value x.0) x.1.now) result }
     ensures within { IfOk result (λ x. length x.1.now < length tokens.now) }
 {
     let Some((first, rest)) = tokens.split_first() else {
@@ -97,7 +111,7 @@ fn marked<'a>(
     prefixed(alloc, form, first.at, rest, depth, casts)
 }
 
-/// What follows a mark that begins an operand at a place.
+/// What follows a punctuator that begins an operand at a place.
 #[cycle(expression)]
 fn prefixed<'a>(
     alloc: Global,
@@ -108,8 +122,7 @@ fn prefixed<'a>(
     casts: bool,
 ) -> Result<(Operand, &'a [Token]), Stop>
     requires { depth ≤ most_depth }
-    ensures reads { let m = parsed (prefixed casts depth start form) tokens.now in
-        MatchResult result (λ x. m ≡ read (operand_value x.0) x.1.now) (λ stop. Stops stop m) }
+    ensures reads { Finds (parsed (prefixed casts depth start form) tokens.now) (λ x. read (operand_value x.0) x.1.now) result }
     ensures within { IfOk result (λ x. length x.1.now ≤ length tokens.now) }
 {
     match form {
@@ -139,8 +152,7 @@ fn inside<'a>(
     casts: bool,
 ) -> Result<(Operand, &'a [Token]), Stop>
     requires { depth ≤ most_depth }
-    ensures reads { let m = reads (Inside casts depth start) tokens.now in
-        MatchResult result (λ x. m ≡ read (operand_value x.0) x.1.now) (λ stop. Stops stop m) }
+    ensures reads { Finds (reads (Inside casts depth start) tokens.now) (λ x. read (operand_value x.0) x.1.now) result }
     ensures within { IfOk result (λ x. length x.1.now < length tokens.now) }
 {
     let Some((first, _)) = tokens.split_first() else {
@@ -148,7 +160,7 @@ fn inside<'a>(
     };
     if !begins_type(first) {
         let (a, rest) = assignment(alloc, tokens, depth + 1)?;
-        let rest = take(rest, TokenKind::Mark, ")", depth)?;
+        let rest = take(rest, TokenKind::Punctuator, ")", depth)?;
         let a = Operand {
             expr: a.expr,
             start,
@@ -160,12 +172,12 @@ fn inside<'a>(
         return Err(Stop::Stuck(tokens.len()));
     }
     let (to, rest) = type_name(tokens, depth + 1)?;
-    let rest = take(rest, TokenKind::Mark, ")", depth)?;
+    let rest = take(rest, TokenKind::Punctuator, ")", depth)?;
     let (a, rest) = operand(alloc, rest, depth + 1, true)?;
     Ok((convert(alloc, to, start, a)?, rest))
 }
 
-/// An operand that begins with a name, behind the name: a call, an element or a variable, and what follows.
+/// An operand that begins with a name, after the name: a call, an element or a variable, and what follows.
 #[cycle(expression)]
 fn named<'a>(
     alloc: Global,
@@ -174,17 +186,16 @@ fn named<'a>(
     depth: u32,
 ) -> Result<(Operand, &'a [Token]), Stop>
     requires { depth ≤ most_depth }
-    ensures reads { let m = parsed (behind_name depth first.now.at first.now.text) tokens.now in
-        MatchResult result (λ x. m ≡ read (operand_value x.0) x.1.now) (λ stop. Stops stop m) }
+    ensures reads { Finds (parsed (behind_name depth first.now.at first.now.text) tokens.now) (λ x. read (operand_value x.0) x.1.now) result }
     ensures within { IfOk result (λ x. length x.1.now ≤ length tokens.now) }
 {
     let text = first.text.clone()?;
-    if let Some(behind) = skip(tokens, TokenKind::Mark, "(") {
+    if let Some(behind) = skip(tokens, TokenKind::Punctuator, "(") {
         let (list, rest) = arguments(alloc, behind, depth)?;
         primary(alloc, first.at, ExprNode::Call(text, list), rest, depth)
-    } else if let Some(behind) = skip(tokens, TokenKind::Mark, "[") {
+    } else if let Some(behind) = skip(tokens, TokenKind::Punctuator, "[") {
         let (index, rest) = assignment(alloc, behind, depth + 1)?;
-        let rest = take(rest, TokenKind::Mark, "]", depth)?;
+        let rest = take(rest, TokenKind::Punctuator, "]", depth)?;
         primary(
             alloc,
             first.at,
@@ -205,22 +216,21 @@ fn arguments<'a>(
     depth: u32,
 ) -> Result<(List<Expr>, &'a [Token]), Stop>
     requires { depth ≤ most_depth }
-    ensures reads { let m = parsed (arguments depth) tokens.now in
-        MatchResult result (λ x. m ≡ read (listed x.0) x.1.now) (λ stop. Stops stop m) }
+    ensures reads { Finds (parsed (arguments depth) tokens.now) (λ x. read (listed x.0) x.1.now) result }
     ensures within { IfOk result (λ x. length x.1.now < length tokens.now) }
 {
     let mut list = Vec::new(alloc);
-    if let Some(rest) = skip(tokens, TokenKind::Mark, ")") {
+    if let Some(rest) = skip(tokens, TokenKind::Punctuator, ")") {
         return Ok((List::of(list), rest));
     }
     let (first, rest) = assignment(alloc, tokens, depth + 1)?;
     push(&mut list, first)?;
     let (list, rest) = further(alloc, list, rest, depth + 1)?;
-    let rest = take(rest, TokenKind::Mark, ")", depth)?;
+    let rest = take(rest, TokenKind::Punctuator, ")", depth)?;
     Ok((list, rest))
 }
 
-/// Arguments with further ones behind them, each behind a comma.
+/// Arguments with further ones after them, each after a comma.
 #[cycle(expression)]
 pub fn further<'a>(
     alloc: Global,
@@ -229,13 +239,12 @@ pub fn further<'a>(
     depth: u32,
 ) -> Result<(List<Expr>, &'a [Token]), Stop>
     requires { depth ≤ most_depth + 1 }
-    ensures reads { let m = reads (Further depth list.items) tokens.now in
-        MatchResult result (λ x. m ≡ read (listed x.0) x.1.now) (λ stop. Stops stop m) }
+    ensures reads { Finds (reads (Further depth list.items) tokens.now) (λ x. read (listed x.0) x.1.now) result }
     ensures within { IfOk result (λ x. length x.1.now ≤ length tokens.now) }
 {
     let mut list = list;
     let mut rest = tokens;
-    while let Some(behind) = skip(rest, TokenKind::Mark, ",") {
+    while let Some(behind) = skip(rest, TokenKind::Punctuator, ",") {
         shallow(rest, depth)?;
         let (argument, behind) = assignment(alloc, behind, depth)?;
         push(&mut list, argument)?;

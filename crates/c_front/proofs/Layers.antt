@@ -23,14 +23,14 @@ use Rattle.c_front.specs.declared.fault.TextFault.TheVariants.{Refused, Memory}
 use Rattle.c_front.specs.Accepted.{IsReadAs, Accepted, ending, FirstFault, byte, literal, directive, many, syntax_at, deep, type, byte_of}
 use Rattle.c_front.specs.Told.{lexical, syntactic, typed_fault}
 
--- a fault that is told isn't another
+-- a fault that is reported isn't another
 pub same_wrong : {v w : FaultKind} {i j : ℕ} → Refused v i ≡ Refused w j → v ≡ w
 same_wrong is = cc
 
 pub same_byte : {v w : FaultKind} {i j : ℕ} → Refused v i ≡ Refused w j → i ≡ j
 same_byte is = cc
 
--- the fault is told where another that is equal is
+-- the fault is reported where another that is equal is
 pub first_moved : (text : List ℕ) (v w : FaultKind) (i j : ℕ) → Refused v i ≡ Refused w j → FirstFault text v i → FirstFault text w j
 first_moved text v w i j is first =
     subst {A = ℕ} (FirstFault text w) (same_byte is) (subst {A = FaultKind} (λ x. FirstFault text x i) (same_wrong is) first)
@@ -56,7 +56,7 @@ lexed tokens = Ok tokens
 abbrev unlexed : LexFault → Lexed
 unlexed fault = Err fault
 
--- a fault of the lexer is told as the first of the text
+-- a fault of the lexer is reported as the first of the text
 pub lexical_first : (text : List ℕ) (fault : LexFault) (wrong : FaultKind) (at : ℕ) → (fault ≢ lexer.Memory → Lexes text (Err fault))
     → lexical fault ≡ Refused wrong at → FirstFault text wrong at
 lexical_first text (lexer.BadByte i) wrong at lexes is = first_moved text BadByte wrong i at is (byte (lexes (λ e. cc)))
@@ -65,7 +65,7 @@ lexical_first text (lexer.Directive i) wrong at lexes is = first_moved text Dire
 lexical_first text (lexer.TooMany i) wrong at lexes is = first_moved text TooMany wrong i at is (many (lexes (λ e. cc)))
 lexical_first text lexer.Memory wrong at lexes is = cc
 
--- what the lexer answers is the one answer for the text, but for want of memory
+-- what the lexer answers is the one answer for the text, but when out of memory
 abbrev pub OnlyFault : List ℕ → LexFault → Type 0
 OnlyFault text fault = (other : Result (List Token) LexFault) → Lexes text other → fault ≢ lexer.Memory → other ≡ Err fault
 
@@ -80,7 +80,7 @@ no_tokens (lexer.Directive i) tokens is = let e : lexed tokens ≡ Err (lexer.Di
 no_tokens (lexer.TooMany i) tokens is = let e : lexed tokens ≡ Err (lexer.TooMany i) = is (λ m. cc) in cc
 no_tokens lexer.Memory tokens is = refl
 
--- and where it has a fault, that one is told
+-- and where it has a fault, that one is reported
 other_fault : (fault other : LexFault) → (fault ≢ lexer.Memory → unlexed other ≡ Err fault)
     → (lexical fault ≡ lexical other) ⊎ (lexical fault ≡ Memory)
 other_fault (lexer.BadByte i) other is = let e : unlexed other ≡ Err (lexer.BadByte i) = is (λ m. cc) in inl (let f : other ≡ lexer.BadByte i = cc in sym (ap lexical f))
@@ -105,9 +105,9 @@ lexical_only text fault (Kind k) at only (type read is) = inr (no_tokens fault r
 
 -- ---- syntax
 
--- what the parser answers is the one answer for the tokens, but for want of memory
-pub record IsExact (ts : List Token) (answer : Result Program SyntaxFault) : Type 0 where
-  pub complete : (program : Program) → Reads TranslationUnit ts program → IsUnlessMemory answer (Ok program)
+-- what the parser answers is the one answer for the tokens, but when out of memory
+pub record IsExact (text : List ℕ) (ts : List Token) (answer : Result Program SyntaxFault) : Type 0 where
+  pub complete : (program : Program) → Reads TranslationUnit ts program → IsUnlessMemory answer (Ok (ending text program))
   pub stuck : (k : ℕ) → FaultAt TranslationUnit ts k → ((j : ℕ) → TooDeepAt TranslationUnit ts j → k ≤ j) → IsUnlessMemory answer (Err (parser.At k))
   pub deep : (k : ℕ) → TooDeepAt TranslationUnit ts k → IsUnlessMemory answer (Err (parser.TooDeep k))
 
@@ -121,15 +121,15 @@ not_lexical : (text : List ℕ) (ts : List Token) (fault : LexFault) → OnlyTok
 not_lexical text ts fault only lexes = let e : unlexed fault ≡ lexed ts = only (Err fault) lexes in cc
 
 -- the program that the tokens of a text are is the parser's, or memory wanted
-read_by : (text : List ℕ) (ts : List Token) (answer : Parsed) (program : Program) → OnlyTokens text ts → IsExact ts answer
-    → IsReadAs text program → ((read : Program) × (answer ≡ Ok read) × (program ≡ ending text read)) ⊎ (answer ≡ Err parser.Memory)
+read_by : (text : List ℕ) (ts : List Token) (answer : Parsed) (program : Program) → OnlyTokens text ts → IsExact text ts answer
+    → IsReadAs text program → (answer ≡ Ok program) ⊎ (answer ≡ Err parser.Memory)
 read_by text ts answer program only exact is =
     elim (exact.complete is.read (subst {A = List Token} (λ t. Reads TranslationUnit t is.read) (same_tokens text ts is.tokens only is.lexes) is.reads)) [
-      | inl ok ↦ inl (is.read, ok, is.ends)
+      | inl ok ↦ inl (ok ∙ ap Ok (sym is.ends))
       | inr memory ↦ inr memory
     ]
 
--- a fault of the parser is told as the first of the text
+-- a fault of the parser is reported as the first of the text
 pub syntax_first : (text : List ℕ) (ts : List Token) (fault : SyntaxFault) (wrong : FaultKind) (at : ℕ) → Lexes text (Ok ts) → IsFault ts fault
     → syntactic text ts fault ≡ Refused wrong at → FirstFault text wrong at
 syntax_first text ts (parser.At k) wrong at lexes is told = first_moved text Syntax wrong (byte_of text ts k) at told (syntax_at lexes is)
@@ -145,22 +145,22 @@ unparsed fault = Err fault
 memory_told : (text : List ℕ) (ts : List Token) (fault : SyntaxFault) → unparsed fault ≡ unparsed parser.Memory → syntactic text ts fault ≡ Memory
 memory_told text ts fault is = let e : fault ≡ parser.Memory = cc in ap (syntactic text ts) e
 
-pub syntax_accepts : (text : List ℕ) (ts : List Token) (fault : SyntaxFault) (program : Program) → OnlyTokens text ts → IsExact ts (Err fault)
+pub syntax_accepts : (text : List ℕ) (ts : List Token) (fault : SyntaxFault) (program : Program) → OnlyTokens text ts → IsExact text ts (Err fault)
     → Accepted text program → syntactic text ts fault ≡ Memory
 syntax_accepts text ts fault program only exact accepted =
     elim (read_by text ts (Err fault) program only exact accepted.is_read) [
-      | inl found ↦ let e : unparsed fault ≡ parsed found.0 = found.1 in cc
+      | inl found ↦ let e : unparsed fault ≡ parsed program = found in cc
       | inr memory ↦ memory_told text ts fault memory
     ]
 
 -- a fault of syntax that the text has is the parser's, or memory wanted
-stuck_by : (text : List ℕ) (ts tokens : List Token) (answer : Parsed) (k : ℕ) → OnlyTokens text ts → IsExact ts answer → Lexes text (Ok tokens)
+stuck_by : (text : List ℕ) (ts tokens : List Token) (answer : Parsed) (k : ℕ) → OnlyTokens text ts → IsExact text ts answer → Lexes text (Ok tokens)
     → IsFault tokens (parser.At k) → IsUnlessMemory answer (Err (parser.At k))
 stuck_by text ts tokens answer k only exact lexes is =
     let here : IsFault ts (parser.At k) = subst {A = List Token} (λ t. IsFault t (parser.At k)) (same_tokens text ts tokens only lexes) is in
     exact.stuck k here.0 here.1
 
-deep_by : (text : List ℕ) (ts tokens : List Token) (answer : Parsed) (k : ℕ) → OnlyTokens text ts → IsExact ts answer → Lexes text (Ok tokens)
+deep_by : (text : List ℕ) (ts tokens : List Token) (answer : Parsed) (k : ℕ) → OnlyTokens text ts → IsExact text ts answer → Lexes text (Ok tokens)
     → IsFault tokens (parser.TooDeep k) → IsUnlessMemory answer (Err (parser.TooDeep k))
 deep_by text ts tokens answer k only exact lexes is =
     let here : IsFault ts (parser.TooDeep k) = subst {A = List Token} (λ t. IsFault t (parser.TooDeep k)) (same_tokens text ts tokens only lexes) is in
@@ -169,7 +169,7 @@ deep_by text ts tokens answer k only exact lexes is =
 byte_again : (text : List ℕ) (ts tokens : List Token) (k : ℕ) → tokens ≡ ts → byte_of text ts k ≡ byte_of text tokens k
 byte_again text ts tokens k same = ap (λ t. byte_of text t k) (sym same)
 
-pub syntax_only : (text : List ℕ) (ts : List Token) (fault : SyntaxFault) (wrong : FaultKind) (at : ℕ) → OnlyTokens text ts → IsExact ts (Err fault)
+pub syntax_only : (text : List ℕ) (ts : List Token) (fault : SyntaxFault) (wrong : FaultKind) (at : ℕ) → OnlyTokens text ts → IsExact text ts (Err fault)
     → FirstFault text wrong at → (syntactic text ts fault ≡ Refused wrong at) ⊎ (syntactic text ts fault ≡ Memory)
 syntax_only text ts fault BadByte at only exact (byte lexes) = absurd (not_lexical text ts (lexer.BadByte at) only lexes)
 syntax_only text ts fault BadLiteral at only exact (literal lexes) = absurd (not_lexical text ts (lexer.BadLiteral at) only lexes)
@@ -189,20 +189,18 @@ syntax_only text ts fault TooDeep _ only exact (deep {tokens} {number} lexes is)
     ]
 syntax_only text ts fault (Kind kind) _ only exact (type {program} read is) =
     elim (read_by text ts (Err fault) program only exact read) [
-      | inl found ↦ let e : unparsed fault ≡ parsed found.0 = found.1 in cc
+      | inl found ↦ let e : unparsed fault ≡ parsed program = found in cc
       | inr memory ↦ inr (memory_told text ts fault memory)
     ]
 
 -- ---- types
 
--- the program that a text is read as is the parser's with the text's end
-same_program : (text : List ℕ) (ts : List Token) (read program : Program) → OnlyTokens text ts → IsExact ts (Ok read) → IsReadAs text program
-    → program ≡ ending text read
+-- the program that a text is read as is the parser's
+same_program : (text : List ℕ) (ts : List Token) (read program : Program) → OnlyTokens text ts → IsExact text ts (Ok read) → IsReadAs text program
+    → program ≡ read
 same_program text ts read program only exact is =
     elim (read_by text ts (Ok read) program only exact is) [
-      | inl found ↦ let e : parsed read ≡ parsed found.0 = found.1 in
-          let same : found.0 ≡ read = cc in
-          found.2 ∙ ap (ending text) same
+      | inl found ↦ let e : parsed read ≡ parsed program = found in cc
       | inr memory ↦ let e : parsed read ≡ unparsed parser.Memory = memory in cc
     ]
 
@@ -210,14 +208,14 @@ same_program text ts read program only exact is =
 no_fault : (program : Program) (fault : Fault) → Types program → first_fault program ≡ Some fault → ⊥
 no_fault program fault types is = let none : first_fault program ≡ None = ap first types in cc
 
-pub types_accepts : (text : List ℕ) (ts : List Token) (read program : Program) → OnlyTokens text ts → IsExact ts (Ok read) → Accepted text program
-    → program ≡ ending text read
+pub types_accepts : (text : List ℕ) (ts : List Token) (read program : Program) → OnlyTokens text ts → IsExact text ts (Ok read) → Accepted text program
+    → program ≡ read
 types_accepts text ts read program only exact accepted = same_program text ts read program only exact accepted.is_read
 
 -- the first fault of a text that was parsed is of its types
-first_of_types : (text : List ℕ) (ts : List Token) (read : Program) (wrong : FaultKind) (at : ℕ) → OnlyTokens text ts → IsExact ts (Ok read)
+first_of_types : (text : List ℕ) (ts : List Token) (read : Program) (wrong : FaultKind) (at : ℕ) → OnlyTokens text ts → IsExact text ts (Ok read)
     → FirstFault text wrong at
-    → (fault : Fault) × (first_fault (ending text read) ≡ Some fault) × (wrong ≡ Kind fault.kind) × (at ≡ fault.place)
+    → (fault : Fault) × (first_fault read ≡ Some fault) × (wrong ≡ Kind fault.kind) × (at ≡ fault.place)
 first_of_types text ts read BadByte at only exact (byte lexes) = absurd (not_lexical text ts (lexer.BadByte at) only lexes)
 first_of_types text ts read BadLiteral at only exact (literal lexes) = absurd (not_lexical text ts (lexer.BadLiteral at) only lexes)
 first_of_types text ts read Directive at only exact (directive lexes) = absurd (not_lexical text ts (lexer.Directive at) only lexes)
@@ -239,29 +237,29 @@ first_of_types text ts read (Kind kind) _ only exact (type {program} {fault} is_
 abbrev pub IsTold : Program → TypeFault → Type 0
 IsTold program fault = (fault ≡ types.Memory) ⊎ ((f : Fault) × (first_fault program ≡ Some f) × (fault ≡ types.Refused f.kind f.place))
 
--- a fault of types is told as the first of the text
+-- a fault of types is reported as the first of the text
 pub types_first : (text : List ℕ) (program : Program) (fault : TypeFault) (wrong : FaultKind) (at : ℕ) → IsReadAs text program → IsTold program fault
     → typed_fault fault ≡ Refused wrong at → FirstFault text wrong at
 types_first text program fault wrong at read (inl memory) told = let e : typed_fault fault ≡ Memory = ap typed_fault memory in cc
 types_first text program fault wrong at read (inr (f, is, same)) told =
     first_moved text (Kind f.kind) wrong f.place at (sym (ap typed_fault same) ∙ told) (type read is)
 
-pub types_refuse_none : (text : List ℕ) (ts : List Token) (read program : Program) (fault : TypeFault) → OnlyTokens text ts → IsExact ts (Ok read)
-    → IsTold (ending text read) fault → Accepted text program → typed_fault fault ≡ Memory
+pub types_refuse_none : (text : List ℕ) (ts : List Token) (read program : Program) (fault : TypeFault) → OnlyTokens text ts → IsExact text ts (Ok read)
+    → IsTold read fault → Accepted text program → typed_fault fault ≡ Memory
 types_refuse_none text ts read program fault only exact (inl memory) accepted = ap typed_fault memory
 types_refuse_none text ts read program fault only exact (inr (f, is, same)) accepted =
-    absurd (no_fault (ending text read) f (subst {A = Program} Types (types_accepts text ts read program only exact accepted) accepted.types) is)
+    absurd (no_fault read f (subst {A = Program} Types (types_accepts text ts read program only exact accepted) accepted.types) is)
 
-pub types_only : (text : List ℕ) (ts : List Token) (read : Program) (fault : TypeFault) (wrong : FaultKind) (at : ℕ) → OnlyTokens text ts → IsExact ts (Ok read)
-    → IsTold (ending text read) fault → FirstFault text wrong at
+pub types_only : (text : List ℕ) (ts : List Token) (read : Program) (fault : TypeFault) (wrong : FaultKind) (at : ℕ) → OnlyTokens text ts → IsExact text ts (Ok read)
+    → IsTold read fault → FirstFault text wrong at
     → (typed_fault fault ≡ Refused wrong at) ⊎ (typed_fault fault ≡ Memory)
 types_only text ts read fault wrong at only exact (inl memory) first = inr (ap typed_fault memory)
 types_only text ts read fault wrong at only exact (inr (f, is, same)) first =
     let found = first_of_types text ts read wrong at only exact first in
-    let one : f ≡ found.0 = (let e : first_fault (ending text read) ≡ Some found.0 = found.1 in cc) in
+    let one : f ≡ found.0 = (let e : first_fault read ≡ Some found.0 = found.1 in cc) in
     inl (ap typed_fault same ∙ ap (λ (g : Fault). Refused (Kind g.kind) g.place) one ∙ ap (λ w. Refused w found.0.place) (sym found.2) ∙ ap (Refused wrong) (sym found.3))
 
-pub types_have_none : (text : List ℕ) (ts : List Token) (read : Program) (wrong : FaultKind) (at : ℕ) → OnlyTokens text ts → IsExact ts (Ok read)
-    → Types (ending text read) → FirstFault text wrong at → ⊥
+pub types_have_none : (text : List ℕ) (ts : List Token) (read : Program) (wrong : FaultKind) (at : ℕ) → OnlyTokens text ts → IsExact text ts (Ok read)
+    → Types read → FirstFault text wrong at → ⊥
 types_have_none text ts read wrong at only exact types first =
-    let found = first_of_types text ts read wrong at only exact first in no_fault (ending text read) found.0 types found.1
+    let found = first_of_types text ts read wrong at only exact first in no_fault read found.0 types found.1

@@ -1,4 +1,4 @@
--- Which texts are accepted, and what is told of one that isn't.
+-- Which texts are accepted, and what is reported of one that isn't.
 use Rattle.std.specs.Prelude.{◌≡◌, ℕ, List, length, Some, slice_get, Ok, Err}
 use Rattle.std.specs.Option.{option_map_or}
 use Rattle.c_lexer.specs.declared.token.Token.{Token}
@@ -31,7 +31,7 @@ pub record Accepted (text : List ℕ) (program : Program) : Type 0 where
   pub is_read : IsReadAs text program
   pub types : Types program
 
--- the byte at which the token of a number begins; behind the last token, the end of the text
+-- the byte at which the token of a number begins; after the last token, the end of the text
 abbrev pub byte_of : List ℕ → List Token → ℕ → ℕ
 byte_of text tokens number = option_map_or (λ token. token.at) (slice_get tokens number) (length text)
 

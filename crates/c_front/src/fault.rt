@@ -23,8 +23,8 @@ pub enum FaultKind {
 #[derive(Clone, Copy, Debug, PartialEq, Eq)]
 pub enum TextFault {
     /// The first fault of the text, and the byte at which it stands, counted from 0. What is missing at the end of the
-    /// text stands at the text's length.
+    /// text is at the text's length.
     Refused(FaultKind, usize),
-    /// Want of memory.
+    /// Lack of memory.
     Memory,
 }

@@ -2,7 +2,7 @@
 //!
 //! The contract of [`read_text`] is exact: a text is read exactly where it is accepted, as the tree that
 //! `specs/Accepted.antt` gives it, and each fault is answered exactly where it is the text's first. Only
-//! want of memory is left open. Faults come by layer: one of the tokens, wherever it stands, before each
+//! lack of memory is left open. Faults come by layer: one of the tokens, wherever it stands, before each
 //! of syntax, and that before each of types.
 //!
 //! - `fault`: what may be wrong with a text

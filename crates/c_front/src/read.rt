@@ -31,18 +31,17 @@ pub fn read_text(alloc: Global, text: &[u8]) -> Result<Typed, TextFault>
         Ok(tokens) => tokens,
         Err(fault) => return Err(of_tokens(fault)),
     };
-    let mut program = match parse(alloc, &tokens) {
+    let program = match parse(alloc, &tokens, text.len()) {
         Ok(program) => program,
         Err(fault) => return Err(of_syntax(fault, text, &tokens)),
     };
-    program.end = text.len();
     match check(alloc, program) {
         Ok(typed) => Ok(typed),
         Err(fault) => Err(of_types(fault)),
     }
 }
 
-/// What a fault of the tokens is told as.
+/// What a fault of the tokens is reported as.
 fn of_tokens(fault: LexFault) -> TextFault
     ensures { result ≡ lexical fault }
 {
@@ -55,7 +54,7 @@ fn of_tokens(fault: LexFault) -> TextFault
     }
 }
 
-/// What a fault of syntax is told as.
+/// What a fault of syntax is reported as.
 fn of_syntax(fault: SyntaxFault, text: &[u8], tokens: &[Token]) -> TextFault
     ensures { result ≡ syntactic text.now tokens.now fault }
 {
@@ -81,7 +80,7 @@ fn byte_of(text: &[u8], tokens: &[Token], number: usize) -> usize
     }
 }
 
-/// What a fault of types is told as.
+/// What a fault of types is reported as.
 fn of_types(fault: TypeFault) -> TextFault
     ensures { result ≡ typed_fault fault }
 {

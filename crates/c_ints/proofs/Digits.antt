@@ -1,4 +1,4 @@
--- The digits at the front of a text, and their value as far as it is counted.
+-- The digits at the start of a text, and their value as far as it is counted.
 use Rattle.std.proofs.Common.{◌≡◌, ◌≢◌, ℕ, ◌+◌, ◌*◌, ◌<◌, ◌≤◌, ◌⊎◌, inl, inr, refl, sym, ap, ◌∙◌, arith, min, List, [], ◌∷◌, ◌++◌, take, length, Bool, true, false, Some, None, Ok, Err, Option, Result, pos, lit≤, cond}
 use Rattle.std.specs.Prelude.{◌==◌, ◌&&◌, ◌||◌, if◌then◌else◌}
 use Rattle.std.specs.List.{prefix_len, find}
@@ -123,7 +123,7 @@ suffix_stops : (b : ℕ) (ending : List ℕ) (s : Suffix) → b ≤ 16 → suffi
 suffix_stops b [] s h e = refl
 suffix_stops b (c ∷ rest) s h e = rw (letter_no_digit c b h (letter c rest s e)) refl
 
--- digits with a suffix behind them: the digits end where they end
+-- digits with a suffix after them: the digits end where they end
 pub digits_end : (b : ℕ) (digits ending : List ℕ) (s : Suffix) → b ≤ 16 → AllDigits b digits → suffix_of ending ≡ Some s → prefix_len (λ c. is_digit c b) (digits ++ ending) ≡ length digits
 digits_end b [] ending s h all e = suffix_stops b ending s h e
 digits_end b (c ∷ digits) ending s h all e =

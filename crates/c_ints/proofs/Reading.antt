@@ -27,7 +27,7 @@ abbrev pub radix_of : List ℕ → Radix
 radix_of bytes =
     if slice_index bytes 0 == 48 then (if is_x (slice_index bytes 1) then Hexadecimal else Octal) else Decimal
 
--- how many bytes stand before the digits
+-- how many bytes come before the digits
 abbrev pub prefix_of : Radix → ℕ
 prefix_of Decimal = 0
 prefix_of Octal = 0
@@ -42,14 +42,14 @@ reading_of radix rest =
 abbrev pub reading : List ℕ → Result Int LiteralFault
 reading bytes = reading_of (radix_of bytes) (drop (prefix_of (radix_of bytes)) bytes)
 
--- digits with a suffix behind them are read as such
+-- digits with a suffix after them are read as such
 reading_of_is : (radix : Radix) (digits ending : List ℕ) (s : Suffix) → IsNumeral (base radix) digits → suffix_of ending ≡ Some s → reading_of radix (digits ++ ending) ≡ literal_value radix digits s
 reading_of_is radix digits ending s h e =
     let many = digits_end (base radix) digits ending s (base_most radix) h.1 e in
     let some : (length digits == 0) ≡ false = ne_eqb (length digits) 0 (λ z. absurd (omega (arith, h.0))) in
     rw (many, some, take_at digits ending (length digits) refl, drop_at digits ending (length digits) refl, e) refl
 
--- a text is digits of the radix with a suffix behind them
+-- a text is digits of the radix with a suffix after them
 abbrev Written : Radix → List ℕ → Type 0
 Written radix rest = (digits : List ℕ) × ((ending : List ℕ) × ((s : Suffix) × ((rest ≡ digits ++ ending) × (IsNumeral (base radix) digits × (suffix_of ending ≡ Some s)))))
 

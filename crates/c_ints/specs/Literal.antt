@@ -21,7 +21,7 @@ base Decimal = 10
 base Octal = 8
 base Hexadecimal = 16
 
--- what stands before the digits, and how the digits begin: `0x` or `0X` before hexadecimal ones; octal digits
+-- what comes before the digits, and how the digits begin: `0x` or `0X` before hexadecimal ones; octal digits
 -- begin with 0, decimal ones don't (paragraph 3)
 abbrev pub Begins : Radix → List ℕ → List ℕ → Type 0
 Begins Decimal prefix digits = (prefix ≡ []) × (slice_index digits 0 ≢ 48)

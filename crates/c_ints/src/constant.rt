@@ -17,7 +17,7 @@ pub enum Radix {
     Decimal,
     /// To the base 8; the first digit is 0.
     Octal,
-    /// To the base 16, behind `0x` or `0X`.
+    /// To the base 16, after `0x` or `0X`.
     Hexadecimal,
 }
 
@@ -43,7 +43,7 @@ pub enum LiteralFault {
     Range,
 }
 
-/// The digits at the front of a text.
+/// The digits at the start of a text.
 #[derive(Clone, Copy)]
 struct Run {
     /// How many there are.
@@ -56,7 +56,7 @@ struct Run {
 const TOO_LARGE: u128 = 0x1_0000_0000_0000_0000;
 
 /// The integer that a text writes as a constant of C (C11 6.4.4.1): decimal, octal or hexadecimal
-/// digits, with `u`, `l`, both or neither behind them. Its type is the first of the list for its form
+/// digits, with `u`, `l`, both or neither after them. Its type is the first of the list for its form
 /// that holds the value. Reads the text once.
 pub fn literal(text: &str) -> Result<Int, LiteralFault>
     // A text that is a constant has that constant's value, or its fault.
@@ -75,7 +75,7 @@ pub fn literal(text: &str) -> Result<Int, LiteralFault>
     }
 }
 
-/// A constant behind its prefix.
+/// A constant after its prefix.
 fn read_digits(radix: Radix, rest: &[u8]) -> Result<Int, LiteralFault>
     ensures { let n = prefix_len (λ c. is_digit c (base radix)) rest.now in
         result ≡ (if n == 0 then Err LiteralFault.Shape
@@ -136,7 +136,7 @@ fn leading_digits(radix: Radix, bytes: &[u8]) -> Run
     }
 }
 
-/// The value of digits with one more behind them.
+/// The value of digits with one more after them.
 fn more(value: u128, base: u32, digit: u32) -> u128
     requires value { value ≤ TOO_LARGE }
     requires base { base ≤ 16 }
@@ -146,7 +146,7 @@ fn more(value: u128, base: u32, digit: u32) -> u128
     (value * base as u128 + digit as u128).min(TOO_LARGE)
 }
 
-/// The suffix that the bytes behind the digits are.
+/// The suffix that the bytes after the digits are.
 fn suffix_of(bytes: &[u8]) -> Option<Suffix>
     ensures { result ≡ written_suffix bytes.now }
 {

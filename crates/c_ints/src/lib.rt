@@ -1,7 +1,7 @@
 //! The integers of C: eight kinds from 8 to 64 bits, their conversions, their operators and their constants.
 //!
 //! An `Int` is always a number of its kind, by its type. Each call meets a formula on whole numbers
-//! that follows C11 and stands in specs/: it says which value an operator, a conversion or a
+//! that follows C11 and is in specs/: it says which value an operator, a conversion or a
 //! constant has, or which trap or fault, and nothing else can come. No call takes memory or waits;
 //! each takes constant time, but for `literal`, which is linear in its text.
 //!

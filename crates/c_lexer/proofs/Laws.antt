@@ -15,11 +15,11 @@ unfolding reading
 unit_not_empty starts {n = zero} u = let h : None ≡ Some _ = u.is in cc
 unit_not_empty starts {n = suc n} u = omega arith
 
--- a longer front is no unit
+-- a longer prefix is no unit
 not_longer : {read : List ℕ → Option Reading} {rest : List ℕ} {n m : ℕ} {r s : Reading} → IsUnit read rest n r → IsUnit read rest m s → n < m → ⊥
 not_longer u v less = let h = sym (u.longest _ less v.within) ∙ v.is in cc
 
--- one unit stands at a place
+-- one unit is at a place
 pub unit_length : {read : List ℕ → Option Reading} {rest : List ℕ} {n m : ℕ} {r s : Reading} → IsUnit read rest n r → IsUnit read rest m s → n ≡ m
 unit_length {n = n} {m = m} u v =
     ⊎_elim (λ below. absurd (not_longer u v below)) (λ other. ⊎_elim (λ above. absurd (not_longer v u above)) (λ upto. omega arith) (order m n)) (order n m)
@@ -33,7 +33,7 @@ Past text at n tokens fault Space = Cut text (at + n) tokens fault
 Past text at n tokens fault (Lexeme kind) = (rest : List Token) × Cut text (at + n) rest fault × (tokens ≡ token kind at (take n (drop at text)) ∷ rest)
 Past text at n tokens fault (Bad why) = (tokens ≡ []) × (fault ≡ Some (fault_at at why))
 
--- no unit stands at the end
+-- no unit is at the end
 nothing_at_end : (text : List ℕ) (at : ℕ) {n : ℕ} {r : Reading} → UnitAt text at n r → at ≡ length text → ⊥
 nothing_at_end text at u e = let some = unit_not_empty (starts_line text at) u in omega (arith, u.within, length-drop at text)
 

@@ -1,11 +1,11 @@
 pub mod Laws
-pub mod Computed
-pub mod Fronts
-pub mod Short
-pub mod Constants
+pub mod CutExists
+pub mod LongestPrefixes
+pub mod LongestOfThree
+pub mod NumberWords
 pub mod Strings
-pub mod Progress
+pub mod CutSoFar
 pub mod Spelling
-pub mod Forms
+pub mod UnitsByFirstBytes
 pub mod Utf8
 mod Examples

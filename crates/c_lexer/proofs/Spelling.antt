@@ -10,8 +10,8 @@ use Rattle.bstr.proofs.lemmas.SoundLemmas.{SpellsChar, SpellsChar-decoded}
 use Rattle.bstr.proofs.lemmas.EncodeLemmas.{decoded-encode}
 use Rattle.c_lexer.specs.Bytes.{starts_word, continues_word}
 use Rattle.c_lexer.specs.Units.{consists_of, is_word, is_name}
-use Rattle.c_lexer.specs.Fronts.{IsLongest, NonePasses, NoMorePasses, Passes}
-use Rattle.c_lexer.proofs.Short.{both_true}
+use Rattle.c_lexer.specs.Prefixes.{IsLongest, NonePasses, NoMorePasses, Passes}
+use Rattle.c_lexer.proofs.LongestOfThree.{both_true}
 
 -- the characters that a text spells
 record Spells (s cs : List ℕ) : Type 0 where
@@ -58,7 +58,7 @@ bool_same true b f g = sym (f refl)
 bool_same false true f g = g refl
 bool_same false false f g = refl
 
--- a character that passes is read off the front
+-- a character that passes is read off the prefix
 consists_more : (test : ℕ → Bool) (c : ℕ) (s : List ℕ) → scalar c ≡ true → test c ≡ true → consists_of test (encode c ++ s) ≡ consists_of test s
 consists_more test c s one passes = bool_same (consists_of test (encode c ++ s)) (consists_of test s)
     (λ h.
@@ -70,7 +70,7 @@ consists_more test c s one passes = bool_same (consists_of test (encode c ++ s))
     let k = consists_chars test s h in
     consists test (encode c ++ s) (c ∷ chars s) (spells_more c s (chars s) one k.0) (rw (passes, k.1) refl))
 
--- the front of a text that begins with a character
+-- the prefix of a text that begins with a character
 take_past : (bs : List ℕ) (c n m : ℕ) → SpellsChar bs c n → take (n + m) bs ≡ encode c ++ take m (drop n bs)
 take_past bs c n m first =
     ap (take (n + m)) first.bytes
@@ -88,7 +88,7 @@ next_passes test bs c n first passes = record {
 pub next_some : (bs : List ℕ) (c n : ℕ) → SpellsChar bs c n → 0 < n
 next_some bs c n first = omega (arith, first.width, encode_some c)
 
--- a front that spells characters begins with the one that is decoded
+-- a prefix that spells characters begins with the one that is decoded
 front_decodes : (bs : List ℕ) (m d : ℕ) (ds : List ℕ) → Spells (take m bs) (d ∷ ds) → (decoded bs).char ≡ Some d
 front_decodes bs m d ds spells =
     let whole : bs ≡ encode d ++ (encodes ds ++ drop m bs) =
@@ -96,7 +96,7 @@ front_decodes bs m d ds spells =
     let one = (both_true (scalar d) (scalars ds) spells.scalar).0 in
     ap (λ l. (decoded l).char) whole ∙ ap (λ p. p.char) (decoded-encode d (encodes ds ++ drop m bs) one)
 
--- a front that isn't empty spells a character
+-- a prefix that isn't empty spells a character
 spells_some : (bs : List ℕ) (m : ℕ) (cs : List ℕ) → 0 < m → m ≤ length bs → Spells (take m bs) cs → (d : ℕ) × (ds : List ℕ) × (cs ≡ d ∷ ds)
 spells_some bs m [] some least spells = let e = ap length spells.spelled in absurd (omega (arith, length-take-le m bs least))
 spells_some bs m (d ∷ ds) some least spells = (d, ds, refl)

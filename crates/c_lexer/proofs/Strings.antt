@@ -1,10 +1,10 @@
--- What stands in a string, one byte or escape at a time.
+-- What is in a string, one byte or escape at a time.
 use Rattle.std.proofs.Common.{◌≡◌, ◌≢◌, ℕ, suc, zero, ◌+◌, ◌<◌, ◌≤◌, true, false, ◌||◌, ◌==◌, List, [], ◌∷◌, length, take, get_or, refl, subst, arith}
 use Rattle.std.specs.Prelude.{nat_le}
 use Rattle.std.proofs.lemmas.Bool.{ne_eqb}
 use Rattle.c_lexer.specs.Bytes.{is_plain, is_escape}
 use Rattle.c_lexer.specs.Units.{closes_string}
-use Rattle.c_lexer.specs.Fronts.{IsOnly, NonePasses, Skips}
+use Rattle.c_lexer.specs.Prefixes.{IsOnly, NonePasses, Skips}
 
 plain_first : (b : ℕ) (bs : List ℕ) → (b == 34) ≡ false → (b == 92) ≡ false → ((is_plain 34 b || (b == 9)) || nat_le 128 b) ≡ true → closes_string (b ∷ bs) ≡ closes_string bs
 plain_first b [] quote slash plain = quote
@@ -22,7 +22,7 @@ plain_skips (b ∷ bs) some quote slash plain = record {
   below = λ m less. let none : 0 ≡ m = omega arith in subst (λ k. closes_string (take k (b ∷ bs)) ≡ false) none refl;
 }
 
--- a byte that can't stand in a string
+-- a byte that can't be in a string
 strange_first : (b : ℕ) (bs : List ℕ) → (b == 34) ≡ false → (b == 92) ≡ false → ((is_plain 34 b || (b == 9)) || nat_le 128 b) ≡ false → closes_string (b ∷ bs) ≡ false
 strange_first b [] quote slash plain = quote
 strange_first b (c ∷ bs) quote slash plain = rw (plain, slash) refl

@@ -14,9 +14,9 @@ use Rattle.c_lexer.specs.declared.unit.Reading.TheVariants.{Space, Lexeme, Bad}
 use Rattle.c_lexer.specs.declared.unit.Fault.TheVariants.{Byte, Literal, Directive}
 use Rattle.c_lexer.specs.Bytes.{is_blank, stays_in_line, continues_word, may_start_word, is_plain, is_escape}
 use Rattle.c_lexer.specs.Words.{is_one_of}
-use Rattle.c_lexer.specs.Units.{reading, when, is_empty, begins_with, consists_of, is_word, is_name, is_include, closes_character, closes_string, read_comment, read_line, marks}
-use Rattle.c_lexer.proofs.Short.{both_true}
-use Rattle.c_lexer.proofs.Forms.{read_digits}
+use Rattle.c_lexer.specs.Units.{reading, when, is_empty, begins_with, consists_of, is_word, is_name, is_include, closes_character, closes_string, read_comment, read_line, punctuators}
+use Rattle.c_lexer.proofs.LongestOfThree.{both_true}
+use Rattle.c_lexer.proofs.UnitsByFirstBytes.{read_digits}
 
 ascii_more : (b : ℕ) (bs : List ℕ) → b < 128 → IsAscii bs → IsAscii (b ∷ bs)
 ascii_more b bs small rest zero = small
@@ -66,9 +66,9 @@ one_of_ascii (t ∷ texts) s all one =
       | false ↦ λ e. one_of_ascii texts s h.1 (let k : (false || is_one_of texts s) ≡ true = subst (λ v. (v || is_one_of texts s) ≡ true) e one in k)
     ]) refl
 
-mark_ascii : (s : List ℕ) → is_one_of marks s ≡ true → IsAscii s
-unfolding marks
-mark_ascii s one = one_of_ascii marks s refl one
+punctuator_ascii : (s : List ℕ) → is_one_of punctuators s ≡ true → IsAscii s
+unfolding punctuators
+punctuator_ascii s one = one_of_ascii punctuators s refl one
 
 -- which branch was taken
 chosen : (test : Bool) (p q : Option Reading) (r : Reading) → cond test p q ≡ Some r → ((test ≡ true) × (p ≡ Some r)) ⊎ ((test ≡ false) × (q ≡ Some r))
@@ -119,8 +119,8 @@ lexeme_utf8 starts (b ∷ bs) kind h =
     (λ broken. absurd (fault_no_lexeme bs (Bad Literal) kind (λ e. cc) broken.1)) (chosen (closes_string bs && is_utf8 bs) _ _ (Lexeme kind) double.1))
     (λ h7. ⊎_elim (λ letter. ⊎_elim (λ name. IsUtf8-from_is_utf8 (b ∷ bs) (both_true (is_utf8 (b ∷ bs)) (is_word (chars (b ∷ bs))) name.0).0)
     (λ broken. absurd (fault_no_lexeme bs (Bad Byte) kind (λ e. cc) broken.1)) (chosen (is_name (b ∷ bs)) _ _ (Lexeme kind) letter.1))
-    (λ h8. ⊎_elim (λ mark. IsUtf8-from_ascii (b ∷ bs) (mark_ascii (b ∷ bs) mark.0)) (λ broken. absurd (fault_no_lexeme bs (Bad Byte) kind (λ e. cc) broken.1))
-    (chosen (is_one_of marks (b ∷ bs)) _ _ (Lexeme kind) h8.1))
+    (λ h8. ⊎_elim (λ punctuator. IsUtf8-from_ascii (b ∷ bs) (punctuator_ascii (b ∷ bs) punctuator.0)) (λ broken. absurd (fault_no_lexeme bs (Bad Byte) kind (λ e. cc) broken.1))
+    (chosen (is_one_of punctuators (b ∷ bs)) _ _ (Lexeme kind) h8.1))
     (chosen (may_start_word b) _ _ (Lexeme kind) h7.1))
     (chosen (b == 34) _ _ (Lexeme kind) h6.1))
     (chosen (b == 39) _ _ (Lexeme kind) h5.1))

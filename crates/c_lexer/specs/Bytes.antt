@@ -42,7 +42,7 @@ underscore = 95
 abbrev pub is_blank : ℕ → Bool
 is_blank b = (b == space) || is_in_range tab carriage_return b
 
--- space and tab, the blanks that may stand in a directive (6.10p5)
+-- space and tab, the blanks that may be in a directive (6.10p5)
 abbrev pub is_gap : ℕ → Bool
 is_gap b = (b == space) || (b == tab)
 
@@ -66,11 +66,11 @@ may_start_word b = (is_ascii_alphabetic b || (b == underscore)) || nat_le 128 b
 abbrev pub is_plain : ℕ → ℕ → Bool
 is_plain closing c = is_in_range 32 126 c && (not (c == closing) && not (c == backslash))
 
--- what may stand behind a backslash (6.4.4.4): n t r \ ' "
+-- what may come after a backslash (6.4.4.4): n t r \ ' "
 abbrev pub is_escape : ℕ → Bool
 is_escape c = (c == 110) || (c == 116) || (c == 114) || (c == backslash) || (c == quote) || (c == double_quote)
 
--- only blanks stand on its line in front of a place
+-- only blanks are on its line before a place
 abbrev pub starts_line : List ℕ → ℕ → Bool
 starts_line text zero = true
 starts_line text (suc at) = (slice_index text at == newline) || (is_blank (slice_index text at) && starts_line text at)

@@ -8,7 +8,7 @@ use Rattle.c_lexer.specs.Bytes.{starts_line}
 use Rattle.c_lexer.specs.Units.{reading}
 use Rattle.c_lexer.specs.Cut.{token, fault_at, answer}
 
--- tokens, and the fault behind them
+-- tokens, and the fault after them
 abbrev pub Tokens : Type 0
 Tokens = List Token × Option LexFault
 

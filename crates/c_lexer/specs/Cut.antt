@@ -45,12 +45,12 @@ pub data Cut (text : List ℕ) : ℕ → List Token → Option LexFault → Type
 abbrev pub most_tokens : ℕ
 most_tokens = 65536
 
--- the tokens, where no fault stands behind them
+-- the tokens, where no fault comes after them
 abbrev pub or_fault : List Token → Option LexFault → Result (List Token) LexFault
 or_fault tokens None = Ok tokens
 or_fault tokens (Some fault) = Err fault
 
--- the answer for the tokens that stand before the end of a text or its first fault: more than the most are a fault
+-- the answer for the tokens that come before the end of a text or its first fault: more than the most are a fault
 -- at the first byte of the first of them that is one too many
 abbrev pub answer : List Token → Option LexFault → Result (List Token) LexFault
 answer tokens fault =

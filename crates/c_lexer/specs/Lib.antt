@@ -2,6 +2,6 @@ pub mod Bytes
 pub mod Words
 pub mod Numbers
 pub mod Units
-pub mod Fronts
+pub mod Prefixes
 pub mod Cut
 pub mod Compute

@@ -17,11 +17,11 @@ abbrev pub is_typed : Radix → List ℕ → Option Suffix → Bool
 is_typed radix digits None = false
 is_typed radix digits (Some suffix) = is_ok (literal_value radix digits suffix)
 
--- digits of the radix with a suffix behind them
+-- digits of the radix with a suffix after them
 abbrev pub is_constant : Radix → List ℕ → List ℕ → Bool
 is_constant radix digits suffix = is_numeral (base radix) digits && is_typed radix digits (suffix_of suffix)
 
--- some cut of the text behind at most n bytes has parts that pass
+-- some cut of the text after at most n bytes has parts that pass
 abbrev pub some_cut : (List ℕ → List ℕ → Bool) → List ℕ → ℕ → Bool
 some_cut test text zero = test [] text
 some_cut test text (suc n) = test (take (suc n) text) (drop (suc n) text) || some_cut test text n

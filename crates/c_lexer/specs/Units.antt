@@ -3,7 +3,7 @@ use Rattle.std.specs.Prelude.{ℕ, Bool, true, false, ◌&&◌, ◌||◌, ◌==�
 use Rattle.std.specs.Char.{is_ascii_digit}
 use Rattle.std.specs.List.{list_all, list_any}
 use Rattle.std.specs.Str.{is_utf8, chars}
-use Rattle.c_lexer.specs.declared.token.TokenKind.TheVariants.{Number, Character, Str, Mark}
+use Rattle.c_lexer.specs.declared.token.TokenKind.TheVariants.{Number, Character, Str, Punctuator}
 use Rattle.c_lexer.specs.declared.unit.Reading.{Reading}
 use Rattle.c_lexer.specs.declared.unit.Reading.TheVariants.{Space, Lexeme, Bad}
 use Rattle.c_lexer.specs.declared.unit.Fault.TheVariants.{Byte, Literal, Directive}
@@ -80,7 +80,7 @@ ends_in_comment (b ∷ c ∷ bs) = if (b == star) && (c == slash) then is_return
 unfoldable pub ends_line : List ℕ → Bool
 ends_line s = is_return s || (starts_with (codes "//") s || (starts_with (codes "/*") s && ends_in_comment (drop 2 s)))
 
--- behind `#include`: a header and the end of the line, with gaps between
+-- after `#include`: a header and the end of the line, with gaps between
 unfoldable pub names_header : List ℕ → List ℕ → Bool
 names_header s header = starts_with header s && ends_line (past_gaps (drop (length header) s))
 
@@ -88,13 +88,13 @@ names_header s header = starts_with header s && ends_line (past_gaps (drop (leng
 unfoldable pub is_include : List ℕ → Bool
 is_include line = starts_with (codes "#include") line && list_any (names_header (past_gaps (drop 8 line))) headers
 
--- a line from its `#` on, where only blanks stand in front of it or not
+-- a line from its `#` on, where only blanks are in front of it or not
 abbrev pub read_line : Bool → List ℕ → Reading
 read_line starts line = if starts then (if is_include line then Space else Bad Directive) else Bad Byte
 
 -- the punctuators (6.4.6) of the language
-unfoldable pub marks : List (List ℕ)
-marks =
+unfoldable pub punctuators : List (List ℕ)
+punctuators =
     codes "(" ∷ codes ")" ∷ codes "[" ∷ codes "]" ∷ codes "{" ∷ codes "}" ∷ codes ";" ∷ codes "," ∷ codes "." ∷ codes "->"
     ∷ codes "?" ∷ codes ":"
     ∷ codes "=" ∷ codes "+=" ∷ codes "-=" ∷ codes "*=" ∷ codes "/=" ∷ codes "%=" ∷ codes "&=" ∷ codes "|=" ∷ codes "^="
@@ -104,7 +104,7 @@ marks =
     ∷ codes "+" ∷ codes "-" ∷ codes "*" ∷ codes "/" ∷ codes "%" ∷ codes "~" ∷ codes "!" ∷ codes "++" ∷ codes "--"
     ∷ []
 
--- how a spelling is read, where only blanks stand in front of it on its line or not; none where it is no unit
+-- how a spelling is read, where only blanks are in front of it on its line or not; none where it is no unit
 unfoldable pub reading : Bool → List ℕ → Option Reading
 reading starts [] = None
 reading starts (b ∷ bs) =
@@ -116,4 +116,4 @@ reading starts (b ∷ bs) =
     else (if b == quote then (if closes_character bs then Some (Lexeme Character) else when (is_empty bs) (Bad Literal))
     else (if b == double_quote then (if closes_string bs && is_utf8 bs then Some (Lexeme Str) else when (is_empty bs) (Bad Literal))
     else (if may_start_word b then (if is_name (b ∷ bs) then Some (Lexeme (word_kind (b ∷ bs))) else when (is_empty bs) (Bad Byte))
-    else (if is_one_of marks (b ∷ bs) then Some (Lexeme Mark) else when (is_empty bs) (Bad Byte)))))))))
+    else (if is_one_of punctuators (b ∷ bs) then Some (Lexeme Punctuator) else when (is_empty bs) (Bad Byte)))))))))

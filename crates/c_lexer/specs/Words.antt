@@ -3,7 +3,7 @@ use Rattle.std.specs.Prelude.{ℕ, Bool, List, [], ◌∷◌, length, take, if�
 use Rattle.std.specs.List.{list_any}
 use Rattle.std.specs.Str.{bytes_eq}
 use Rattle.c_lexer.specs.declared.token.TokenKind.{TokenKind}
-use Rattle.c_lexer.specs.declared.token.TokenKind.TheVariants.{Identifier, Keyword, Profile}
+use Rattle.c_lexer.specs.declared.token.TokenKind.TheVariants.{Identifier, Keyword, LibraryWord}
 
 -- the keywords of C11 (6.4.1)
 unfoldable pub keywords : List (List ℕ)
@@ -19,8 +19,8 @@ keywords =
     ∷ []
 
 -- the names of the library and of updating that the language knows
-unfoldable pub profile_words : List (List ℕ)
-profile_words =
+unfoldable pub library_words : List (List ℕ)
+library_words =
     codes "printf" ∷ codes "calloc" ∷ codes "free"
     ∷ codes "thrd_create" ∷ codes "thrd_join" ∷ codes "thrd_t" ∷ codes "thrd_success" ∷ codes "thrd_error"
     ∷ codes "mtx_t" ∷ codes "mtx_init" ∷ codes "mtx_lock" ∷ codes "mtx_unlock" ∷ codes "mtx_plain"
@@ -38,4 +38,4 @@ starts_with front text = bytes_eq front (take (length front) text)
 abbrev pub word_kind : List ℕ → TokenKind
 word_kind word =
     if is_one_of keywords word then Keyword
-    else (if is_one_of profile_words word then Profile else Identifier)
+    else (if is_one_of library_words word then LibraryWord else Identifier)

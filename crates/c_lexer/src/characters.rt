@@ -1,7 +1,7 @@
 ghost use Rattle.std.specs.Prelude.{◌≡◌, ◌<◌, MatchOption, IfSome, true, length, drop};
 ghost use Rattle.c_lexer.specs.Bytes.{is_blank, is_gap, starts_word, continues_word, may_start_word};
 ghost use Rattle.c_lexer.specs.Units.{consists_of, is_name};
-ghost use Rattle.c_lexer.specs.Fronts.{IsLongest, NonePasses, NoMorePasses, Passes};
+ghost use Rattle.c_lexer.specs.Prefixes.{IsLongest, NonePasses, NoMorePasses, Passes};
 
 use bstr::decode_utf8;
 
@@ -46,7 +46,7 @@ fn continues_word(character: char) -> bool
     }
 }
 
-/// How many bytes at the front are characters that a word may go on with.
+/// How many bytes at the start are characters that a word may go on with.
 pub fn continue_len(bytes: &[u8]) -> usize
     ensures { IsLongest (consists_of continues_word) bytes.now result }
 {

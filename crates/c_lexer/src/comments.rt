@@ -2,12 +2,12 @@ ghost use Rattle.std.specs.Prelude.{◌≡◌, ◌<◌, ◌&&◌, ◌==◌, leng
 ghost use Rattle.std.specs.List.{list_all};
 ghost use Rattle.c_lexer.specs.Bytes.{stays_in_line};
 ghost use Rattle.c_lexer.specs.Units.{begins_with, read_comment};
-ghost use Rattle.c_lexer.specs.Fronts.{IsLongest};
+ghost use Rattle.c_lexer.specs.Prefixes.{IsLongest};
 ghost use Rattle.c_lexer.specs.Cut.{IsUnit};
 
 use crate::unit::{Fault, Reading, Unit};
 
-/// How many bytes stand in front of the first newline, or of the end.
+/// How many bytes come before the first newline, or the end.
 pub fn line_len(bytes: &[u8]) -> usize
     ensures { IsLongest (list_all stays_in_line) bytes.now result }
 {
@@ -40,7 +40,7 @@ pub fn comment_unit(bytes: &[u8]) -> Unit
     }
 }
 
-/// Whether `*/` stands in front.
+/// Whether `*/` is in front.
 pub fn closes_comment(rest: &[u8]) -> bool
     requires { 0 < length rest.now }
     ensures { result ≡ ((slice_index rest.now 0 == 42) && begins_with 47 (drop 1 rest.now)) }

@@ -6,7 +6,7 @@ use crate::characters::{is_blank, is_gap};
 use crate::comments::closes_comment;
 use crate::tables::names_some_header;
 
-/// Whether only blanks stand on its line in front of the place.
+/// Whether only blanks are on its line before the place.
 pub fn starts_line(text: &[u8], at: usize) -> bool
     requires { at ≤ length text.now }
     ensures { result ≡ starts_line text.now at }
@@ -60,7 +60,7 @@ fn past_gaps(bytes: &[u8]) -> &[u8]
     rest
 }
 
-/// Whether nothing but a comment and a carriage return stands at the end of a line.
+/// Whether nothing but a comment and a carriage return is at the end of a line.
 #[tactic(auto, unfolding(crate::specs::Units::ends_line))]
 fn ends_line(rest: &[u8]) -> bool
     ensures { result ≡ ends_line rest.now }

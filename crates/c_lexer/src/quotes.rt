@@ -2,7 +2,7 @@ ghost use Rattle.std.specs.Prelude.{◌≡◌, ◌≢◌, ◌<◌, ◌&&◌, ◌
 ghost use Rattle.std.specs.Str.{is_utf8};
 ghost use Rattle.c_lexer.specs.Bytes.{is_plain, is_escape};
 ghost use Rattle.c_lexer.specs.Units.{closes_character, closes_string};
-ghost use Rattle.c_lexer.specs.Fronts.{IsLongest, IsOnly, NonePasses, Skips};
+ghost use Rattle.c_lexer.specs.Prefixes.{IsLongest, IsOnly, NonePasses, Skips};
 
 use std::str;
 
@@ -19,7 +19,7 @@ pub fn character_len(tail: &[u8]) -> Option<usize>
     }
 }
 
-/// Whether the front of this length is the rest of a character.
+/// Whether the prefix of this length is the rest of a character.
 fn ends_character(tail: &[u8], len: usize) -> bool
     ensures { result ≡ (nat_le len (length tail.now) && closes_character (take len tail.now)) }
 {
@@ -81,7 +81,7 @@ fn closing_len(tail: &[u8]) -> Option<usize>
     None
 }
 
-/// The length of the escape or byte that stands in a string, or none where it can't stand there.
+/// The length of the escape or byte that is in a string, or none where it can't stand there.
 fn item_len(rest: &[u8]) -> Option<usize>
     requires some { 0 < length rest.now }
     requires inside { slice_index rest.now 0 ≢ 34 }
@@ -102,7 +102,7 @@ fn item_len(rest: &[u8]) -> Option<usize>
     }
 }
 
-/// Whether the byte stands in a string as itself.
+/// Whether the byte is in a string as itself.
 fn stands_in_string(byte: u8) -> bool
     ensures { result ≡ ((is_plain 34 byte || (byte == 9)) || nat_le 128 byte) }
 {

@@ -2,8 +2,8 @@ ghost use Rattle.std.specs.Prelude.{◌≡◌, ◌≢◌, ◌≤◌, ◌<◌, �
 ghost use Rattle.std.specs.Char.{is_ascii_digit};
 ghost use Rattle.std.specs.Str.{IsUtf8};
 ghost use Rattle.c_lexer.specs.Bytes.{is_blank, may_start_word};
-ghost use Rattle.c_lexer.specs.Fronts.{IsLongest, NonePasses};
-ghost use Rattle.c_lexer.specs.Units.{begins_with, marks, reading, read_line};
+ghost use Rattle.c_lexer.specs.Prefixes.{IsLongest, NonePasses};
+ghost use Rattle.c_lexer.specs.Units.{begins_with, punctuators, reading, read_line};
 ghost use Rattle.c_lexer.specs.Numbers.{is_number};
 ghost use Rattle.c_lexer.specs.Words.{is_one_of};
 ghost use Rattle.c_lexer.specs.Cut.{IsUnit, UnitAt};
@@ -12,7 +12,7 @@ use crate::characters::{continue_len, is_blank, may_start_word, name_len};
 use crate::comments::{comment_unit, line_len};
 use crate::directives::{is_include, starts_line};
 use crate::quotes::{character_len, string_len};
-use crate::tables::{is_mark, kind_of_word};
+use crate::tables::{is_punctuator, kind_of_word};
 use crate::token::TokenKind;
 use crate::unit::{Fault, Reading, Unit};
 use c_ints::literal;
@@ -55,7 +55,7 @@ fn line_reading(starts: bool, line: &[u8]) -> Reading
     }
 }
 
-/// A unit that doesn't begin with `#`. It is the same wherever it stands on its line.
+/// A unit that doesn't begin with `#`. It is the same wherever it is on its line.
 fn plain_unit(rest: &[u8]) -> Unit
     requires hash { slice_index rest.now 0 ≢ 35 }
     requires some { 0 < length rest.now }
@@ -75,7 +75,7 @@ fn plain_unit(rest: &[u8]) -> Unit
     } else if may_start_word(first) {
         name_unit(rest)
     } else {
-        mark_unit(rest)
+        punctuator_unit(rest)
     }
 }
 
@@ -86,7 +86,7 @@ fn single(reading: Reading) -> Unit
     Unit { len: 1, reading }
 }
 
-/// A unit that begins with a slash: a comment or a mark.
+/// A unit that begins with a slash: a comment or a punctuator.
 fn slash_unit(rest: &[u8]) -> Unit
     requires slash { slice_index rest.now 0 ≡ 47 }
     requires some { 0 < length rest.now }
@@ -97,7 +97,7 @@ fn slash_unit(rest: &[u8]) -> Unit
     } else if follows(rest, b'*') {
         block_comment_unit(rest)
     } else {
-        mark_unit(rest)
+        punctuator_unit(rest)
     }
 }
 
@@ -215,8 +215,8 @@ fn name_unit(rest: &[u8]) -> Unit
     }
 }
 
-/// A unit that begins with none of the other forms' first bytes: a mark, or a byte that begins nothing.
-fn mark_unit(rest: &[u8]) -> Unit
+/// A unit that begins with none of the other forms' first bytes: a punctuator, or a byte that begins nothing.
+fn punctuator_unit(rest: &[u8]) -> Unit
     requires blank { IsFalse (is_blank (slice_index rest.now 0)) }
     requires line { IsFalse ((slice_index rest.now 0 == 47) && begins_with 47 (drop 1 rest.now)) }
     requires block { IsFalse ((slice_index rest.now 0 == 47) && begins_with 42 (drop 1 rest.now)) }
@@ -228,33 +228,33 @@ fn mark_unit(rest: &[u8]) -> Unit
     requires some { 0 < length rest.now }
     ensures { (starts : Bool) → IsUnit (reading starts) rest.now result.len result.reading }
 {
-    match mark_len(rest) {
+    match punctuator_len(rest) {
         Some(len) => Unit {
             len,
-            reading: Reading::Lexeme(TokenKind::Mark),
+            reading: Reading::Lexeme(TokenKind::Punctuator),
         },
         None => single(Reading::Bad(Fault::Byte)),
     }
 }
 
-/// The length of the longest mark in front, or none.
-fn mark_len(rest: &[u8]) -> Option<usize>
-    ensures { MatchOption result (NonePasses (is_one_of marks) rest.now) (IsLongest (is_one_of marks) rest.now) }
+/// The length of the longest punctuator in front, or none.
+fn punctuator_len(rest: &[u8]) -> Option<usize>
+    ensures { MatchOption result (NonePasses (is_one_of punctuators) rest.now) (IsLongest (is_one_of punctuators) rest.now) }
 {
-    if begins_mark(rest, 3) {
+    if begins_punctuator(rest, 3) {
         Some(3)
-    } else if begins_mark(rest, 2) {
+    } else if begins_punctuator(rest, 2) {
         Some(2)
-    } else if begins_mark(rest, 1) {
+    } else if begins_punctuator(rest, 1) {
         Some(1)
     } else {
         None
     }
 }
 
-/// Whether the front of this length is a mark.
-fn begins_mark(rest: &[u8], len: usize) -> bool
-    ensures { result ≡ (nat_le len (length rest.now) && is_one_of marks (take len rest.now)) }
+/// Whether the prefix of this length is a punctuator.
+fn begins_punctuator(rest: &[u8], len: usize) -> bool
+    ensures { result ≡ (nat_le len (length rest.now) && is_one_of punctuators (take len rest.now)) }
 {
-    len <= rest.len() && is_mark(&rest[..len])
+    len <= rest.len() && is_punctuator(&rest[..len])
 }

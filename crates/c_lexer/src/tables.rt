@@ -1,6 +1,6 @@
 ghost use Rattle.std.specs.Prelude.{◌≡◌, map};
 ghost use Rattle.std.specs.List.{list_any};
-ghost use Rattle.c_lexer.specs.Units.{headers, marks, names_header};
+ghost use Rattle.c_lexer.specs.Units.{headers, punctuators, names_header};
 ghost use Rattle.c_lexer.specs.Words.{is_one_of, word_kind};
 
 use crate::directives::names_header;
@@ -53,7 +53,7 @@ const KEYWORDS: [&str; 44] = [
     "_Thread_local",
 ];
 
-const PROFILE_WORDS: [&str; 17] = [
+const LIBRARY_WORDS: [&str; 17] = [
     "printf",
     "calloc",
     "free",
@@ -73,22 +73,22 @@ const PROFILE_WORDS: [&str; 17] = [
     "dsu_transform",
 ];
 
-const MARKS: [&str; 45] = [
+const PUNCTUATORS: [&str; 45] = [
     "(", ")", "[", "]", "{", "}", ";", ",", ".", "->", "?", ":", "=", "+=", "-=", "*=", "/=", "%=",
     "&=", "|=", "^=", "<<=", ">>=", "||", "&&", "|", "^", "&", "==", "!=", "<", ">", "<=", ">=",
     "<<", ">>", "+", "-", "*", "/", "%", "~", "!", "++", "--",
 ];
 
-/// Whether the bytes are a mark.
-pub fn is_mark(spelling: &[u8]) -> bool
-    ensures { result ≡ is_one_of marks spelling.now }
+/// Whether the bytes are a punctuator.
+pub fn is_punctuator(spelling: &[u8]) -> bool
+    ensures { result ≡ is_one_of punctuators spelling.now }
 {
-    is_one_of(&MARKS, spelling)
+    is_one_of(&PUNCTUATORS, spelling)
 }
 
 const HEADERS: [&str; 4] = ["<stdio.h>", "<stdlib.h>", "<threads.h>", "\"dsu.h\""];
 
-/// Whether the text behind `#include` names a header that the language knows, and nothing else.
+/// Whether the text after `#include` names a header that the language knows, and nothing else.
 pub fn names_some_header(text: &[u8]) -> bool
     ensures { result ≡ list_any (names_header text.now) headers }
 {
@@ -112,8 +112,8 @@ pub fn kind_of_word(word: &[u8]) -> TokenKind
 {
     if is_one_of(&KEYWORDS, word) {
         TokenKind::Keyword
-    } else if is_one_of(&PROFILE_WORDS, word) {
-        TokenKind::Profile
+    } else if is_one_of(&LIBRARY_WORDS, word) {
+        TokenKind::LibraryWord
     } else {
         TokenKind::Identifier
     }

@@ -8,13 +8,13 @@ pub enum TokenKind {
     Identifier,
     /// A keyword of C11 (6.4.1).
     Keyword,
-    /// A name of the library that the profile knows, and that can't be declared.
-    Profile,
+    /// A name of the library, or of updating, that the language knows and a program can't declare (7.1.3).
+    LibraryWord,
     Number,
     Character,
     Str,
     /// A punctuator (6.4.6).
-    Mark,
+    Punctuator,
 }
 
 /// A token of a text.
@@ -25,7 +25,7 @@ pub struct Token {
     pub at: usize,
     /// Its length in bytes.
     pub len: usize,
-    /// Its bytes as they stand in the text.
+    /// Its bytes as they are in the text.
     pub text: Text,
 }
 
@@ -38,8 +38,8 @@ pub enum LexFault {
     BadLiteral(usize),
     /// A line that begins with `#` at the place and includes none of the known headers.
     Directive(usize),
-    /// One token more than `MOST_TOKENS` stands in the text; the place is its first byte's.
+    /// One token more than `MOST_TOKENS` is in the text; the place is its first byte's.
     TooMany(usize),
-    /// Want of memory.
+    /// Lack of memory.
     Memory,
 }

@@ -3,7 +3,7 @@ ghost use Rattle.c_lexer.specs.Cut.{fault_at};
 
 use crate::token::{LexFault, TokenKind};
 
-/// A unit of a text: what stands at a place, up to the next unit.
+/// A unit of a text: what is at a place, up to the next unit.
 #[derive(Clone, Copy)]
 pub struct Unit {
     /// Its length in bytes.

@@ -1,3 +1,3 @@
 pub mod Programs
-pub mod TextWalk
+pub mod TextPlans
 pub mod Parts

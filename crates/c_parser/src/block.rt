@@ -1,9 +1,9 @@
-ghost use Rattle.std.specs.Prelude.{◌≡◌, ◌<◌, ◌≤◌, ◌+◌, ℕ, false, length, codes, [], IfOk, MatchResult, List};
-ghost use Rattle.c_lexer.specs.declared.token.TokenKind.TheVariants.{Mark};
+ghost use Rattle.std.specs.Prelude.{◌≡◌, ◌<◌, ◌≤◌, ◌+◌, ℕ, false, length, codes, [], IfOk, List};
+ghost use Rattle.c_lexer.specs.declared.token.TokenKind.TheVariants.{Punctuator};
 ghost use Rattle.c_tree.specs.declared.stmt.Stmt.{Stmt};
 ghost use Rattle.c_expr_parser.specs.Readings.{most_depth};
 ghost use Rattle.c_expr_parser.specs.Tables.{is, holds_ahead};
-ghost use Rattle.c_parser.specs.TextWalk.{Found, TextPlan, Want, Place, place, statement, found, block_then, block, transaction, text_parsed, TextStops};
+ghost use Rattle.c_parser.specs.TextPlans.{Found, TextPlan, Want, Place, place, statement, found, block_then, block, transaction, text_parsed, FindsText};
 ghost use Rattle.c_parser.specs.Parts.{items_then};
 
 use crate::ahead::is_ahead;
@@ -24,15 +24,14 @@ pub struct Braced {
     pub end: usize,
 }
 
-/// A closing brace's place, and the tokens behind it.
+/// A closing brace's place, and the tokens after it.
 pub fn closing_brace(tokens: &[Token], depth: u32) -> Result<(usize, &[Token]), Stop>
-    ensures reads { (k : Found → TextPlan) → (let m = text_parsed (Want (Place (codes "}") depth) k) tokens.now in
-        MatchResult result (λ x. m ≡ text_parsed (k (place x.0)) x.1.now) (λ stop. TextStops stop m)) }
+    ensures reads { (k : Found → TextPlan) → FindsText (text_parsed (Want (Place (codes "}") depth) k) tokens.now) (λ x. text_parsed (k (place x.0)) x.1.now) result }
     ensures within { IfOk result (λ x. length x.1.now < length tokens.now) }
 {
     match tokens.split_first() {
         Some((token, rest)) => {
-            if !is(token, TokenKind::Mark, "}") {
+            if !is(token, TokenKind::Punctuator, "}") {
                 Err(Stop::Stuck(tokens.len()))
             } else if depth > MOST_DEPTH {
                 Err(Stop::Deep(tokens.len()))
@@ -44,7 +43,7 @@ pub fn closing_brace(tokens: &[Token], depth: u32) -> Result<(usize, &[Token]), 
     }
 }
 
-/// What stands between braces (6.8.2), up to the closing one, behind the open one.
+/// What stands between braces (6.8.2), up to the closing one, after the open one.
 #[cycle(statement)]
 pub fn block<'a>(
     alloc: Global,
@@ -52,13 +51,12 @@ pub fn block<'a>(
     depth: u32,
 ) -> Result<(Braced, &'a [Token]), Stop>
     requires { depth ≤ most_depth }
-    ensures reads { (k : List Stmt → ℕ → TextPlan) → (let m = text_parsed (block_then depth k) tokens.now in
-        MatchResult result (λ x. m ≡ text_parsed (k x.0.body x.0.end) x.1.now) (λ stop. TextStops stop m)) }
+    ensures reads { (k : List Stmt → ℕ → TextPlan) → FindsText (text_parsed (block_then depth k) tokens.now) (λ x. text_parsed (k x.0.body x.0.end) x.1.now) result }
     ensures within { IfOk result (λ x. length x.1.now < length tokens.now) }
 {
     let mut list = Vec::new(alloc);
     let mut rest = tokens;
-    while !is_ahead(rest, TokenKind::Mark, "}") {
+    while !is_ahead(rest, TokenKind::Punctuator, "}") {
         let (longer, behind) = block_item(alloc, list, rest, depth)?;
         list = longer;
         rest = behind;
@@ -77,9 +75,7 @@ fn block_item<'a>(
     depth: u32,
 ) -> Result<(Vec<Stmt>, &'a [Token]), Stop>
     requires { depth ≤ most_depth }
-    ensures reads { holds_ahead (is Mark (codes "}")) tokens.now ≡ false → (k : List Stmt → ℕ → TextPlan)
-        → (let m = text_parsed (items_then depth before.items k) tokens.now in
-        MatchResult result (λ x. m ≡ text_parsed (items_then depth x.0.items k) x.1.now) (λ stop. TextStops stop m)) }
+    ensures reads { holds_ahead (is Punctuator (codes "}")) tokens.now ≡ false → (k : List Stmt → ℕ → TextPlan) → FindsText (text_parsed (items_then depth before.items k) tokens.now) (λ x. text_parsed (items_then depth x.0.items k) x.1.now) result }
     ensures within { IfOk result (λ x. length x.1.now < length tokens.now) }
 {
     let Some((first, _)) = tokens.split_first() else {
@@ -95,7 +91,7 @@ fn block_item<'a>(
     Ok((list, rest))
 }
 
-/// The rest of a block behind its open brace, as a statement.
+/// The rest of a block after its open brace, as a statement.
 #[cycle(statement)]
 pub fn braces<'a>(
     alloc: Global,
@@ -104,8 +100,7 @@ pub fn braces<'a>(
     depth: u32,
 ) -> Result<(Stmt, &'a [Token]), Stop>
     requires { depth ≤ most_depth }
-    ensures reads { let m = text_parsed (block depth start) tokens.now in
-        MatchResult result (λ x. m ≡ found (statement x.0) x.1.now) (λ stop. TextStops stop m) }
+    ensures reads { FindsText (text_parsed (block depth start) tokens.now) (λ x. found (statement x.0) x.1.now) result }
     ensures within { IfOk result (λ x. length x.1.now < length tokens.now) }
 {
     let (block, rest) = block(alloc, tokens, depth)?;
@@ -121,11 +116,10 @@ pub fn transaction<'a>(
     depth: u32,
 ) -> Result<(Stmt, &'a [Token]), Stop>
     requires { depth ≤ most_depth }
-    ensures reads { let m = text_parsed (transaction depth start) tokens.now in
-        MatchResult result (λ x. m ≡ found (statement x.0) x.1.now) (λ stop. TextStops stop m) }
+    ensures reads { FindsText (text_parsed (transaction depth start) tokens.now) (λ x. found (statement x.0) x.1.now) result }
     ensures within { IfOk result (λ x. length x.1.now < length tokens.now) }
 {
-    let rest = take(tokens, TokenKind::Mark, "{", depth)?;
+    let rest = take(tokens, TokenKind::Punctuator, "{", depth)?;
     let (block, rest) = block(alloc, rest, depth)?;
     Ok((
         made(start, StmtNode::Transaction(block.body, block.end)),

@@ -1,6 +1,6 @@
-ghost use Rattle.std.specs.Prelude.{◌≡◌, ◌<◌, ◌≤◌, ◌+◌, suc, length, IfOk, MatchResult};
+ghost use Rattle.std.specs.Prelude.{◌<◌, ◌≤◌, ◌+◌, suc, length, IfOk};
 ghost use Rattle.c_expr_parser.specs.Readings.{most_depth};
-ghost use Rattle.c_parser.specs.TextWalk.{Found, TextPlan, Want, First, Statement, Else, statement, statements, found, if_statement, while_statement, do_statement, for_statement, text_parsed, text_reads, TextStops};
+ghost use Rattle.c_parser.specs.TextPlans.{Found, TextPlan, Want, First, Statement, Else, statement, statements, found, if_statement, while_statement, do_statement, for_statement, text_parsed, text_reads, FindsText};
 ghost use Rattle.c_parser.specs.Parts.{else_found};
 
 use crate::declaration::declaration;
@@ -22,8 +22,7 @@ fn inner<'a>(
     depth: u32,
 ) -> Result<(Boxed<Stmt>, &'a [Token]), Stop>
     requires { depth ≤ most_depth }
-    ensures reads { let m = text_reads (Statement (suc depth)) tokens.now in
-        MatchResult result (λ x. m ≡ found (statement x.0) x.1.now) (λ stop. TextStops stop m) }
+    ensures reads { FindsText (text_reads (Statement (suc depth)) tokens.now) (λ x. found (statement x.0) x.1.now) result }
     ensures within { IfOk result (λ x. length x.1.now < length tokens.now) }
 {
     let (body, rest) = statement(alloc, tokens, depth + 1)?;
@@ -39,8 +38,7 @@ fn otherwise<'a>(
     depth: u32,
 ) -> Result<(Option<Boxed<Stmt>>, &'a [Token]), Stop>
     requires { depth ≤ most_depth }
-    ensures reads { (k : Found → TextPlan) → (let m = text_parsed (Want (Else depth) k) tokens.now in
-        MatchResult result (λ x. m ≡ text_parsed (k (else_found x.0)) x.1.now) (λ stop. TextStops stop m)) }
+    ensures reads { (k : Found → TextPlan) → FindsText (text_parsed (Want (Else depth) k) tokens.now) (λ x. text_parsed (k (else_found x.0)) x.1.now) result }
     ensures within { IfOk result (λ x. length x.1.now ≤ length tokens.now) }
 {
     let Some(behind) = skip(tokens, TokenKind::Keyword, "else") else {
@@ -50,7 +48,7 @@ fn otherwise<'a>(
     Ok((Some(body), rest))
 }
 
-/// The rest of an `if` (6.8.4.1), with its `else` where one stands behind the first statement.
+/// The rest of an `if` (6.8.4.1), with its `else` where one comes after the first statement.
 #[cycle(statement)]
 pub fn if_statement<'a>(
     alloc: Global,
@@ -59,8 +57,7 @@ pub fn if_statement<'a>(
     depth: u32,
 ) -> Result<(Stmt, &'a [Token]), Stop>
     requires { depth ≤ most_depth }
-    ensures reads { let m = text_parsed (if_statement depth start) tokens.now in
-        MatchResult result (λ x. m ≡ found (statement x.0) x.1.now) (λ stop. TextStops stop m) }
+    ensures reads { FindsText (text_parsed (if_statement depth start) tokens.now) (λ x. found (statement x.0) x.1.now) result }
     ensures within { IfOk result (λ x. length x.1.now < length tokens.now) }
 {
     let (condition, rest) = test(alloc, tokens, depth)?;
@@ -78,8 +75,7 @@ pub fn while_statement<'a>(
     depth: u32,
 ) -> Result<(Stmt, &'a [Token]), Stop>
     requires { depth ≤ most_depth }
-    ensures reads { let m = text_parsed (while_statement depth start) tokens.now in
-        MatchResult result (λ x. m ≡ found (statement x.0) x.1.now) (λ stop. TextStops stop m) }
+    ensures reads { FindsText (text_parsed (while_statement depth start) tokens.now) (λ x. found (statement x.0) x.1.now) result }
     ensures within { IfOk result (λ x. length x.1.now < length tokens.now) }
 {
     let (condition, rest) = test(alloc, tokens, depth)?;
@@ -96,8 +92,7 @@ pub fn do_statement<'a>(
     depth: u32,
 ) -> Result<(Stmt, &'a [Token]), Stop>
     requires { depth ≤ most_depth }
-    ensures reads { let m = text_parsed (do_statement depth start) tokens.now in
-        MatchResult result (λ x. m ≡ found (statement x.0) x.1.now) (λ stop. TextStops stop m) }
+    ensures reads { FindsText (text_parsed (do_statement depth start) tokens.now) (λ x. found (statement x.0) x.1.now) result }
     ensures within { IfOk result (λ x. length x.1.now < length tokens.now) }
 {
     let (body, rest) = inner(alloc, tokens, depth)?;
@@ -115,11 +110,10 @@ pub fn for_statement<'a>(
     depth: u32,
 ) -> Result<(Stmt, &'a [Token]), Stop>
     requires { depth ≤ most_depth }
-    ensures reads { let m = text_parsed (for_statement depth start) tokens.now in
-        MatchResult result (λ x. m ≡ found (statement x.0) x.1.now) (λ stop. TextStops stop m) }
+    ensures reads { FindsText (text_parsed (for_statement depth start) tokens.now) (λ x. found (statement x.0) x.1.now) result }
     ensures within { IfOk result (λ x. length x.1.now < length tokens.now) }
 {
-    let rest = take(tokens, TokenKind::Mark, "(", depth)?;
+    let rest = take(tokens, TokenKind::Punctuator, "(", depth)?;
     let (before, rest) = first_part(alloc, rest, depth + 1)?;
     let (condition, rest) = optional(alloc, rest, depth + 1, ";", depth + 1)?;
     let (step, rest) = optional(alloc, rest, depth + 1, ")", depth)?;
@@ -134,8 +128,7 @@ fn first_part<'a>(
     depth: u32,
 ) -> Result<(List<Stmt>, &'a [Token]), Stop>
     requires { depth ≤ most_depth + 1 }
-    ensures reads { let m = text_reads (First depth) tokens.now in
-        MatchResult result (λ x. m ≡ found (statements x.0) x.1.now) (λ stop. TextStops stop m) }
+    ensures reads { FindsText (text_reads (First depth) tokens.now) (λ x. found (statements x.0) x.1.now) result }
     ensures within { IfOk result (λ x. length x.1.now < length tokens.now) }
 {
     let Some((first, rest)) = tokens.split_first() else {
@@ -147,7 +140,7 @@ fn first_part<'a>(
         return Ok((List::of(list), rest));
     }
     let mut list = Vec::new(alloc);
-    if is(first, TokenKind::Mark, ";") {
+    if is(first, TokenKind::Punctuator, ";") {
         shallow(tokens, depth)?;
         return Ok((List::of(list), rest));
     }

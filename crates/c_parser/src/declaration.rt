@@ -1,10 +1,10 @@
-ghost use Rattle.std.specs.Prelude.{◌≡◌, ◌<◌, ◌≤◌, ◌+◌, ◌++◌, length, IfOk, MatchResult, List};
+ghost use Rattle.std.specs.Prelude.{◌≡◌, ◌<◌, ◌≤◌, ◌+◌, ◌++◌, length, IfOk, List};
 ghost use Rattle.c_tree.specs.declared.stmt.Declaration.{Declaration};
 ghost use Rattle.c_tree.specs.declared.stmt.Stmt.{Stmt};
 ghost use Rattle.c_expr_parser.specs.Readings.{most_depth};
 ghost use Rattle.c_tree.specs.declared.stmt.StmtNode.TheVariants.{Declare};
 ghost use Rattle.c_expr_parser.specs.Statements.{stmt, declares};
-ghost use Rattle.c_parser.specs.TextWalk.{Found, TextPlan, Want, Initial, optional, star_then, declaration_behind, text_parsed, TextStops};
+ghost use Rattle.c_parser.specs.TextPlans.{Found, TextPlan, Want, Initial, optional, star_then, declaration_behind, text_parsed, FindsText};
 ghost use Rattle.c_parser.specs.Parts.{variable_then};
 
 use crate::push::push;
@@ -15,28 +15,26 @@ use std::alloc::Global;
 
 /// The star of a handle's type before a further name (6.7.6), or nothing.
 pub fn star<'a>(declared: &CType, tokens: &'a [Token], depth: u32) -> Result<&'a [Token], Stop>
-    ensures reads { (k : TextPlan) → (let m = text_parsed (star_then depth declared.now k) tokens.now in
-        MatchResult result (λ rest. m ≡ text_parsed k rest.now) (λ stop. TextStops stop m)) }
+    ensures reads { (k : TextPlan) → FindsText (text_parsed (star_then depth declared.now k) tokens.now) (λ rest. text_parsed k rest.now) result }
     ensures within { IfOk result (λ rest. length rest.now ≤ length tokens.now) }
 {
     match declared {
-        CType::Handle(_) => take(tokens, TokenKind::Mark, "*", depth),
+        CType::Handle(_) => take(tokens, TokenKind::Punctuator, "*", depth),
         CType::Integer(_) | CType::Thread => Ok(tokens),
     }
 }
 
-/// An initialiser behind its sign (6.7.9), or nothing.
+/// An initialiser after its sign (6.7.9), or nothing.
 fn initial<'a>(
     alloc: Global,
     tokens: &'a [Token],
     depth: u32,
 ) -> Result<(Option<Expr>, &'a [Token]), Stop>
     requires { depth ≤ most_depth + 1 }
-    ensures reads { (k : Found → TextPlan) → (let m = text_parsed (Want (Initial depth) k) tokens.now in
-        MatchResult result (λ x. m ≡ text_parsed (k (optional x.0)) x.1.now) (λ stop. TextStops stop m)) }
+    ensures reads { (k : Found → TextPlan) → FindsText (text_parsed (Want (Initial depth) k) tokens.now) (λ x. text_parsed (k (optional x.0)) x.1.now) result }
     ensures within { IfOk result (λ x. length x.1.now ≤ length tokens.now) }
 {
-    let Some(behind) = skip(tokens, TokenKind::Mark, "=") else {
+    let Some(behind) = skip(tokens, TokenKind::Punctuator, "=") else {
         return Ok((None, tokens));
     };
     shallow(tokens, depth)?;
@@ -52,14 +50,15 @@ fn variable<'a>(
     depth: u32,
 ) -> Result<(Declaration, &'a [Token]), Stop>
     requires { depth ≤ most_depth + 1 }
-    ensures reads { (k : Declaration → TextPlan) → (let m = text_parsed (variable_then depth declared.now k) tokens.now in
-        MatchResult result (λ x. m ≡ text_parsed (k x.0) x.1.now) (λ stop. TextStops stop m)) }
+    ensures reads { (k : Declaration → TextPlan) → FindsText (text_parsed (variable_then depth declared.now k) tokens.now) (λ x. text_parsed (k x.0) x.1.now) result }
     ensures within { IfOk result (λ x. length x.1.now < length tokens.now) }
 {
     let (variable, rest) = name(tokens, depth)?;
+    // Copied before the initialiser is read, so that no fault drops an expression here.
+    let declared = declared.copy()?;
     let (initial, rest) = initial(alloc, rest, depth)?;
     let declaration = Declaration {
-        declared: declared.copy()?,
+        declared,
         name: variable,
         initial,
     };
@@ -76,23 +75,21 @@ pub fn declaration<'a>(
     depth: u32,
 ) -> Result<(Vec<Stmt>, &'a [Token]), Stop>
     requires { depth ≤ most_depth + 1 }
-    ensures reads { (k : List Stmt → TextPlan)
-        → (let m = text_parsed (declaration_behind depth declared.now (λ ds. k (before.items ++ declares start ds))) tokens.now in
-        MatchResult result (λ x. m ≡ text_parsed (k x.0.items) x.1.now) (λ stop. TextStops stop m)) }
+    ensures reads { (k : List Stmt → TextPlan) → FindsText (text_parsed (declaration_behind depth declared.now (λ ds. k (before.items ++ declares start ds))) tokens.now) (λ x. text_parsed (k x.0.items) x.1.now) result }
     ensures within { IfOk result (λ x. length x.1.now < length tokens.now) }
 {
     let (first, behind) = variable(alloc, declared, tokens, depth)?;
     let mut list = before;
     push(&mut list, declared_at(start, first))?;
     let mut rest = behind;
-    while let Some(behind) = skip(rest, TokenKind::Mark, ",") {
+    while let Some(behind) = skip(rest, TokenKind::Punctuator, ",") {
         shallow(rest, depth)?;
         let behind = star(declared, behind, depth)?;
         let (next, behind) = variable(alloc, declared, behind, depth)?;
         push(&mut list, declared_at(start, next))?;
         rest = behind;
     }
-    let rest = take(rest, TokenKind::Mark, ";", depth)?;
+    let rest = take(rest, TokenKind::Punctuator, ";", depth)?;
     Ok((list, rest))
 }
 

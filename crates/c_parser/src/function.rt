@@ -1,6 +1,6 @@
-ghost use Rattle.std.specs.Prelude.{◌≡◌, ◌∷◌, ◌<◌, ◌≤◌, ◌+◌, ℕ, [], length, IfOk, IfSome, MatchResult};
-ghost use Rattle.c_parser.specs.TextWalk.{Body, prototype_made, text_parsed, text_reads, TextStops};
-ghost use Rattle.c_parser.specs.Parts.{Makes, function_plan};
+ghost use Rattle.std.specs.Prelude.{◌≡◌, ◌∷◌, ◌<◌, ◌≤◌, ◌+◌, ℕ, [], length, IfOk, IfSome};
+ghost use Rattle.c_parser.specs.TextPlans.{Body, prototype_made, text_parsed, text_reads};
+ghost use Rattle.c_parser.specs.Parts.{function_plan, Adds};
 
 use crate::block::block;
 use crate::parameters::parameters;
@@ -10,7 +10,7 @@ use c_tree::{Binding, CType, Def, DefKind, Function, Name, Parameters, Prototype
 use dsu_io::List;
 use std::alloc::Global;
 
-/// A function behind its name (6.7.6.3, 6.9.1): its parameters, and its body or the end of its prototype. All its tokens
+/// A function after its name (6.7.6.3, 6.9.1): its parameters, and its body or the end of its prototype. All its tokens
 /// are those from its result's type on.
 pub fn function<'a>(
     alloc: Global,
@@ -21,24 +21,23 @@ pub fn function<'a>(
     tokens: &'a [Token],
 ) -> Result<(Def, &'a [Token]), Stop>
     requires { length tokens.now ≤ length all.now }
-    ensures reads { let m = text_parsed (function_plan start returned name) tokens.now in
-        MatchResult result (λ x. Makes m (length all.now) [] (x.0 ∷ []) x.1.now) (λ stop. TextStops stop m) }
+    ensures reads { Adds (text_parsed (function_plan start returned name) tokens.now) (length all.now) [] (λ x. x.0 ∷ []) (λ x. x.1.now) result }
     ensures within { IfOk result (λ x. length x.1.now < length tokens.now) }
 {
-    let rest = take(tokens, TokenKind::Mark, "(", 0)?;
+    let rest = take(tokens, TokenKind::Punctuator, "(", 0)?;
     let (parameters, rest) = parameters(alloc, rest, 1)?;
-    let rest = take(rest, TokenKind::Mark, ")", 0)?;
+    let rest = take(rest, TokenKind::Punctuator, ")", 0)?;
     match parameters {
         Parameters::Named(list) => body(alloc, start, returned, name, list, all, rest),
         Parameters::Unnamed(list) => {
-            let rest = take(rest, TokenKind::Mark, ";", 0)?;
+            let rest = take(rest, TokenKind::Punctuator, ";", 0)?;
             let parameters = Parameters::Unnamed(list);
             Ok((prototype(start, returned, name, parameters), rest))
         }
     }
 }
 
-/// A function's body, or the end of its prototype, behind parameters with names.
+/// A function's body, or the end of its prototype, after parameters with names.
 fn body<'a>(
     alloc: Global,
     start: usize,
@@ -49,12 +48,11 @@ fn body<'a>(
     tokens: &'a [Token],
 ) -> Result<(Def, &'a [Token]), Stop>
     requires { length tokens.now ≤ length all.now }
-    ensures reads { let m = text_reads (Body start returned name parameters) tokens.now in
-        MatchResult result (λ x. Makes m (length all.now) [] (x.0 ∷ []) x.1.now) (λ stop. TextStops stop m) }
+    ensures reads { Adds (text_reads (Body start returned name parameters) tokens.now) (length all.now) [] (λ x. x.0 ∷ []) (λ x. x.1.now) result }
     ensures within { IfOk result (λ x. length x.1.now < length tokens.now) }
 {
-    let Some(inside) = skip(tokens, TokenKind::Mark, "{") else {
-        let rest = take(tokens, TokenKind::Mark, ";", 0)?;
+    let Some(inside) = skip(tokens, TokenKind::Punctuator, "{") else {
+        let rest = take(tokens, TokenKind::Punctuator, ";", 0)?;
         let parameters = Parameters::Named(parameters);
         return Ok((prototype(start, returned, name, parameters), rest));
     };
@@ -74,7 +72,7 @@ fn body<'a>(
     Ok((Def { place: start, kind }, rest))
 }
 
-/// How many of some tokens stand before the rest, where that is a `u32`.
+/// How many of some tokens come before the rest, where that is a `u32`.
 fn taken(all: &[Token], rest: &[Token]) -> Option<u32>
     requires { length rest.now ≤ length all.now }
     ensures { IfSome result (λ count. count + length rest.now ≡ length all.now) }

@@ -1,7 +1,7 @@
 ghost use Rattle.std.specs.Prelude.{◌≡◌, ◌<◌, ◌≤◌, ◌++◌, length, IfOk, MatchResult, List};
 ghost use Rattle.c_tree.specs.declared.expr.Expr.{Expr};
 ghost use Rattle.c_tree.specs.declared.def.Def.{Def};
-ghost use Rattle.c_parser.specs.TextWalk.{TextPlan, Want, ArrayLength, ArrayInitial, Global as GlobalWanted, numbered, listed, global, made, found, text_parsed, text_reads, TextStops};
+ghost use Rattle.c_parser.specs.TextPlans.{TextPlan, Want, ArrayLength, ArrayInitial, Global as GlobalWanted, numbered, listed, global, made, found, text_parsed, text_reads, TextStops, FindsText};
 ghost use Rattle.c_parser.specs.Parts.{values_then, globals_plan};
 
 use crate::declaration::star;
@@ -12,7 +12,7 @@ use c_tree::{Array, CType, Declaration, Def, DefKind, Expr, Length, Name};
 use dsu_io::List;
 use std::alloc::Global;
 
-/// The globals that a type declares (6.7), behind the first one's name, up to the semicolon, added to the definitions
+/// The globals that a type declares (6.7), after the first one's name, up to the semicolon, added to the definitions
 /// before as of one place.
 pub fn globals<'a>(
     alloc: Global,
@@ -31,38 +31,38 @@ pub fn globals<'a>(
     let mut list = before;
     push(&mut list, Def { place: start, kind })?;
     let mut rest = behind;
-    while let Some(behind) = skip(rest, TokenKind::Mark, ",") {
+    while let Some(behind) = skip(rest, TokenKind::Punctuator, ",") {
         let behind = star(declared, behind, 0)?;
         let (next, behind) = name(behind, 0)?;
         let (kind, behind) = global(alloc, declared, next, behind)?;
         push(&mut list, Def { place: start, kind })?;
         rest = behind;
     }
-    let rest = take(rest, TokenKind::Mark, ";", 0)?;
+    let rest = take(rest, TokenKind::Punctuator, ";", 0)?;
     Ok((list, rest))
 }
 
-/// A global of a type behind its name: an initialiser, an array's length, or nothing (6.7.6.2, 6.7.9).
+/// A global of a type after its name: an initialiser, an array's length, or nothing (6.7.6.2, 6.7.9).
 fn global<'a>(
     alloc: Global,
     declared: &CType,
     global_name: Name,
     tokens: &'a [Token],
 ) -> Result<(DefKind, &'a [Token]), Stop>
-    ensures reads { let m = text_reads (GlobalWanted declared.now global_name) tokens.now in
-        MatchResult result (λ x. m ≡ found (global x.0) x.1.now) (λ stop. TextStops stop m) }
+    ensures reads { FindsText (text_reads (GlobalWanted declared.now global_name) tokens.now) (λ x. found (global x.0) x.1.now) result }
     ensures within { IfOk result (λ x. length x.1.now ≤ length tokens.now) }
 {
-    if let Some(behind) = skip(tokens, TokenKind::Mark, "=") {
+    if let Some(behind) = skip(tokens, TokenKind::Punctuator, "=") {
         let (value, rest) = conditional(alloc, behind, 0)?;
+        let declared = declared.copy()?;
         let initial = Some(value.expr.into_inner());
-        return Ok((plain(declared.copy()?, global_name, initial), rest));
+        return Ok((plain(declared, global_name, initial), rest));
     }
-    let Some(behind) = skip(tokens, TokenKind::Mark, "[") else {
+    let Some(behind) = skip(tokens, TokenKind::Punctuator, "[") else {
         return Ok((plain(declared.copy()?, global_name, None), tokens));
     };
     let (length, rest) = array_length(behind, 1)?;
-    let rest = take(rest, TokenKind::Mark, "]", 0)?;
+    let rest = take(rest, TokenKind::Punctuator, "]", 0)?;
     let (initial, rest) = array_initial(alloc, rest)?;
     let array = Array {
         element: declared.copy()?,
@@ -86,8 +86,7 @@ fn plain(declared: CType, name: Name, initial: Option<Expr>) -> DefKind
 
 /// A number that an array's length is.
 fn array_length(tokens: &[Token], depth: u32) -> Result<(Length, &[Token]), Stop>
-    ensures reads { let m = text_reads (ArrayLength depth) tokens.now in
-        MatchResult result (λ x. m ≡ found (numbered x.0) x.1.now) (λ stop. TextStops stop m) }
+    ensures reads { FindsText (text_reads (ArrayLength depth) tokens.now) (λ x. found (numbered x.0) x.1.now) result }
     ensures within { IfOk result (λ x. length x.1.now < length tokens.now) }
 {
     let Some((token, rest)) = tokens.split_first() else {
@@ -109,41 +108,39 @@ fn array_length(tokens: &[Token], depth: u32) -> Result<(Length, &[Token]), Stop
     Ok((length, rest))
 }
 
-/// An array's initialisers behind `=`, or nothing.
+/// An array's initialisers after `=`, or nothing.
 fn array_initial<'a>(
     alloc: Global,
     tokens: &'a [Token],
 ) -> Result<(Option<List<Expr>>, &'a [Token]), Stop>
-    ensures reads { let m = text_reads ArrayInitial tokens.now in
-        MatchResult result (λ x. m ≡ found (listed x.0) x.1.now) (λ stop. TextStops stop m) }
+    ensures reads { FindsText (text_reads ArrayInitial tokens.now) (λ x. found (listed x.0) x.1.now) result }
     ensures within { IfOk result (λ x. length x.1.now ≤ length tokens.now) }
 {
-    let Some(behind) = skip(tokens, TokenKind::Mark, "=") else {
+    let Some(behind) = skip(tokens, TokenKind::Punctuator, "=") else {
         return Ok((None, tokens));
     };
     let (list, rest) = initialisers(alloc, behind)?;
     Ok((Some(list), rest))
 }
 
-/// An array's initialisers in braces, with commas between and maybe one behind the last.
+/// An array's initialisers in braces, with commas between and maybe one after the last.
 fn initialisers<'a>(alloc: Global, tokens: &'a [Token]) -> Result<(List<Expr>, &'a [Token]), Stop>
-    ensures reads { (k : List Expr → TextPlan) → (let m = text_parsed (values_then k) tokens.now in
-        MatchResult result (λ x. m ≡ text_parsed (k x.0) x.1.now) (λ stop. TextStops stop m)) }
+    ensures reads { (k : List Expr → TextPlan) → FindsText (text_parsed (values_then k) tokens.now) (λ x. text_parsed (k x.0) x.1.now) result }
     ensures within { IfOk result (λ x. length x.1.now < length tokens.now) }
 {
-    let rest = take(tokens, TokenKind::Mark, "{", 0)?;
+    let rest = take(tokens, TokenKind::Punctuator, "{", 0)?;
     let (first, behind) = conditional(alloc, rest, 1)?;
     let mut list = Vec::new(alloc);
     push(&mut list, first.expr.into_inner())?;
     let mut rest = behind;
-    while let Some(behind) = skip(rest, TokenKind::Mark, ",") {
-        if let Some(end) = skip(behind, TokenKind::Mark, "}") {
+    while let Some(behind) = skip(rest, TokenKind::Punctuator, ",") {
+        if let Some(end) = skip(behind, TokenKind::Punctuator, "}") {
             return Ok((List::of(list), end));
         }
         let (next, behind) = conditional(alloc, behind, 1)?;
         push(&mut list, next.expr.into_inner())?;
         rest = behind;
     }
-    let rest = take(rest, TokenKind::Mark, "}", 0)?;
+    let rest = take(rest, TokenKind::Punctuator, "}", 0)?;
     Ok((List::of(list), rest))
 }

@@ -1,7 +1,7 @@
-ghost use Rattle.std.specs.Prelude.{◌≡◌, ◌∷◌, ◌++◌, ◌<◌, ◌≤◌, [], length, IfOk, MatchResult};
+ghost use Rattle.std.specs.Prelude.{◌≡◌, ◌∷◌, ◌++◌, ◌<◌, ◌≤◌, [], length, IfOk};
 ghost use Rattle.c_expr_parser.specs.Definitions.{def};
-ghost use Rattle.c_parser.specs.TextWalk.{Item, Declared, Tagged, typed_item, text_parsed, text_reads, TextStops};
-ghost use Rattle.c_parser.specs.Parts.{Makes};
+ghost use Rattle.c_parser.specs.TextPlans.{Item, Declared, Tagged, typed_item, text_parsed, text_reads};
+ghost use Rattle.c_parser.specs.Parts.{Adds};
 
 use crate::ahead::is_ahead;
 use crate::function::function;
@@ -14,14 +14,13 @@ use c_lexer::{Token, TokenKind};
 use c_tree::{CType, Def, DefKind, Name};
 use std::alloc::Global;
 
-/// What stands at the first level of a text (6.9), added to the definitions before.
+/// What is at the first level of a text (6.9), added to the definitions before.
 pub fn item<'a>(
     alloc: Global,
     before: Vec<Def>,
     tokens: &'a [Token],
 ) -> Result<(Vec<Def>, &'a [Token]), Stop>
-    ensures reads { let m = text_reads Item tokens.now in
-        MatchResult result (λ x. Makes m (length tokens.now) before.items x.0.items x.1.now) (λ stop. TextStops stop m) }
+    ensures reads { Adds (text_reads Item tokens.now) (length tokens.now) before.items (λ x. x.0.items) (λ x. x.1.now) result }
     ensures within { IfOk result (λ x. length x.1.now < length tokens.now) }
 {
     let Some((first, rest)) = tokens.split_first() else {
@@ -34,7 +33,7 @@ pub fn item<'a>(
         let (tag, rest) = name(rest, 0)?;
         return tagged(alloc, before, first.at, tag, tokens, rest);
     }
-    if is(first, TokenKind::Profile, "dsu_transform") {
+    if is(first, TokenKind::LibraryWord, "dsu_transform") {
         let (def, rest) = transformer(alloc, first.at, rest)?;
         let mut list = before;
         push(&mut list, def)?;
@@ -43,14 +42,13 @@ pub fn item<'a>(
     declared(alloc, before, tokens)
 }
 
-/// What may stand behind `static` (6.7.1): a function, a mutex or globals.
+/// What may come after `static` (6.7.1): a function, a mutex or globals.
 fn declared<'a>(
     alloc: Global,
     before: Vec<Def>,
     tokens: &'a [Token],
 ) -> Result<(Vec<Def>, &'a [Token]), Stop>
-    ensures reads { let m = text_reads Declared tokens.now in
-        MatchResult result (λ x. Makes m (length tokens.now) before.items x.0.items x.1.now) (λ stop. TextStops stop m) }
+    ensures reads { Adds (text_reads Declared tokens.now) (length tokens.now) before.items (λ x. x.0.items) (λ x. x.1.now) result }
     ensures within { IfOk result (λ x. length x.1.now < length tokens.now) }
 {
     let Some((first, rest)) = tokens.split_first() else {
@@ -63,9 +61,9 @@ fn declared<'a>(
         push(&mut list, def)?;
         return Ok((list, rest));
     }
-    if is(first, TokenKind::Profile, "mtx_t") {
+    if is(first, TokenKind::LibraryWord, "mtx_t") {
         let (mutex, rest) = name(rest, 0)?;
-        let rest = take(rest, TokenKind::Mark, ";", 0)?;
+        let rest = take(rest, TokenKind::Punctuator, ";", 0)?;
         let mut list = before;
         push(&mut list, def_of(first.at, DefKind::Mutex(mutex)))?;
         return Ok((list, rest));
@@ -81,7 +79,7 @@ fn def_of(place: usize, kind: DefKind) -> Def
     Def { place, kind }
 }
 
-/// A function or globals behind a type, which begins at a place. All tokens are those from the type on.
+/// A function or globals after a type, which begins at a place. All tokens are those from the type on.
 fn typed<'a>(
     alloc: Global,
     before: Vec<Def>,
@@ -91,12 +89,11 @@ fn typed<'a>(
     tokens: &'a [Token],
 ) -> Result<(Vec<Def>, &'a [Token]), Stop>
     requires { length tokens.now ≤ length all.now }
-    ensures reads { let m = text_parsed (typed_item start declared) tokens.now in
-        MatchResult result (λ x. Makes m (length all.now) before.items x.0.items x.1.now) (λ stop. TextStops stop m) }
+    ensures reads { Adds (text_parsed (typed_item start declared) tokens.now) (length all.now) before.items (λ x. x.0.items) (λ x. x.1.now) result }
     ensures within { IfOk result (λ x. length x.1.now < length tokens.now) }
 {
     let (first, rest) = name(tokens, 0)?;
-    if is_ahead(rest, TokenKind::Mark, "(") {
+    if is_ahead(rest, TokenKind::Punctuator, "(") {
         let (def, rest) = function(alloc, start, Some(declared), first, all, rest)?;
         let mut list = before;
         push(&mut list, def)?;
@@ -116,23 +113,22 @@ fn tagged<'a>(
     tokens: &'a [Token],
 ) -> Result<(Vec<Def>, &'a [Token]), Stop>
     requires { length tokens.now ≤ length all.now }
-    ensures reads { let m = text_reads (Tagged start tag) tokens.now in
-        MatchResult result (λ x. Makes m (length all.now) before.items x.0.items x.1.now) (λ stop. TextStops stop m) }
+    ensures reads { Adds (text_reads (Tagged start tag) tokens.now) (length all.now) before.items (λ x. x.0.items) (λ x. x.1.now) result }
     ensures within { IfOk result (λ x. length x.1.now < length tokens.now) }
 {
-    if let Some(rest) = skip(tokens, TokenKind::Mark, "{") {
+    if let Some(rest) = skip(tokens, TokenKind::Punctuator, "{") {
         let (fields, rest) = members(alloc, rest, 1)?;
-        let rest = take(rest, TokenKind::Mark, "}", 0)?;
-        let rest = take(rest, TokenKind::Mark, ";", 0)?;
+        let rest = take(rest, TokenKind::Punctuator, "}", 0)?;
+        let rest = take(rest, TokenKind::Punctuator, ";", 0)?;
         let mut list = before;
         push(&mut list, def_of(start, DefKind::Struct(tag, fields)))?;
         return Ok((list, rest));
     }
-    if let Some(rest) = skip(tokens, TokenKind::Mark, ";") {
+    if let Some(rest) = skip(tokens, TokenKind::Punctuator, ";") {
         let mut list = before;
         push(&mut list, def_of(start, DefKind::Forward(tag)))?;
         return Ok((list, rest));
     }
-    let rest = take(tokens, TokenKind::Mark, "*", 0)?;
+    let rest = take(tokens, TokenKind::Punctuator, "*", 0)?;
     typed(alloc, before, start, CType::Handle(tag), all, rest)
 }

@@ -1,6 +1,6 @@
-ghost use Rattle.std.specs.Prelude.{◌≡◌, ◌<◌, ◌≤◌, ◌++◌, length, IfOk, MatchResult, List};
+ghost use Rattle.std.specs.Prelude.{◌<◌, ◌≤◌, ◌++◌, length, IfOk, List, ◌≡◌, ◌∷◌, [], OnOk};
 ghost use Rattle.c_tree.specs.declared.def.Binding.{Binding};
-ghost use Rattle.c_parser.specs.TextWalk.{TextPlan, text_parsed, TextStops};
+ghost use Rattle.c_parser.specs.TextPlans.{TextPlan, text_parsed, FindsText};
 ghost use Rattle.c_parser.specs.Parts.{names_then, member_line_then, members_then};
 
 use crate::ahead::type_ahead;
@@ -8,9 +8,9 @@ use crate::declaration::star;
 use crate::push::push;
 use c_expr_parser::parts::{Stop, name, shallow, skip, take, type_name};
 use c_lexer::{Token, TokenKind};
-use c_tree::{Binding, CType};
+use c_tree::{Binding, CType, Name};
 use dsu_io::List;
-use std::alloc::Global;
+use std::alloc::{AllocError, Global};
 
 /// The members of a struct (6.7.2.1): one declaration or more.
 pub fn members<'a>(
@@ -18,8 +18,7 @@ pub fn members<'a>(
     tokens: &'a [Token],
     depth: u32,
 ) -> Result<(List<Binding>, &'a [Token]), Stop>
-    ensures reads { (k : List Binding → TextPlan) → (let m = text_parsed (members_then depth k) tokens.now in
-        MatchResult result (λ x. m ≡ text_parsed (k x.0) x.1.now) (λ stop. TextStops stop m)) }
+    ensures reads { (k : List Binding → TextPlan) → FindsText (text_parsed (members_then depth k) tokens.now) (λ x. text_parsed (k x.0) x.1.now) result }
     ensures within { IfOk result (λ x. length x.1.now < length tokens.now) }
 {
     let (first, behind) = member_line(alloc, Vec::new(alloc), tokens, depth)?;
@@ -40,8 +39,7 @@ fn member_line<'a>(
     tokens: &'a [Token],
     depth: u32,
 ) -> Result<(Vec<Binding>, &'a [Token]), Stop>
-    ensures reads { (k : List Binding → TextPlan) → (let m = text_parsed (member_line_then depth (λ bs. k (before.items ++ bs))) tokens.now in
-        MatchResult result (λ x. m ≡ text_parsed (k x.0.items) x.1.now) (λ stop. TextStops stop m)) }
+    ensures reads { (k : List Binding → TextPlan) → FindsText (text_parsed (member_line_then depth (λ bs. k (before.items ++ bs))) tokens.now) (λ x. text_parsed (k x.0.items) x.1.now) result }
     ensures within { IfOk result (λ x. length x.1.now < length tokens.now) }
 {
     let (declared, rest) = type_name(tokens, depth)?;
@@ -56,33 +54,34 @@ fn member_names<'a>(
     tokens: &'a [Token],
     depth: u32,
 ) -> Result<(Vec<Binding>, &'a [Token]), Stop>
-    ensures reads { (k : List Binding → TextPlan) → (let m = text_parsed (names_then depth declared.now (λ bs. k (before.items ++ bs))) tokens.now in
-        MatchResult result (λ x. m ≡ text_parsed (k x.0.items) x.1.now) (λ stop. TextStops stop m)) }
+    ensures reads { (k : List Binding → TextPlan) → FindsText (text_parsed (names_then depth declared.now (λ bs. k (before.items ++ bs))) tokens.now) (λ x. text_parsed (k x.0.items) x.1.now) result }
     ensures within { IfOk result (λ x. length x.1.now < length tokens.now) }
 {
-    let (first, behind) = name(tokens, depth)?;
+    let (first, after_first) = name(tokens, depth)?;
     let mut list = before;
-    push(
-        &mut list,
-        Binding {
-            declared: declared.copy()?,
-            name: first,
-        },
-    )?;
-    let mut rest = behind;
-    while let Some(behind) = skip(rest, TokenKind::Mark, ",") {
+    push_member(&mut list, declared, first)?;
+    let mut rest = after_first;
+    while let Some(after_comma) = skip(rest, TokenKind::Punctuator, ",") {
         shallow(rest, depth)?;
-        let behind = star(declared, behind, depth)?;
-        let (next, behind) = name(behind, depth)?;
-        push(
-            &mut list,
-            Binding {
-                declared: declared.copy()?,
-                name: next,
-            },
-        )?;
-        rest = behind;
+        let after_star = star(declared, after_comma, depth)?;
+        let (next, after_next) = name(after_star, depth)?;
+        push_member(&mut list, declared, next)?;
+        rest = after_next;
     }
-    let rest = take(rest, TokenKind::Mark, ";", depth)?;
+    let rest = take(rest, TokenKind::Punctuator, ";", depth)?;
     Ok((list, rest))
+}
+
+/// Adds a member of a type and a name to a list.
+fn push_member(list: &mut Vec<Binding>, declared: &CType, member: Name) -> Result<(), AllocError>
+    ensures { OnOk result (list.new.items ≡ list.old.items ++ record { declared = declared.now; name = member } ∷ []) }
+{
+    let declared = declared.copy()?;
+    push(
+        list,
+        Binding {
+            declared,
+            name: member,
+        },
+    )
 }

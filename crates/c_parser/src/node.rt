@@ -1,7 +1,7 @@
 ghost use Rattle.std.specs.Prelude.{◌≡◌};
 ghost use Rattle.c_expr_parser.specs.Statements.{stmt};
 ghost use Rattle.c_tree.specs.declared.stmt.StmtNode.TheVariants.{While, DoWhile, For};
-ghost use Rattle.c_parser.specs.TextWalk.{if_else};
+ghost use Rattle.c_parser.specs.TextPlans.{if_else};
 ghost use Rattle.c_parser.specs.Parts.{else_found};
 
 use crate::simple::made;

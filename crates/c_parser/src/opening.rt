@@ -5,7 +5,7 @@ use c_lexer::{Token, TokenKind};
 
 /// The keywords that begin statements.
 #[derive(Clone, Copy)]
-pub enum Word {
+pub enum StatementWord {
     If,
     While,
     Do,
@@ -18,7 +18,7 @@ pub enum Word {
 /// What begins a statement other than an expression's.
 #[derive(Clone, Copy)]
 pub enum Opening {
-    Begun(Word),
+    Begun(StatementWord),
     /// `dsu_update`
     Update,
     /// `dsu_tx`
@@ -30,17 +30,17 @@ pub enum Opening {
 }
 
 /// The keyword that begins a statement and has a spelling.
-fn word_of(spelling: &str) -> Option<Word>
+fn word_of(spelling: &str) -> Option<StatementWord>
     ensures { result ≡ word_of spelling.now }
 {
     match spelling {
-        "if" => Some(Word::If),
-        "while" => Some(Word::While),
-        "do" => Some(Word::Do),
-        "for" => Some(Word::For),
-        "break" => Some(Word::Break),
-        "continue" => Some(Word::Continue),
-        "return" => Some(Word::Return),
+        "if" => Some(StatementWord::If),
+        "while" => Some(StatementWord::While),
+        "do" => Some(StatementWord::Do),
+        "for" => Some(StatementWord::For),
+        "break" => Some(StatementWord::Break),
+        "continue" => Some(StatementWord::Continue),
+        "return" => Some(StatementWord::Return),
         _ => None,
     }
 }
@@ -52,12 +52,12 @@ pub fn opening_of(token: &Token) -> Option<Opening>
     let spelling = token.text.as_str();
     match token.kind {
         TokenKind::Keyword => Some(Opening::Begun(word_of(spelling)?)),
-        TokenKind::Profile => match spelling {
+        TokenKind::LibraryWord => match spelling {
             "dsu_update" => Some(Opening::Update),
             "dsu_tx" => Some(Opening::Transaction),
             _ => None,
         },
-        TokenKind::Mark => match spelling {
+        TokenKind::Punctuator => match spelling {
             "{" => Some(Opening::Brace),
             ";" => Some(Opening::Semicolon),
             _ => None,

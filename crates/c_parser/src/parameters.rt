@@ -1,5 +1,5 @@
-ghost use Rattle.std.specs.Prelude.{◌≡◌, ◌≤◌, length, IfOk, MatchResult};
-ghost use Rattle.c_parser.specs.TextWalk.{ParameterList, parameters, found, text_parsed, text_reads, TextStops};
+ghost use Rattle.std.specs.Prelude.{◌≤◌, length, IfOk};
+ghost use Rattle.c_parser.specs.TextPlans.{ParameterList, parameters, found, text_parsed, text_reads, FindsText};
 ghost use Rattle.c_parser.specs.Parts.{named_plan, unnamed_plan};
 
 use crate::ahead::{name_ahead, type_ahead};
@@ -16,8 +16,7 @@ pub fn parameters<'a>(
     tokens: &'a [Token],
     depth: u32,
 ) -> Result<(Parameters, &'a [Token]), Stop>
-    ensures reads { let m = text_reads (ParameterList depth) tokens.now in
-        MatchResult result (λ x. m ≡ found (parameters x.0) x.1.now) (λ stop. TextStops stop m) }
+    ensures reads { FindsText (text_reads (ParameterList depth) tokens.now) (λ x. found (parameters x.0) x.1.now) result }
     ensures within { IfOk result (λ x. length x.1.now ≤ length tokens.now) }
 {
     if let Some(rest) = skip(tokens, TokenKind::Keyword, "void") {
@@ -35,15 +34,14 @@ pub fn parameters<'a>(
     }
 }
 
-/// Parameters with names, behind the first one's type.
+/// Parameters with names, after the first one's type.
 fn named<'a>(
     alloc: Global,
     declared: CType,
     tokens: &'a [Token],
     depth: u32,
 ) -> Result<(Parameters, &'a [Token]), Stop>
-    ensures reads { let m = text_parsed (named_plan depth declared) tokens.now in
-        MatchResult result (λ x. m ≡ found (parameters x.0) x.1.now) (λ stop. TextStops stop m) }
+    ensures reads { FindsText (text_parsed (named_plan depth declared) tokens.now) (λ x. found (parameters x.0) x.1.now) result }
     ensures within { IfOk result (λ x. length x.1.now ≤ length tokens.now) }
 {
     let (first, behind) = name(tokens, depth)?;
@@ -56,7 +54,7 @@ fn named<'a>(
         },
     )?;
     let mut rest = behind;
-    while let Some(behind) = skip(rest, TokenKind::Mark, ",") {
+    while let Some(behind) = skip(rest, TokenKind::Punctuator, ",") {
         shallow(rest, depth)?;
         let (declared, behind) = type_name(behind, depth)?;
         let (next, behind) = name(behind, depth)?;
@@ -72,21 +70,20 @@ fn named<'a>(
     Ok((Parameters::Named(List::of(list)), rest))
 }
 
-/// Parameters without names, behind the first type.
+/// Parameters without names, after the first type.
 fn unnamed<'a>(
     alloc: Global,
     declared: CType,
     tokens: &'a [Token],
     depth: u32,
 ) -> Result<(Parameters, &'a [Token]), Stop>
-    ensures reads { let m = text_parsed (unnamed_plan depth declared) tokens.now in
-        MatchResult result (λ x. m ≡ found (parameters x.0) x.1.now) (λ stop. TextStops stop m) }
+    ensures reads { FindsText (text_parsed (unnamed_plan depth declared) tokens.now) (λ x. found (parameters x.0) x.1.now) result }
     ensures within { IfOk result (λ x. length x.1.now ≤ length tokens.now) }
 {
     let mut list = Vec::new(alloc);
     push(&mut list, declared)?;
     let mut rest = tokens;
-    while let Some(behind) = skip(rest, TokenKind::Mark, ",") {
+    while let Some(behind) = skip(rest, TokenKind::Punctuator, ",") {
         shallow(rest, depth)?;
         let (next, behind) = type_name(behind, depth)?;
         push(&mut list, next)?;

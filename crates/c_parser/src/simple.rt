@@ -1,10 +1,10 @@
-ghost use Rattle.std.specs.Prelude.{◌≡◌, ◌<◌, ◌≤◌, ◌+◌, length, IfOk, MatchResult, Option, None};
+ghost use Rattle.std.specs.Prelude.{◌≡◌, ◌<◌, ◌≤◌, ◌+◌, length, IfOk, Option, None};
 ghost use Rattle.c_tree.specs.declared.expr.Expr.{Expr};
 ghost use Rattle.c_tree.specs.declared.stmt.Stmt.{Stmt};
 ghost use Rattle.c_expr_parser.specs.Readings.{most_depth};
 ghost use Rattle.c_expr_parser.specs.Statements.{stmt};
 ghost use Rattle.c_expr_parser.specs.Tables.{prefix_of};
-ghost use Rattle.c_parser.specs.TextWalk.{TextPlan, statement, found, returned, simple, test_then, update_statement, text_parsed, TextStops};
+ghost use Rattle.c_parser.specs.TextPlans.{TextPlan, statement, found, returned, simple, test_then, update_statement, text_parsed, FindsText};
 ghost use Rattle.c_parser.specs.Parts.{return_plan, optional_then, evaluate_then};
 
 use crate::ahead::is_ahead;
@@ -28,11 +28,10 @@ pub fn simple<'a>(
     tokens: &'a [Token],
     depth: u32,
 ) -> Result<(Stmt, &'a [Token]), Stop>
-    ensures reads { let m = text_parsed (simple depth start node) tokens.now in
-        MatchResult result (λ x. m ≡ found (statement x.0) x.1.now) (λ stop. TextStops stop m) }
+    ensures reads { FindsText (text_parsed (simple depth start node) tokens.now) (λ x. found (statement x.0) x.1.now) result }
     ensures within { IfOk result (λ x. length x.1.now < length tokens.now) }
 {
-    let rest = take(tokens, TokenKind::Mark, ";", depth)?;
+    let rest = take(tokens, TokenKind::Punctuator, ";", depth)?;
     Ok((made(start, node), rest))
 }
 
@@ -44,12 +43,11 @@ pub fn evaluate<'a>(
     depth: u32,
 ) -> Result<(Stmt, &'a [Token]), Stop>
     requires { depth ≤ most_depth + 1 }
-    ensures reads { (k : Stmt → TextPlan) → (let m = text_parsed (evaluate_then depth start k) tokens.now in
-        MatchResult result (λ x. m ≡ text_parsed (k x.0) x.1.now) (λ stop. TextStops stop m)) }
+    ensures reads { (k : Stmt → TextPlan) → FindsText (text_parsed (evaluate_then depth start k) tokens.now) (λ x. text_parsed (k x.0) x.1.now) result }
     ensures within { IfOk result (λ x. length x.1.now < length tokens.now) }
 {
     let (value, rest) = assignment(alloc, tokens, depth)?;
-    let rest = take(rest, TokenKind::Mark, ";", depth)?;
+    let rest = take(rest, TokenKind::Punctuator, ";", depth)?;
     let node = StmtNode::Evaluate(value.expr.into_inner());
     Ok((made(start, node), rest))
 }
@@ -61,36 +59,34 @@ pub fn test<'a>(
     depth: u32,
 ) -> Result<(Boxed<Expr>, &'a [Token]), Stop>
     requires { depth ≤ most_depth }
-    ensures reads { (k : Expr → TextPlan) → (let m = text_parsed (test_then depth k) tokens.now in
-        MatchResult result (λ x. m ≡ text_parsed (k x.0) x.1.now) (λ stop. TextStops stop m)) }
+    ensures reads { (k : Expr → TextPlan) → FindsText (text_parsed (test_then depth k) tokens.now) (λ x. text_parsed (k x.0) x.1.now) result }
     ensures within { IfOk result (λ x. length x.1.now < length tokens.now) }
 {
-    let rest = take(tokens, TokenKind::Mark, "(", depth)?;
+    let rest = take(tokens, TokenKind::Punctuator, "(", depth)?;
     let (value, rest) = assignment(alloc, rest, depth + 1)?;
-    let rest = take(rest, TokenKind::Mark, ")", depth)?;
+    let rest = take(rest, TokenKind::Punctuator, ")", depth)?;
     Ok((value.expr, rest))
 }
 
-/// An expression or nothing, and the mark behind it, which begins no expression.
+/// An expression or nothing, and the punctuator after it, which begins no expression.
 pub fn optional<'a>(
     alloc: Global,
     tokens: &'a [Token],
     depth: u32,
-    mark: &str,
-    mark_depth: u32,
+    punctuator: &str,
+    punctuator_depth: u32,
 ) -> Result<(Option<Boxed<Expr>>, &'a [Token]), Stop>
     requires shallow { depth ≤ most_depth + 1 }
-    requires ends { prefix_of mark.now ≡ None }
-    ensures reads { (k : Option Expr → TextPlan) → (let m = text_parsed (optional_then depth mark.now mark_depth k) tokens.now in
-        MatchResult result (λ x. m ≡ text_parsed (k x.0) x.1.now) (λ stop. TextStops stop m)) }
+    requires ends { prefix_of punctuator.now ≡ None }
+    ensures reads { (k : Option Expr → TextPlan) → FindsText (text_parsed (optional_then depth punctuator.now punctuator_depth k) tokens.now) (λ x. text_parsed (k x.0) x.1.now) result }
     ensures within { IfOk result (λ x. length x.1.now < length tokens.now) }
 {
-    if is_ahead(tokens, TokenKind::Mark, mark) {
-        let rest = take(tokens, TokenKind::Mark, mark, mark_depth)?;
+    if is_ahead(tokens, TokenKind::Punctuator, punctuator) {
+        let rest = take(tokens, TokenKind::Punctuator, punctuator, punctuator_depth)?;
         return Ok((None, rest));
     }
     let (value, rest) = assignment(alloc, tokens, depth)?;
-    let rest = take(rest, TokenKind::Mark, mark, mark_depth)?;
+    let rest = take(rest, TokenKind::Punctuator, punctuator, punctuator_depth)?;
     Ok((Some(value.expr), rest))
 }
 
@@ -102,8 +98,7 @@ pub fn return_statement<'a>(
     depth: u32,
 ) -> Result<(Stmt, &'a [Token]), Stop>
     requires { depth ≤ most_depth }
-    ensures reads { let m = text_parsed (return_plan depth start) tokens.now in
-        MatchResult result (λ x. m ≡ found (statement x.0) x.1.now) (λ stop. TextStops stop m) }
+    ensures reads { FindsText (text_parsed (return_plan depth start) tokens.now) (λ x. found (statement x.0) x.1.now) result }
     ensures within { IfOk result (λ x. length x.1.now < length tokens.now) }
 {
     let (value, rest) = optional(alloc, tokens, depth, ";", depth)?;
@@ -126,11 +121,10 @@ pub fn update<'a>(
     tokens: &'a [Token],
     depth: u32,
 ) -> Result<(Stmt, &'a [Token]), Stop>
-    ensures reads { let m = text_parsed (update_statement depth start) tokens.now in
-        MatchResult result (λ x. m ≡ found (statement x.0) x.1.now) (λ stop. TextStops stop m) }
+    ensures reads { FindsText (text_parsed (update_statement depth start) tokens.now) (λ x. found (statement x.0) x.1.now) result }
     ensures within { IfOk result (λ x. length x.1.now < length tokens.now) }
 {
-    let rest = take(tokens, TokenKind::Mark, "(", depth)?;
-    let rest = take(rest, TokenKind::Mark, ")", depth)?;
+    let rest = take(tokens, TokenKind::Punctuator, "(", depth)?;
+    let rest = take(rest, TokenKind::Punctuator, ")", depth)?;
     simple(start, StmtNode::Update, rest, depth)
 }

@@ -133,7 +133,7 @@ abbrev pub declared_value : {T : Type 0} → Step T → Option T
 declared_value (Enter outer) = None
 declared_value (Declare d) = Some d.value
 
--- what stands at a place of the steps
+-- what is at a place of the steps
 pub stands_within : {T : Type 0} (steps : List (Step T)) (place : ℕ) (d : Declaration T) → slice_get (reverse (reverse steps)) place ≡ Some (Declare d) → place < length steps
 stands_within steps place d at = slice_get_within steps place (Declare d) (subst (λ xs. slice_get xs place ≡ Some (Declare d)) (reverse-reverse steps) at)
 

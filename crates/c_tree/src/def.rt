@@ -80,7 +80,7 @@ pub struct StructTransform {
 /// One definition or declaration of a text's first level; a declarator of a global is one by itself.
 #[derive(Debug, Drop)]
 pub struct Def {
-    /// The first byte of its first token behind `static`, counted in bytes from 0.
+    /// The first byte of its first token after `static`, counted in bytes from 0.
     pub place: usize,
     pub kind: DefKind,
 }
@@ -110,7 +110,7 @@ pub struct Program {
 }
 
 impl Def {
-    /// A copy, places and numbers of tokens and all. It fails for want of memory alone.
+    /// A copy, places and numbers of tokens and all. It fails only when out of memory.
     pub fn copy_def(&self, alloc: Global) -> Result<Def, AllocError>
         ensures { IfOk result (λ copy. copy ≡ self.now) }
     {

@@ -69,7 +69,7 @@ pub enum ExprNode<E> {
     Print {
         /// The first string's first byte.
         place: usize,
-        /// The adjacent strings' bytes, one after another, without quotes and behind their escapes.
+        /// The adjacent strings' bytes, one after another, without quotes and after their escapes.
         format: Text,
         arguments: List<E>,
     },

@@ -1,5 +1,5 @@
 -- Names that are declared in one block, one after another, and lists of types.
-use Rattle.std.proofs.Common.{◌≡◌, ℕ, ◌+◌, ◌<◌, Bool, true, false, not, ◌||◌, ◌&&◌, List, [], ◌∷◌, ◌++◌, map, drop, length, get_or, Option, None, Some, is_some, refl, sym, ap, ◌∙◌, arith, append_assoc, bytes_eq, if◌then◌else◌}
+use Rattle.std.proofs.Common.{◌≡◌, ℕ, ◌+◌, ◌<◌, Bool, true, false, not, ◌||◌, ◌&&◌, List, [], ◌∷◌, ◌++◌, drop, length, get_or, Option, None, Some, is_some, refl, sym, ap, ◌∙◌, arith, append_assoc, bytes_eq, if◌then◌else◌}
 use Rattle.std.specs.Option.{option_or}
 use Rattle.std.specs.List.{list_any}
 use Rattle.std.proofs.lemmas.List.{at_drop_more}
@@ -12,11 +12,11 @@ use Rattle.c_types.specs.declared.fault.Fault.{Fault}
 use Rattle.c_types.specs.declared.fault.TypeKind.TheVariants.{DeclaredTwice}
 use Rattle.c_types.specs.Faults.{first, sooner, unless}
 use Rattle.c_types.specs.Found.{same_type}
-use Rattle.c_types.specs.Lookup.{Scopes, declare, is_repeated, types_of}
+use Rattle.c_types.specs.Lookup.{Scopes, declare, is_repeated}
 use Rattle.c_types.specs.Expressions.{unknown_tag}
 use Rattle.c_types.specs.Definitions.{bindings, same_types, with_parameters}
 use Rattle.c_types.proofs.Firsts.{first_append, sooner_of_three}
-use Rattle.c_types.proofs.Index.{one_more, one_more_is, looked_more}
+use Rattle.c_types.proofs.Index.{one_more, one_more_is, look_up_one_more}
 
 -- what is wrong with one of them
 abbrev pub binding_faults : List Def → Scopes → Binding → List Fault
@@ -44,11 +44,11 @@ bound_is text before table (b ∷ bs) same =
     ∙ ap (λ more. unknown_tag text b.declared ++ (unless (not (list_any (bytes_eq b.name.text) before)) DeclaredTwice b.name.place ++ more))
     (ap (λ scopes. bound_by text scopes bs) (one_more_is table b.name.text b.declared)
     ∙ bound_is text (b.name.text ∷ before) (one_more b.name.text b.declared table) bs
-    (λ name. ap is_some (looked_more table b.name.text b.declared name)
+    (λ name. ap is_some (look_up_one_more table b.name.text b.declared name)
     ∙ some_of_two (look_up table name) (bytes_eq name b.name.text) b.declared
     ∙ ap (λ x. bytes_eq name b.name.text || x) (same name)))
 
--- all of them, behind none
+-- all of them, after none
 pub bound_behind_none : (text : List Def) (bs : List Binding) → bound_by text ([] ∷ []) bs ≡ bindings text [] bs
 bound_behind_none text bs = bound_is text [] [] bs (λ name. refl)
 

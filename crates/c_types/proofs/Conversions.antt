@@ -1,4 +1,4 @@
--- A format is read from the front: what is left of it takes what is left of the arguments.
+-- A format is read from the prefix: what is left of it takes what is left of the arguments.
 use Rattle.std.proofs.Common.{◌≡◌, ℕ, ◌-◌, ◌≤◌, nat_eq, length, drop, length-drop, arith, true, false, ◌&&◌, List, [], ◌∷◌, ◌++◌, Option, Some, None, option_map, refl, ◌∙◌, ap}
 use Rattle.c_ints.specs.declared.kind.Kind.{Kind}
 use Rattle.c_types.specs.declared.format.Reading.{Reading}

@@ -11,10 +11,9 @@ use Rattle.c_tree.specs.declared.def.DefKind.{DefKind}
 use Rattle.c_tree.specs.declared.def.DefKind.TheVariants as kind
 use Rattle.c_types.specs.declared.key.Key.{Key}
 use Rattle.c_types.specs.declared.key.Key.TheVariants as by
-use Rattle.c_types.specs.Lookup.{name_of, definition_of, members_of, members_in, struct_of, is_named}
+use Rattle.c_types.specs.Lookup.{definition_of, members_of, members_in, struct_of}
 use Rattle.c_types.specs.Index.{is_key, key_of, keys, new_key}
-use Rattle.c_types.specs.Definitions.{name_added, names_of, declared_by, cells_in, cells_of}
-use Rattle.c_types.specs.Statements.{total}
+use Rattle.c_types.specs.Definitions.{name_added, names_of, cells_in, cells_of}
 use Rattle.c_types.specs.TransformSyntax.{of_struct, of_global}
 use Rattle.c_types.proofs.Index.{named_found, struct_found}
 
@@ -165,7 +164,7 @@ keys_behind : (by : Key) (ds : List Def) (d : Def) → keys by (ds ++ d ∷ []) 
 keys_behind by [] d = refl
 keys_behind by (x ∷ ds) d = ap (λ ks. key_of by x.kind ∷ ks) (keys_behind by ds d)
 
--- a definition behind others adds to their names
+-- a definition after others adds to their names
 pub names_more : (ds : List Def) (d : Def) → names_of (ds ++ d ∷ []) ≡ names_of ds + name_added ds d.kind
 names_more ds d =
     let a = distinct_names (ds ++ d ∷ []) in

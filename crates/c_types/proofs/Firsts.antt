@@ -1,4 +1,4 @@
--- The first of two lists of faults, one behind the other, is the first of the first of each.
+-- The first of two lists of faults, one after the other, is the first of the first of each.
 use Rattle.std.specs.Prelude.{◌≡◌, ℕ, Bool, true, false, nat_lt, ◌==◌, ◌&&◌, ◌||◌, List, [], ◌∷◌, ◌++◌, Option, Some, None}
 use Rattle.std.proofs.Common.{◌+◌, ◌<◌, length, get_or, drop, refl, ◌∙◌, sym, ap, arith, ◌<◌}
 use Rattle.std.specs.List.{flat_map}
@@ -9,7 +9,7 @@ use Rattle.c_types.specs.declared.found.Part.{Part}
 use Rattle.c_types.specs.Lookup.{types_of}
 use Rattle.c_types.specs.Found.{converts, required}
 use Rattle.std.specs.Option.{option_or}
-use Rattle.c_types.specs.Expressions.{converted}
+use Rattle.c_types.specs.Expressions.{conversion_faults}
 use Rattle.c_types.specs.Statements.{hiding}
 use Rattle.c_types.specs.Faults.{number_of, is_before, earlier, sooner, first}
 
@@ -57,10 +57,10 @@ sooner_none None = refl
 sooner_none (Some a) = refl
 
 -- one step along a list: what was found so far, with the first fault of the rest
-pub along : {A : Type 0} (f : A → List Fault) (xs : List A) (i : ℕ) (x : A) (now next : Option Fault) → i < length xs →
+pub faults_step : {A : Type 0} (f : A → List Fault) (xs : List A) (i : ℕ) (x : A) (now next : Option Fault) → i < length xs →
     x ≡ get_or xs i x → next ≡ sooner now (first (f x)) →
     sooner next (first (flat_map f (drop (i + 1) xs))) ≡ sooner now (first (flat_map f (drop i xs)))
-along f xs i x now next below is made =
+faults_step f xs i x now next below is made =
     let rest : List Fault = flat_map f (drop (i + 1) xs) in
     ap (λ n. sooner n (first rest)) made
     ∙ sym (sooner_of_three now (first (f x)) (first rest))
@@ -70,22 +70,22 @@ along f xs i x now next below is made =
     ∙ sym (at_drop_more (λ ys. first (flat_map f ys)) xs i x below))
 
 -- the same along the parameters and arguments of a call
-pub along_both : (bs : List Binding) (xs : List Part) (i : ℕ) (b : Binding) (x : Part) (now next : Option Fault) →
+pub conversion_faults_step : (bs : List Binding) (xs : List Part) (i : ℕ) (b : Binding) (x : Part) (now next : Option Fault) →
     i < length bs → i < length xs → b ≡ get_or bs i b → x ≡ get_or xs i x →
     next ≡ sooner now (first (required (converts b.declared x.found) x)) →
-    sooner next (first (converted (types_of (drop (i + 1) bs)) (drop (i + 1) xs)))
-    ≡ sooner now (first (converted (types_of (drop i bs)) (drop i xs)))
-along_both bs xs i b x now next below within b_is x_is made =
+    sooner next (first (conversion_faults (types_of (drop (i + 1) bs)) (drop (i + 1) xs)))
+    ≡ sooner now (first (conversion_faults (types_of (drop i bs)) (drop i xs)))
+conversion_faults_step bs xs i b x now next below within b_is x_is made =
     let faults : Binding → Part → List Fault = λ c y. required (converts c.declared y.found) y in
-    let rest : List Fault = converted (types_of (drop (i + 1) bs)) (drop (i + 1) xs) in
+    let rest : List Fault = conversion_faults (types_of (drop (i + 1) bs)) (drop (i + 1) xs) in
     ap (λ n. sooner n (first rest)) made
     ∙ sym (sooner_of_three now (first (faults b x)) (first rest))
     ∙ ap (sooner now)
     (sym (first_append (faults b x) rest)
     ∙ ap (λ c. first (faults c x ++ rest)) b_is
     ∙ ap (λ y. first (faults (get_or bs i b) y ++ rest)) x_is
-    ∙ sym (at_drop_more (λ cs. first (converted (types_of cs) (drop i xs))) bs i b below
-    ∙ at_drop_more (λ ys. first (converted (types_of (get_or bs i b ∷ drop (i + 1) bs)) ys)) xs i x within))
+    ∙ sym (at_drop_more (λ cs. first (conversion_faults (types_of cs) (drop i xs))) bs i b below
+    ∙ at_drop_more (λ ys. first (conversion_faults (types_of (get_or bs i b ∷ drop (i + 1) bs)) ys)) xs i x within))
 
 -- faults of parts hide those of the whole, also by their first
 pub first_hiding : (parts whole : List Fault) → first (hiding parts whole) ≡ option_or (first parts) (first whole)

@@ -1,14 +1,13 @@
 -- What is found by a table is the first of its list.
-use Rattle.std.proofs.Common.{◌≡◌, ℕ, zero, suc, ◌+◌, ◌<◌, ◌≤◌, Bool, true, false, not, ◌||◌, ltb, List, [], ◌∷◌, ◌++◌, map, take, drop, length, get_or, Option, None, Some, is_some, is_none, refl, sym, ap, subst, ◌∙◌, arith, bytes_eq, if◌then◌else◌, option_map, option_and_then, slice_get}
+use Rattle.std.proofs.Common.{◌≡◌, ℕ, zero, suc, ◌+◌, ◌<◌, Bool, true, false, ◌||◌, ltb, List, [], ◌∷◌, ◌++◌, map, take, drop, length, get_or, Option, None, Some, is_some, refl, sym, ap, ◌∙◌, arith, bytes_eq, if◌then◌else◌, option_map, option_and_then, slice_get}
 use Rattle.std.specs.Option.{option_or}
 use Rattle.std.proofs.lemmas.Bool.Decides.{nat_tests}
 use Rattle.std.proofs.lemmas.List.{at_drop_more}
 use Rattle.std.proofs.lemmas.Option.{slice_get-map}
 use Rattle.std.specs.List.{find, list_any}
-use Rattle.c_scope.specs.Tables.{look_up, look_up_first, innermost, declared}
-use Rattle.c_scope.proofs.NameLemmas.{bytes_same, same_bytes}
+use Rattle.c_scope.specs.Tables.{look_up, innermost, declared}
+use Rattle.c_scope.proofs.NameLemmas.{bytes_same}
 use Rattle.c_tree.specs.BareExpr.{Bytes}
-use Rattle.c_tree.specs.declared.name.CType.{CType}
 use Rattle.c_tree.specs.declared.def.Binding.{Binding}
 use Rattle.c_tree.specs.declared.def.Def.{Def}
 use Rattle.c_tree.specs.declared.def.DefKind.{DefKind}
@@ -16,7 +15,7 @@ use Rattle.c_tree.specs.declared.def.DefKind.TheVariants as kind
 use Rattle.c_types.specs.declared.key.Key.TheVariants as by
 use Rattle.c_types.specs.Expressions.{member}
 use Rattle.c_types.specs.Lookup.{name_of, is_named, defines_tag, declares_tag, definition_of, struct_of, members_in, members_of, is_tag}
-use Rattle.c_types.specs.Index.{is_key, key_of, keys, place_of, stands_before, noted, entered, table_of, own_members, member_keys, member_tables}
+use Rattle.c_types.specs.Index.{is_key, key_of, keys, place_of, stands_before, with_name, with_names, table_of, own_members, member_keys, member_tables}
 
 module _ {T : Type 0} where
   or_none : (o : Option T) → option_or o None ≡ o
@@ -27,10 +26,10 @@ module _ {T : Type 0} where
   or_in_turn None b c = refl
   or_in_turn (Some x) b c = refl
 
-  looked_behind : (table : List (Bytes × T)) (name : Bytes) (value : T) (other : Bytes) →
+  look_up_appended : (table : List (Bytes × T)) (name : Bytes) (value : T) (other : Bytes) →
       look_up (table ++ (name, value) ∷ []) other ≡ option_or (look_up table other) (if bytes_eq other name then Some value else None)
-  looked_behind [] name value other = refl
-  looked_behind (d ∷ ds) name value other = by (bytes_eq other d.0) (looked_behind ds name value other)
+  look_up_appended [] name value other = refl
+  look_up_appended (d ∷ ds) name value other = by (bytes_eq other d.0) (look_up_appended ds name value other)
     where
       by : (b : Bool) → look_up (ds ++ (name, value) ∷ []) other ≡ option_or (look_up ds other) (if bytes_eq other name then Some value else None) →
           (if b then Some d.1 else look_up (ds ++ (name, value) ∷ []) other) ≡ option_or (if b then Some d.1 else look_up ds other) (if bytes_eq other name then Some value else None)
@@ -50,14 +49,14 @@ module _ {T : Type 0} where
       by true = refl
       by false = refl
 
-  pub looked_more : (table : List (Bytes × T)) (name : Bytes) (value : T) (other : Bytes) →
+  pub look_up_one_more : (table : List (Bytes × T)) (name : Bytes) (value : T) (other : Bytes) →
       look_up (one_more name value table) other ≡ option_or (look_up table other) (if bytes_eq other name then Some value else None)
   unfolding one_more
-  looked_more table name value other = by (look_up table name) refl (bytes_eq other name) refl
+  look_up_one_more table name value other = by (look_up table name) refl (bytes_eq other name) refl
     where
       by : (o : Option T) → look_up table name ≡ o → (b : Bool) → bytes_eq other name ≡ b →
           look_up (if is_some o then table else table ++ (name, value) ∷ []) other ≡ option_or (look_up table other) (if b then Some value else None)
-      by None is b same = looked_behind table name value other ∙ ap (λ x. option_or (look_up table other) (if x then Some value else None)) same
+      by None is b same = look_up_appended table name value other ∙ ap (λ x. option_or (look_up table other) (if x then Some value else None)) same
       by (Some v) is true same =
           let here : look_up table other ≡ Some v = ap (look_up table) (bytes_same other name same) ∙ is in
           here ∙ sym (ap (λ o. option_or o (Some value)) here)
@@ -72,15 +71,15 @@ from_here : (n : ℕ) (b : Bool) (o : Option ℕ) →
 from_here n true o = ap Some (omega arith)
 from_here n false o = on_from n o
 
-pub entered_looked : (ks : List (Option Bytes)) (n : ℕ) (table : List (Bytes × ℕ)) (name : Bytes) →
-    innermost (entered ks n (table ∷ [])) name ≡ option_or (look_up table name) (option_map (λ i. n + i) (place_of name ks))
-entered_looked [] n table name = refl
-entered_looked (None ∷ ks) n table name =
-    entered_looked ks (suc n) table name ∙ ap (option_or (look_up table name)) (on_from n (place_of name ks))
-entered_looked (Some k ∷ ks) n table name =
-    ap (λ ts. innermost (entered ks (suc n) ts) name) (one_more_is table k n)
-    ∙ entered_looked ks (suc n) (one_more k n table) name
-    ∙ ap (λ o. option_or o (option_map (λ i. suc n + i) (place_of name ks))) (looked_more table k n name)
+pub look_up_with_names : (ks : List (Option Bytes)) (n : ℕ) (table : List (Bytes × ℕ)) (name : Bytes) →
+    innermost (with_names ks n (table ∷ [])) name ≡ option_or (look_up table name) (option_map (λ i. n + i) (place_of name ks))
+look_up_with_names [] n table name = refl
+look_up_with_names (None ∷ ks) n table name =
+    look_up_with_names ks (suc n) table name ∙ ap (option_or (look_up table name)) (on_from n (place_of name ks))
+look_up_with_names (Some k ∷ ks) n table name =
+    ap (λ ts. innermost (with_names ks (suc n) ts) name) (one_more_is table k n)
+    ∙ look_up_with_names ks (suc n) (one_more k n table) name
+    ∙ ap (λ o. option_or o (option_map (λ i. suc n + i) (place_of name ks))) (look_up_one_more table k n name)
     ∙ or_in_turn (look_up table name) (if bytes_eq name k then Some n else None) (option_map (λ i. suc n + i) (place_of name ks))
     ∙ ap (option_or (look_up table name)) (from_here n (bytes_eq name k) (place_of name ks))
 
@@ -89,8 +88,8 @@ from_zero None = refl
 from_zero (Some i) = ap Some (omega arith)
 
 -- the table has the first place of each name
-pub table_looked : (ks : List (Option Bytes)) (name : Bytes) → innermost (table_of ks) name ≡ place_of name ks
-table_looked ks name = entered_looked ks 0 [] name ∙ from_zero (place_of name ks)
+pub look_up_table : (ks : List (Option Bytes)) (name : Bytes) → innermost (table_of ks) name ≡ place_of name ks
+look_up_table ks name = look_up_with_names ks 0 [] name ∙ from_zero (place_of name ks)
 
 none_before : (o : Option ℕ) → stands_before o 0 ≡ false
 none_before None = refl
@@ -100,7 +99,7 @@ both_less : (a b : ℕ) → ltb (suc a) (suc b) ≡ ltb a b
 both_less a b = grind (arith, nat_tests)
 
 module _ {A : Type 0} (f : A → Option Bytes) (name : Bytes) where
-  -- what stands at the first place of a name is the first of that name
+  -- what is at the first place of a name is the first of that name
   pub found : (xs : List A) → option_and_then (slice_get xs) (place_of name (map f xs)) ≡ find (λ x. is_key name (f x)) xs
   found [] = refl
   found (x ∷ xs) = by (is_key name (f x)) (place_of name (map f xs)) (found xs)
@@ -111,7 +110,7 @@ module _ {A : Type 0} (f : A → Option Bytes) (name : Bytes) where
       by false None rest = rest
       by false (Some i) rest = rest
 
-  -- one of that name stands before a place
+  -- one of that name comes before a place
   pub found_before : (xs : List A) (place : ℕ) → stands_before (place_of name (map f xs)) place ≡ list_any (is_key name) (map f (take place xs))
   found_before [] zero = refl
   found_before [] (suc place) = refl
@@ -137,13 +136,13 @@ module _ {A : Type 0} (f : A → Option Bytes) (name : Bytes) where
 
 -- one step along a list whose names are noted
 pub step : {A : Type 0} (f : A → Option Bytes) (xs : List A) (i : ℕ) (x : A) (tables next : List (List (Bytes × ℕ))) → i < length xs →
-    x ≡ get_or xs i x → next ≡ noted (f x) i tables →
-    entered (map f (drop (i + 1) xs)) (i + 1) next ≡ entered (map f (drop i xs)) i tables
+    x ≡ get_or xs i x → next ≡ with_name (f x) i tables →
+    with_names (map f (drop (i + 1) xs)) (i + 1) next ≡ with_names (map f (drop i xs)) i tables
 step f xs i x tables next below is made =
-    ap (λ n. entered (map f (drop (i + 1) xs)) n next) (omega arith)
-    ∙ ap (entered (map f (drop (i + 1) xs)) (suc i)) made
-    ∙ ap (λ y. entered (map f (drop (i + 1) xs)) (suc i) (noted (f y) i tables)) is
-    ∙ sym (at_drop_more (λ ys. entered (map f ys) i tables) xs i x below)
+    ap (λ n. with_names (map f (drop (i + 1) xs)) n next) (omega arith)
+    ∙ ap (with_names (map f (drop (i + 1) xs)) (suc i)) made
+    ∙ ap (λ y. with_names (map f (drop (i + 1) xs)) (suc i) (with_name (f y) i tables)) is
+    ∙ sym (at_drop_more (λ ys. with_names (map f ys) i tables) xs i x below)
 
 -- definitions that two tests tell alike
 module _ (p q : Def → Bool) (alike : (d : Def) → p d ≡ q d) where
@@ -249,7 +248,7 @@ member_found ds place d tables number name at are is =
     ∙ ap (λ ts. option_and_then (λ t. innermost t name) (slice_get ts place)) are
     ∙ ap (option_and_then (λ t. innermost t name)) (slice_get-map (λ d'. table_of (member_keys (own_members d'.kind))) ds place)
     ∙ ap (λ o. option_and_then (λ t. innermost t name) (option_map (λ d'. table_of (member_keys (own_members d'.kind))) o)) at
-    ∙ table_looked (member_keys members) name)
+    ∙ look_up_table (member_keys members) name)
     ∙ ap (option_map (λ b. b.declared)) (found (λ b. Some b.name.text) name members)
 
 -- a member is found by the tables of all definitions

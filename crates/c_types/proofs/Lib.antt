@@ -2,23 +2,24 @@ pub mod Conversions
 pub mod Bindings
 pub mod Counts
 pub mod Firsts
-pub mod GivenFields
-pub mod InTurn
+pub mod TransformedFields
+pub mod DefinitionsByIndex
 pub mod Index
-pub mod Looks
+pub mod InferredByForm
 pub mod Measures
 pub mod Needs
 pub mod Samples
-pub mod Unrolled
-pub mod Walks
-mod OnNames
-mod OnOperators
-mod OnCalls
-mod OnJumps
-mod OnTexts
-mod OnInitialisers
-mod OnTransformers
-mod OnOrder
-mod OnLimits
-mod OnRows
-mod OnSizes
+pub mod FoldsAtNode
+pub mod StatementsByNode
+pub mod TreesCross
+mod ExampleNames
+mod ExampleOperators
+mod ExampleCalls
+mod ExampleJumps
+mod ExampleTexts
+mod ExampleInitialisers
+mod ExampleTransformers
+mod ExampleOrder
+mod ExampleLimits
+mod ExamplePrograms
+mod ExampleSizes

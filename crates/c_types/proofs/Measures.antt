@@ -1,4 +1,4 @@
--- What is counted in a statement, by its node, and numbers that are told up to 65.
+-- What is counted in a statement, by its node, and numbers that are reported up to 65.
 use Rattle.std.proofs.Common.{◌≡◌, ℕ, ◌+◌, min, max, ◌∙◌, ap, arith}
 use Rattle.c_tree.specs.declared.stmt.Stmt.{Stmt, out-Stmt}
 use Rattle.c_tree.specs.declared.stmt.Stmt.TheFolds.{fold_out-Stmt, map-Stmt}

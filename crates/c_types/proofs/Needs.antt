@@ -21,6 +21,6 @@ pub need_of_print : (e : Expr) (place : ℕ) (format : List ℕ) (list : List Ex
     need e ≡ call_need (map need list)
 need_of_print e place format list is = need_of e (Print place format list) is
 
--- bounded before or behind
+-- bounded before or after
 pub bounded : (k : ℕ) → max (min k 65) 1 ≡ min (max 1 k) 65
 bounded k = grind arith

@@ -27,13 +27,13 @@ use Rattle.c_types.specs.Lookup.Meaning.{AFunction}
 use Rattle.c_types.specs.declared.lookup.Position.TheVariants.{InInitialiser}
 use Rattle.c_types.specs.declared.found.Part.{Part}
 use Rattle.c_types.specs.Found.{required, same_type}
-use Rattle.c_types.specs.Expressions.{is_int, fits, unknown_tag, look}
+use Rattle.c_types.specs.Expressions.{is_int, fits, unknown_tag, infer}
 use Rattle.c_types.specs.Need.{need, optional_need, greatest, body_need}
 use Rattle.c_types.specs.Statements.{Around, hiding, in_order, walk, total, variables}
 use Rattle.c_types.specs.declared.statement.Loop.TheVariants.{Outside}
 use Rattle.c_types.specs.TransformSyntax.{transforms_struct, is_transforming, is_global, of_struct, of_global}
 
--- Limits. What goes past one is told at the first token of the definition.
+-- Limits. What goes past one is reported at the first token of the definition.
 
 -- tokens of a function, its parameters, its variables with the parameters; fields of a struct; the operand need; names of
 -- a text; the cells of all globals and arrays, and the length of an array
@@ -84,7 +84,7 @@ cells_of ds = total (map (λ d. cells_in d.kind) ds)
 
 -- Parts of definitions.
 
--- names with types: members or parameters, behind some that have these names
+-- names with types: members or parameters, after some that have these names
 abbrev pub bindings : List Def → List Bytes → List Binding → List Fault
 bindings text before [] = []
 bindings text before (b ∷ bs) =
@@ -103,19 +103,19 @@ parameter_types (Unnamed types) = types
 
 -- an initialiser of a global
 abbrev pub initialiser : List Def → Expr → Part
-initialiser text e = look (record { text = text; scopes = [] ∷ []; position = InInitialiser }) e
+initialiser text e = infer (record { text = text; scopes = [] ∷ []; position = InInitialiser }) e
 
 -- and converted to its type
-abbrev pub initialised : List Def → CType → Expr → List Fault
-initialised text t e = required (fits text t (initialiser text e).found) (initialiser text e)
+abbrev pub initialiser_faults : List Def → CType → Expr → List Fault
+initialiser_faults text t e = required (fits text t (initialiser text e).found) (initialiser text e)
 
 abbrev pub initial : List Def → CType → Option Expr → List Fault
 initial text t None = []
-initial text t (Some e) = initialised text t e
+initial text t (Some e) = initialiser_faults text t e
 
-abbrev pub listed : Option (List Expr) → List Expr
-listed None = []
-listed (Some es) = es
+abbrev pub initialisers_of : Option (List Expr) → List Expr
+initialisers_of None = []
+initialisers_of (Some es) = es
 
 -- the scopes in a function: its parameters are in the block that its body is
 abbrev pub with_parameters : List Binding → Scopes → Scopes
@@ -216,19 +216,19 @@ global_faults text before d variable =
     ++ (many_names before d ++ many_cells before d))))
 
 -- an array has a length from 1 on, a list that isn't longer, and small initialisers
-abbrev pub is_filled : Array → Bool
-is_filled a =
+abbrev pub is_small_array : Array → Bool
+is_small_array a =
     int_le (pos 1) (value_of a.length.value) && int_le (value_of a.length.value) (pos max_cells)
-    && int_le (pos (length (listed a.initial))) (value_of a.length.value)
-    && nat_le (greatest (map need (listed a.initial))) max_need
+    && int_le (pos (length (initialisers_of a.initial))) (value_of a.length.value)
+    && nat_le (greatest (map need (initialisers_of a.initial))) max_need
 
 -- an array (6.7.6.2, 6.7.9)
 abbrev pub array_faults : List Def → List Def → Def → Array → List Fault
 array_faults text before d a =
-    hiding (flat_map (initialised text a.element) (listed a.initial))
+    hiding (flat_map (initialiser_faults text a.element) (initialisers_of a.initial))
     (unknown_tag text a.element
     ++ (named_twice before a.name
-    ++ (unless (is_filled a) OverLimit d.place ++ (many_names before d ++ many_cells before d))))
+    ++ (unless (is_small_array a) OverLimit d.place ++ (many_names before d ++ many_cells before d))))
 
 -- `dsu_transform struct T { .. }`
 abbrev pub struct_transform_faults : List Def → List Def → Def → StructTransform → List Fault
@@ -255,7 +255,7 @@ kind_faults text before d (kind.Array a) = array_faults text before d a
 kind_faults text before d (kind.TransformStruct t) = struct_transform_faults text before d t
 kind_faults text before d (kind.TransformGlobal name e) = global_transform_faults text before d name e
 
--- the faults of some definitions of a text, which come behind others
+-- the faults of some definitions of a text, which come after others
 abbrev pub all_faults : List Def → List Def → List Def → List Fault
 all_faults text before [] = []
 all_faults text before (d ∷ ds) = kind_faults text before d d.kind ++ all_faults text (before ++ d ∷ []) ds

@@ -37,7 +37,7 @@ use Rattle.c_types.specs.Formats.{fits_format}
 abbrev pub is_condition : Found → Bool
 is_condition found = has_value is_scalar found
 
--- the value is converted to a type; to one of an unknown tag each value is, so that the tag is told
+-- the value is converted to a type; to one of an unknown tag each value is, so that the tag is reported
 abbrev pub fits : List Def → CType → Found → Bool
 fits text t found = if is_known text t then converts t found else is_value found
 
@@ -56,25 +56,25 @@ abbrev pub is_unary_operand : UnOp → Found → Bool
 is_unary_operand op found = if is_not op then is_condition found else has_value is_integer found
 
 -- what is assigned to a place is converted to its type (6.5.16.1p2); to what is no place each value is assigned, so that
--- the place is told
+-- the place is reported
 abbrev pub is_assigned : Found → Found → Bool
 is_assigned (Place t) found = converts t found
 is_assigned _ found = is_value found
 
 -- the arguments of a call, each converted to its parameter's type (6.5.2.2p7)
-abbrev pub converted : List CType → List Part → List Fault
-converted (t ∷ types) (argument ∷ arguments) = required (converts t argument.found) argument ++ converted types arguments
-converted _ _ = []
+abbrev pub conversion_faults : List CType → List Part → List Fault
+conversion_faults (t ∷ types) (argument ∷ arguments) = required (converts t argument.found) argument ++ conversion_faults types arguments
+conversion_faults _ _ = []
 
 -- the arguments, each only to have a value
-abbrev pub valued : List Part → List Fault
-valued arguments = flat_map (λ a. required (is_value a.found) a) arguments
+abbrev pub value_faults : List Part → List Fault
+value_faults arguments = flat_map (λ a. required (is_value a.found) a) arguments
 
--- the arguments where the parameters are known and as many; else each has a value, so that the name or the number is told
-abbrev pub passed : Option Meaning → List Part → List Fault
-passed (Some (AFunction result types)) arguments =
-    if length types == length arguments then converted types arguments else valued arguments
-passed _ arguments = valued arguments
+-- the arguments where the parameters are known and as many; else each has a value, so that the name or the number is reported
+abbrev pub argument_faults : Option Meaning → List Part → List Fault
+argument_faults (Some (AFunction result types)) arguments =
+    if length types == length arguments then conversion_faults types arguments else value_faults arguments
+argument_faults _ arguments = value_faults arguments
 
 abbrev pub is_thread : CType → Bool
 is_thread t = same_type Thread t
@@ -82,9 +82,9 @@ is_thread t = same_type Thread t
 abbrev pub is_int : CType → Bool
 is_int t = same_type int t
 
--- the arguments of a `printf`, each by itself; whether they fit is told at the format
-abbrev pub printed : List Part → List Fault
-printed arguments = flat_map (λ a. required (is_evaluated a.found) a) arguments
+-- the arguments of a `printf`, each by itself; whether they fit is reported at the format
+abbrev pub print_faults : List Part → List Fault
+print_faults arguments = flat_map (λ a. required (is_evaluated a.found) a) arguments
 
 -- the type of the parameter of a function that a thread can run: one that returns int and has one parameter of an integer
 -- or handle type
@@ -110,11 +110,11 @@ parts names (Choice a b c) =
 parts names (Assign a b) = place_required true a ++ required (is_assigned a.found b.found) b
 parts names (Update op a b) =
     place_required (has_value is_integer a.found) a ++ required (has_value is_integer b.found) b
-parts names (Call name arguments) = passed (meaning_of names name) arguments
+parts names (Call name arguments) = argument_faults (meaning_of names name) arguments
 parts names (Element name a) = required (has_value is_integer a.found) a
 parts names (Arrow a field) = required (has_value is_handle a.found) a
 parts names (Dot a field) = required (is_value a.found) a
-parts names (Print place format arguments) = printed arguments
+parts names (Print place format arguments) = print_faults arguments
 parts names (Free a) = required (has_value is_handle a.found) a
 parts names (Create a name b) =
     place_required (has_value is_thread a.found) a
@@ -126,26 +126,26 @@ parts names _ = []
 -- What an expression is whose parts have no faults.
 
 -- a number: of value 0 each handle takes it too
-abbrev pub number : Int → Found
-number n = if is_zero (value_of n) then Zero (kind_of n) else Value (Integer (kind_of n))
+abbrev pub number_type : Int → Found
+number_type n = if is_zero (value_of n) then Zero (kind_of n) else Value (Integer (kind_of n))
 
 -- a name by itself (6.5.1)
-abbrev pub named : Option Meaning → ℕ → Found
-named None at = wrong UnknownName at
-named (Some (AVariable t)) at = Place t
-named (Some _) at = Designator
+abbrev pub name_type : Option Meaning → ℕ → Found
+name_type None at = wrong UnknownName at
+name_type (Some (AVariable t)) at = Place t
+name_type (Some _) at = Designator
 
 -- an element (6.5.2.1): of a name that is no array's it is of a wrong type
-abbrev pub element : Option Meaning → ℕ → Found
-element None at = wrong UnknownName at
-element (Some (AnArray t)) at = Place t
-element (Some _) at = wrong WrongType at
+abbrev pub element_type : Option Meaning → ℕ → Found
+element_type None at = wrong UnknownName at
+element_type (Some (AnArray t)) at = Place t
+element_type (Some _) at = wrong WrongType at
 
 -- a call (6.5.2.2) with a number of arguments
-abbrev pub called : Option Meaning → ℕ → ℕ → Found
-called None at count = wrong UnknownName at
-called (Some (AFunction result types)) at count = if length types == count then value_of_type result else wrong WrongCount at
-called (Some _) at count = wrong WrongType at
+abbrev pub call_type : Option Meaning → ℕ → ℕ → Found
+call_type None at count = wrong UnknownName at
+call_type (Some (AFunction result types)) at count = if length types == count then value_of_type result else wrong WrongCount at
+call_type (Some _) at count = wrong WrongType at
 
 -- the type of the first member of a name
 abbrev pub member : List Binding → Bytes → Option CType
@@ -156,9 +156,9 @@ abbrev pub field_of : List Def → Option CType → Bytes → Option CType
 field_of text (Some (Handle tag)) name = option_and_then (λ members. member members name) (members_of text tag.text)
 field_of text _ name = None
 
-abbrev pub field : Option CType → ℕ → Found
-field (Some t) at = Place t
-field None at = wrong UnknownField at
+abbrev pub field_type : Option CType → ℕ → Found
+field_type (Some t) at = Place t
+field_type None at = wrong UnknownField at
 
 -- the second is converted to the type of the first
 abbrev pub follows : Option CType → Found → Bool
@@ -191,15 +191,15 @@ abbrev pub choice : ℕ → Part → Part → Found
 choice at b c = where_met (meeting b.found c.found) at (value_of_type (meeting b.found c.found))
 
 -- `thrd_create` of a function: a name that is none that a thread can run is of a wrong type
-abbrev pub spawned : Option Meaning → ℕ → ℕ → Found
-spawned None name at = wrong UnknownName name
-spawned (Some meaning) name at = if is_some (thread_parameter (Some meaning)) then Value int else wrong WrongType at
+abbrev pub spawn_type : Option Meaning → ℕ → ℕ → Found
+spawn_type None name at = wrong UnknownName name
+spawn_type (Some meaning) name at = if is_some (thread_parameter (Some meaning)) then Value int else wrong WrongType at
 
 -- a call on a mutex: another name is of a wrong type
-abbrev pub on_mutex : Option Meaning → ℕ → ℕ → Found
-on_mutex None name at = wrong UnknownName name
-on_mutex (Some AMutex) name at = Value int
-on_mutex (Some _) name at = wrong WrongType at
+abbrev pub mutex_call_type : Option Meaning → ℕ → ℕ → Found
+mutex_call_type None name at = wrong UnknownName name
+mutex_call_type (Some AMutex) name at = Value int
+mutex_call_type (Some _) name at = wrong WrongType at
 
 -- the fault of a type whose tag isn't declared
 abbrev pub unknown_tag : List Def → CType → List Fault
@@ -208,12 +208,12 @@ unknown_tag text t = []
 
 -- what an expression at a place is, by its parts
 abbrev pub own : Names → ℕ → ExprNode Part → Found
-own names at (Number n) = number n
+own names at (Number n) = number_type n
 own names at (Character n) = Value (Integer (kind_of n))
 own names at Null = NullValue
 own names at Success = Value int
 own names at Error = Value int
-own names at (Variable name) = named (meaning_of names name) at
+own names at (Variable name) = name_type (meaning_of names name) at
 own names at (Unary op a) = Value (Integer (unary_kind op (kind_in a)))
 own names at (Step op a) = value_of_type (type_of a.found)
 own names at (Cast t a) = after (unknown_tag names.text t) (Value t)
@@ -223,19 +223,19 @@ own names at (Or a b) = Value int
 own names at (Choice a b c) = choice at b c
 own names at (Assign a b) = value_of_type (type_of a.found)
 own names at (Update op a b) = value_of_type (type_of a.found)
-own names at (Call name arguments) = called (meaning_of names name) at (length arguments)
-own names at (Element name a) = element (meaning_of names name) at
-own names at (Arrow a name) = field (field_of names.text (type_of a.found) name.text) name.place
+own names at (Call name arguments) = call_type (meaning_of names name) at (length arguments)
+own names at (Element name a) = element_type (meaning_of names name) at
+own names at (Arrow a name) = field_type (field_of names.text (type_of a.found) name.text) name.place
 own names at (Dot a name) = wrong WrongType at
 own names at (Print place format arguments) = if fits_format format arguments then Nothing else wrong BadFormat place
 own names at (Calloc tag) = if is_tag names.text tag.text then Value (Handle tag) else wrong UnknownName tag.place
 own names at (Free a) = Nothing
-own names at (Create a name b) = spawned (meaning_of names name.text) name.place at
+own names at (Create a name b) = spawn_type (meaning_of names name.text) name.place at
 own names at (Join a) = Value int
 own names at (JoinInto a b) = Value int
-own names at (InitMutex name) = on_mutex (meaning_of names name.text) name.place at
-own names at (Lock name) = on_mutex (meaning_of names name.text) name.place at
-own names at (Unlock name) = on_mutex (meaning_of names name.text) name.place at
+own names at (InitMutex name) = mutex_call_type (meaning_of names name.text) name.place at
+own names at (Lock name) = mutex_call_type (meaning_of names name.text) name.place at
+own names at (Unlock name) = mutex_call_type (meaning_of names name.text) name.place at
 
 -- Initialisers of globals.
 
@@ -276,5 +276,5 @@ part names at node = record {
 }
 
 -- an expression
-abbrev pub look : Names → Expr → Part
-look names = fold-Expr Part (λ e. part names e.place e.node)
+abbrev pub infer : Names → Expr → Part
+infer names = fold-Expr Part (λ e. part names e.place e.node)

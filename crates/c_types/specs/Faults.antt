@@ -1,4 +1,4 @@
--- Faults of types, and which of them is told.
+-- Faults of types, and which of them is reported.
 use Rattle.std.specs.Prelude.{ℕ, Bool, nat_lt, ◌==◌, ◌&&◌, ◌||◌, List, [], ◌∷◌, Option, Some, None, if◌then◌else◌}
 use Rattle.c_types.specs.declared.fault.Fault.{Fault}
 use Rattle.c_types.specs.declared.fault.TypeKind.{TypeKind}
@@ -27,7 +27,7 @@ number_of OverLimit = 10
 number_of UnknownField = 11
 number_of BadTransformer = 12
 
--- a comes before b: its place is less, or they stand at one place and its number is less
+-- a comes before b: its place is less, or they are at one place and its number is less
 abbrev pub is_before : Fault → Fault → Bool
 is_before a b =
     nat_lt a.place b.place || (a.place == b.place && nat_lt (number_of a.kind) (number_of b.kind))

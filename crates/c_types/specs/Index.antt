@@ -54,18 +54,18 @@ abbrev pub Places : Type 0
 Places = List (List (Bytes × ℕ))
 
 -- a name, if there is one, with its place, unless the innermost table has it
-abbrev pub noted : Option Bytes → ℕ → Places → Places
-noted None place tables = tables
-noted (Some name) place tables = if is_some (look_up_first tables name) then tables else declared tables name place
+abbrev pub with_name : Option Bytes → ℕ → Places → Places
+with_name None place tables = tables
+with_name (Some name) place tables = if is_some (look_up_first tables name) then tables else declared tables name place
 
--- the tables behind some names, the first of which has this place
-abbrev pub entered : List (Option Bytes) → ℕ → Places → Places
-entered [] place tables = tables
-entered (name ∷ names) place tables = entered names (suc place) (noted name place tables)
+-- the tables after some names, the first of which has this place
+abbrev pub with_names : List (Option Bytes) → ℕ → Places → Places
+with_names [] place tables = tables
+with_names (name ∷ names) place tables = with_names names (suc place) (with_name name place tables)
 
 -- the table of the first places of some names
 abbrev pub table_of : List (Option Bytes) → Places
-table_of names = entered names 0 ([] ∷ [])
+table_of names = with_names names 0 ([] ∷ [])
 
 -- the members of a struct's definition; of another none
 abbrev pub own_members : DefKind → List Binding

@@ -93,7 +93,7 @@ Scopes = List (List (Bytes × CType))
 abbrev pub is_repeated : Bytes → Scopes → Bool
 is_repeated name scopes = is_some (look_up_first scopes name)
 
--- the scopes behind a declaration of a variable: the innermost block has it too, unless it has that name already
+-- the scopes after a declaration of a variable: the innermost block has it too, unless it has that name already
 abbrev pub declare : Bytes → CType → Scopes → Scopes
 declare name t scopes = if is_repeated name scopes then scopes else declared scopes name t
 

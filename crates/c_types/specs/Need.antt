@@ -1,4 +1,4 @@
--- The operand need of an expression: how many values stand on an evaluator's stack at most while the expression is computed
+-- The operand need of an expression: how many values are on an evaluator's stack at most while the expression is computed
 -- from left to right.
 use Rattle.std.specs.Prelude.{ℕ, suc, ◌+◌, max, List, [], ◌∷◌, map, Option, Some, None}
 use Rattle.c_tree.specs.declared.expr.Expr.{Expr}

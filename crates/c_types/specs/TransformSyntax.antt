@@ -22,7 +22,7 @@ pub record Form : Type 0 where
   pub is_old : Bool
 
 -- by its parts: literals, NULL, casts to types of the text, `+ - * & | ^ ~ !`, comparisons and `?:`; the one name is `old`,
--- and `.` stands only behind it
+-- and `.` stands only after it
 abbrev pub allows : List Def → ExprNode Form → Bool
 allows text (Number n) = true
 allows text (Character n) = true
@@ -49,18 +49,18 @@ abbrev pub is_transforming : List Def → Expr → Bool
 is_transforming text e = (form_of text e).is_allowed
 
 -- each field that is given a value is one of the struct's, none twice, and each value is allowed
-abbrev pub are_given : List Def → List Binding → List FieldValue → Bool
-are_given text members [] = true
-are_given text members (v ∷ vs) =
+abbrev pub transforms_fields : List Def → List Binding → List FieldValue → Bool
+transforms_fields text members [] = true
+transforms_fields text members (v ∷ vs) =
     is_some (member members v.field.text)
     && not (list_any (λ w. bytes_eq v.field.text w.field.text) vs)
     && is_transforming text v.value
-    && are_given text members vs
+    && transforms_fields text members vs
 
 -- of a struct that the text defines
 abbrev pub transforms_struct : List Def → Option (List Binding) → List FieldValue → Bool
 transforms_struct text None values = false
-transforms_struct text (Some members) values = are_given text members values
+transforms_struct text (Some members) values = transforms_fields text members values
 
 -- what a global's transformer may speak of: a global variable or array
 abbrev pub is_global : Option Meaning → Bool

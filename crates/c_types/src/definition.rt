@@ -4,17 +4,17 @@ ghost use Rattle.c_types.specs.Definitions.{array_faults, forward_faults, functi
 ghost use Rattle.c_types.specs.Faults.{first, unless};
 ghost use Rattle.c_types.specs.Views.{before_seen};
 
+use crate::context::Context;
 use crate::expression::unknown_tag;
 use crate::fault::{Fault, TypeKind, sooner, unless};
-use crate::given::transforms_struct;
-use crate::initial::{all_initialised, initial, is_filled, listed};
+use crate::initial::{initial, initialisers_fault, initialisers_of, is_small_array};
 use crate::limits::MOST_FIELDS;
 use crate::lookup::defined;
-use crate::parameter::{agrees, bind, bound, parameters, result_fault};
+use crate::parameter::{agrees, bind, bindings_fault, parameters, result_fault};
 use crate::size;
 use crate::size::is_small;
-use crate::spot::Spot;
 use crate::statement::{Around, Loop, hiding};
+use crate::struct_transformer::transforms_struct;
 use crate::transformer::{are_light, is_global, is_light, is_transforming};
 use crate::walk::statements;
 use c_scope::Scopes;
@@ -28,20 +28,20 @@ use std::alloc::{AllocError, Global};
 #[tactic(auto, using(crate::proofs::Firsts::first_append, crate::proofs::Firsts::first_hiding))]
 fn struct_fault(
     alloc: Global,
-    at: &Spot,
+    at: &Context,
     tag: &Name,
     members: &List<Binding>,
 ) -> Result<Option<Fault>, AllocError>
     ensures { IfOk result (λ fault. fault ≡ first (struct_faults at.now.known.now (before_seen at.now) at.now.definition.now tag.now members.now)) }
 {
-    let parts = bound(alloc, at.known, members.as_slice())?;
+    let parts = bindings_fault(alloc, at.known, members.as_slice())?;
     let small = at.over_limit(members.as_slice().len() <= MOST_FIELDS);
     let own = sooner(at.tagged_twice(tag), sooner(small, at.many_names()));
     Ok(hiding(parts, own))
 }
 
 /// What is wrong with `struct T;`.
-fn forward_fault(at: &Spot, tag: &Name) -> Option<Fault>
+fn forward_fault(at: &Context, tag: &Name) -> Option<Fault>
     ensures { result ≡ first (forward_faults at.now.known.now at.now.definition.now tag.now) }
 {
     let is_defined = at.known.members_of(tag.text.as_str()).is_some();
@@ -49,7 +49,7 @@ fn forward_fault(at: &Spot, tag: &Name) -> Option<Fault>
 }
 
 /// What is wrong with `mtx_t m;`.
-fn mutex_fault(at: &Spot, name: &Name) -> Option<Fault>
+fn mutex_fault(at: &Context, name: &Name) -> Option<Fault>
     ensures { result ≡ first (mutex_faults (before_seen at.now) at.now.definition.now name.now) }
 {
     sooner(at.named_twice(name), at.many_names())
@@ -59,7 +59,7 @@ fn mutex_fault(at: &Spot, name: &Name) -> Option<Fault>
 #[tactic(auto, using(crate::proofs::Firsts::first_append, crate::proofs::Firsts::first_hiding))]
 fn function_fault(
     alloc: Global,
-    at: &Spot,
+    at: &Context,
     function: &Function,
 ) -> Result<Option<Fault>, AllocError>
     ensures { IfOk result (λ fault. fault ≡ first (function_faults at.now.known.now (before_seen at.now) at.now.definition.now function.now)) }
@@ -86,7 +86,7 @@ fn function_fault(
 #[tactic(auto, using(crate::proofs::Firsts::first_append, crate::proofs::Firsts::first_hiding))]
 fn prototype_fault(
     alloc: Global,
-    at: &Spot,
+    at: &Context,
     prototype: &Prototype,
 ) -> Result<Option<Fault>, AllocError>
     ensures { IfOk result (λ fault. fault ≡ first (prototype_faults at.now.known.now at.now.definition.now prototype.now)) }
@@ -105,7 +105,7 @@ fn prototype_fault(
 #[tactic(auto, using(crate::proofs::Firsts::first_append, crate::proofs::Firsts::first_hiding))]
 fn global_fault(
     alloc: Global,
-    at: &Spot,
+    at: &Context,
     variable: &Declaration,
 ) -> Result<Option<Fault>, AllocError>
     ensures { IfOk result (λ fault. fault ≡ first (global_faults at.now.known.now (before_seen at.now) at.now.definition.now variable.now)) }
@@ -122,11 +122,16 @@ fn global_fault(
 
 /// What is wrong with an array.
 #[tactic(auto, using(crate::proofs::Firsts::first_append, crate::proofs::Firsts::first_hiding))]
-fn array_fault(alloc: Global, at: &Spot, array: &Array) -> Result<Option<Fault>, AllocError>
+fn array_fault(alloc: Global, at: &Context, array: &Array) -> Result<Option<Fault>, AllocError>
     ensures { IfOk result (λ fault. fault ≡ first (array_faults at.now.known.now (before_seen at.now) at.now.definition.now array.now)) }
 {
-    let parts = all_initialised(alloc, at.known, &array.element, listed(&array.initial))?;
-    let small = at.over_limit(is_filled(array));
+    let parts = initialisers_fault(
+        alloc,
+        at.known,
+        &array.element,
+        initialisers_of(&array.initial),
+    )?;
+    let small = at.over_limit(is_small_array(array));
     let limits = sooner(small, sooner(at.many_names(), at.many_cells()));
     let own = sooner(
         unknown_tag(at.known, &array.element),
@@ -143,7 +148,7 @@ fn both(a: bool, b: bool) -> bool
 }
 
 /// The fault of a transformer that isn't right.
-fn bad_transformer(at: &Spot, is_right: bool) -> Option<Fault>
+fn bad_transformer(at: &Context, is_right: bool) -> Option<Fault>
     ensures { result ≡ first (unless is_right BadTransformer at.now.definition.now.place) }
 {
     unless(is_right, TypeKind::BadTransformer, at.definition.place)
@@ -152,7 +157,7 @@ fn bad_transformer(at: &Spot, is_right: bool) -> Option<Fault>
 /// What is wrong with `dsu_transform struct T { .. }`.
 fn struct_transform_fault(
     alloc: Global,
-    at: &Spot,
+    at: &Context,
     transform: &StructTransform,
 ) -> Result<Option<Fault>, AllocError>
     ensures { IfOk result (λ fault. fault ≡ first (struct_transform_faults at.now.known.now (before_seen at.now) at.now.definition.now transform.now)) }
@@ -167,7 +172,7 @@ fn struct_transform_fault(
 }
 
 /// What is wrong with `dsu_transform g = e;`.
-fn global_transform_fault(at: &Spot, name: &Name, expr: &Expr) -> Option<Fault>
+fn global_transform_fault(at: &Context, name: &Name, expr: &Expr) -> Option<Fault>
     ensures { result ≡ first (global_transform_faults at.now.known.now (before_seen at.now) at.now.definition.now name.now expr.now) }
 {
     let is_first = !at.is_global_transformed(name);
@@ -180,7 +185,7 @@ fn global_transform_fault(at: &Spot, name: &Name, expr: &Expr) -> Option<Fault>
 }
 
 /// What is wrong with a definition.
-pub(crate) fn kind_fault(alloc: Global, at: &Spot) -> Result<Option<Fault>, AllocError>
+pub(crate) fn kind_fault(alloc: Global, at: &Context) -> Result<Option<Fault>, AllocError>
     ensures { IfOk result (λ fault. fault ≡ first (kind_faults at.now.known.now (before_seen at.now) at.now.definition.now at.now.definition.now.kind)) }
 {
     match &at.definition.kind {

@@ -1,5 +1,5 @@
 ghost use Rattle.std.specs.Prelude.{◌≡◌, ◌&&◌, IfOk, length, option_copied, option_map};
-ghost use Rattle.c_types.specs.Expressions.{called, converted, element, field, field_of, fits, is_allowed, is_assigned, is_condition, follows, is_equality, is_operand, is_safe, is_thread_argument, is_unary_operand, meeting, named, number, on_mutex, passed, printed, spawned, thread_parameter, unknown_tag, valued, where_allowed};
+ghost use Rattle.c_types.specs.Expressions.{call_type, conversion_faults, element_type, field_type, field_of, fits, is_allowed, is_assigned, is_condition, follows, is_equality, is_operand, is_safe, is_thread_argument, is_unary_operand, meeting, name_type, number_type, mutex_call_type, argument_faults, print_faults, spawn_type, thread_parameter, unknown_tag, value_faults, where_allowed};
 ghost use Rattle.c_types.specs.Faults.{first};
 ghost use Rattle.c_types.specs.Found.{has_value, is_handle, type_of, unless_wrong, value_of_type, wrong};
 ghost use Rattle.c_types.specs.Lookup.{types_of};
@@ -59,8 +59,8 @@ pub(crate) fn where_allowed(
 }
 
 /// A number: one of value 0 each handle takes too.
-pub(crate) fn number(n: Int) -> Found
-    ensures { result ≡ number n }
+pub(crate) fn number_type(n: Int) -> Found
+    ensures { result ≡ number_type n }
 {
     if n.value() == 0 {
         Found::Zero(n.kind())
@@ -70,8 +70,8 @@ pub(crate) fn number(n: Int) -> Found
 }
 
 /// A name by itself.
-pub(crate) fn named(meaning: &Option<Meaning>, at: usize) -> Result<Found, AllocError>
-    ensures { IfOk result (λ found. found ≡ named (option_map meaning_seen meaning.now) at) }
+pub(crate) fn name_type(meaning: &Option<Meaning>, at: usize) -> Result<Found, AllocError>
+    ensures { IfOk result (λ found. found ≡ name_type (option_map meaning_seen meaning.now) at) }
 {
     match meaning {
         None => Ok(wrong(TypeKind::UnknownName, at)),
@@ -81,8 +81,8 @@ pub(crate) fn named(meaning: &Option<Meaning>, at: usize) -> Result<Found, Alloc
 }
 
 /// An element of a name.
-pub(crate) fn element(meaning: &Option<Meaning>, at: usize) -> Result<Found, AllocError>
-    ensures { IfOk result (λ found. found ≡ element (option_map meaning_seen meaning.now) at) }
+pub(crate) fn element_type(meaning: &Option<Meaning>, at: usize) -> Result<Found, AllocError>
+    ensures { IfOk result (λ found. found ≡ element_type (option_map meaning_seen meaning.now) at) }
 {
     match meaning {
         None => Ok(wrong(TypeKind::UnknownName, at)),
@@ -102,12 +102,12 @@ pub(crate) fn value_of_type(declared: &Option<CType>) -> Result<Found, AllocErro
 }
 
 /// A call of a name with a number of arguments.
-pub(crate) fn called(
+pub(crate) fn call_type(
     meaning: &Option<Meaning>,
     at: usize,
     count: usize,
 ) -> Result<Found, AllocError>
-    ensures { IfOk result (λ found. found ≡ called (option_map meaning_seen meaning.now) at count) }
+    ensures { IfOk result (λ found. found ≡ call_type (option_map meaning_seen meaning.now) at count) }
 {
     match meaning {
         None => Ok(wrong(TypeKind::UnknownName, at)),
@@ -142,8 +142,8 @@ pub(crate) fn thread_parameter<'a>(meaning: &Option<Meaning<'a>>) -> Option<&'a 
 }
 
 /// The value of `thrd_create`, by what the function's name stands for.
-pub(crate) fn spawned(meaning: &Option<Meaning>, name: usize, at: usize) -> Found
-    ensures { result ≡ spawned (option_map meaning_seen meaning.now) name at }
+pub(crate) fn spawn_type(meaning: &Option<Meaning>, name: usize, at: usize) -> Found
+    ensures { result ≡ spawn_type (option_map meaning_seen meaning.now) name at }
 {
     if meaning.is_none() {
         return wrong(TypeKind::UnknownName, name);
@@ -155,8 +155,8 @@ pub(crate) fn spawned(meaning: &Option<Meaning>, name: usize, at: usize) -> Foun
 }
 
 /// The value of a call on a mutex, by what its name stands for.
-pub(crate) fn on_mutex(meaning: &Option<Meaning>, name: usize, at: usize) -> Found
-    ensures { result ≡ on_mutex (option_map meaning_seen meaning.now) name at }
+pub(crate) fn mutex_call_type(meaning: &Option<Meaning>, name: usize, at: usize) -> Found
+    ensures { result ≡ mutex_call_type (option_map meaning_seen meaning.now) name at }
 {
     match meaning {
         None => wrong(TypeKind::UnknownName, name),
@@ -178,8 +178,8 @@ pub(crate) fn field_of<'a>(text: &'a Known<'a>, declared: &Found, name: &str) ->
 }
 
 /// A field of a type, or one that isn't there.
-pub(crate) fn field(declared: Option<&CType>, at: usize) -> Result<Found, AllocError>
-    ensures { IfOk result (λ found. found ≡ field (option_copied declared.entry) at) }
+pub(crate) fn field_type(declared: Option<&CType>, at: usize) -> Result<Found, AllocError>
+    ensures { IfOk result (λ found. found ≡ field_type (option_copied declared.entry) at) }
 {
     match declared {
         Some(declared) => Ok(Found::Place(declared.copy()?)),
@@ -249,7 +249,7 @@ pub(crate) fn is_unary_operand(op: UnOp, found: &Found) -> bool
     }
 }
 
-/// Whether a value is assigned to what stands on the left; to what is no place each value is.
+/// Whether a value is assigned to what is on the left; to what is no place each value is.
 pub(crate) fn is_assigned(to: &Found, found: &Found) -> bool
     ensures { result ≡ is_assigned to.now found.now }
 {
@@ -317,8 +317,8 @@ pub(crate) fn meeting(a: &Part, b: &Part) -> Result<Option<CType>, AllocError>
 
 /// What is wrong with arguments that are each only to have a value.
 #[tactic(auto, using(crate::proofs::Firsts::first_append, crate::proofs::Firsts::sooner_of_three, crate::proofs::Firsts::sooner_none))]
-fn valued(arguments: &[Part]) -> Option<Fault>
-    ensures { result ≡ first (valued arguments.now) }
+fn value_faults(arguments: &[Part]) -> Option<Fault>
+    ensures { result ≡ first (value_faults arguments.now) }
 {
     let mut fault = None;
     for argument in arguments {
@@ -329,8 +329,8 @@ fn valued(arguments: &[Part]) -> Option<Fault>
 
 /// What is wrong with the arguments of a `printf` by themselves.
 #[tactic(auto, using(crate::proofs::Firsts::first_append, crate::proofs::Firsts::sooner_of_three, crate::proofs::Firsts::sooner_none))]
-pub(crate) fn printed(arguments: &[Part]) -> Option<Fault>
-    ensures { result ≡ first (printed arguments.now) }
+pub(crate) fn print_faults(arguments: &[Part]) -> Option<Fault>
+    ensures { result ≡ first (print_faults arguments.now) }
 {
     let mut fault = None;
     for argument in arguments {
@@ -341,9 +341,9 @@ pub(crate) fn printed(arguments: &[Part]) -> Option<Fault>
 
 /// What is wrong with arguments that are as many as the parameters.
 #[tactic(auto, using(crate::proofs::Firsts::first_append, crate::proofs::Firsts::sooner_of_three, crate::proofs::Firsts::sooner_none))]
-fn converted(parameters: &[Binding], arguments: &[Part]) -> Option<Fault>
+fn conversion_faults(parameters: &[Binding], arguments: &[Part]) -> Option<Fault>
     requires { length parameters.now ≡ length arguments.now }
-    ensures { result ≡ first (converted (types_of parameters.now) arguments.now) }
+    ensures { result ≡ first (conversion_faults (types_of parameters.now) arguments.now) }
 {
     let mut fault = None;
     for i in 0..arguments.len() {
@@ -355,14 +355,14 @@ fn converted(parameters: &[Binding], arguments: &[Part]) -> Option<Fault>
 }
 
 /// What is wrong with the arguments of a call.
-pub(crate) fn passed(meaning: &Option<Meaning>, arguments: &[Part]) -> Option<Fault>
-    ensures { result ≡ first (passed (option_map meaning_seen meaning.now) arguments.now) }
+pub(crate) fn argument_faults(meaning: &Option<Meaning>, arguments: &[Part]) -> Option<Fault>
+    ensures { result ≡ first (argument_faults (option_map meaning_seen meaning.now) arguments.now) }
 {
     if let Some(Meaning::Function(function)) = meaning {
         let parameters = function.parameters.as_slice();
         if parameters.len() == arguments.len() {
-            return converted(parameters, arguments);
+            return conversion_faults(parameters, arguments);
         }
     }
-    valued(arguments)
+    value_faults(arguments)
 }

@@ -1,8 +1,8 @@
 ghost use Rattle.std.specs.Prelude.{◌≡◌};
 ghost use Rattle.c_types.specs.Faults.{first, is_before, number_of, sooner, unless};
 
-/// What is wrong with a text whose tokens and grammar are right. Where two faults stand at one place,
-/// the one that is listed first is told.
+/// What is wrong with a text whose tokens and grammar are right. Where two faults are at one place,
+/// the one that is listed first is reported.
 #[derive(Clone, Copy, Debug, PartialEq, Eq)]
 pub enum TypeKind {
     /// A name that nothing declares.
@@ -36,7 +36,7 @@ pub enum TypeKind {
 pub enum TypeFault {
     /// The fault and its place, a byte counted from 0.
     Refused(TypeKind, usize),
-    /// Want of memory.
+    /// Lack of memory.
     Memory,
 }
 
@@ -71,7 +71,7 @@ impl TypeKind {
 }
 
 impl Fault {
-    /// Whether it is told rather than the other.
+    /// Whether it is reported rather than the other.
     pub(crate) fn is_before(self, other: Fault) -> bool
         ensures { result ≡ is_before self other }
     {

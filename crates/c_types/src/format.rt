@@ -2,7 +2,7 @@ ghost use Rattle.std.specs.Prelude.{◌≡◌, option_to_list};
 ghost use Rattle.c_types.specs.Formats.{fits_format, is_promoted_to, read, taken};
 
 use crate::found::{Found, Part, same_kind};
-use crate::node::promoted;
+use crate::infer_node::promoted;
 use c_ints::Kind;
 use c_tree::CType;
 

@@ -1,14 +1,14 @@
 ghost use Rattle.std.specs.Prelude.{◌≡◌, IfOk};
 ghost use Rattle.std.specs.List.{flat_map};
-ghost use Rattle.c_types.specs.Definitions.{initial, initialised, initialiser, is_filled, listed};
+ghost use Rattle.c_types.specs.Definitions.{initial, initialiser_faults, initialiser, is_small_array, initialisers_of};
 ghost use Rattle.c_types.specs.Faults.{first};
 
 use crate::expression::fits;
 use crate::fault::{Fault, sooner};
 use crate::found::Part;
+use crate::infer::infer;
 use crate::known::Known;
 use crate::limits::{LONGEST_ARRAY, MOST_NEED};
-use crate::look::look;
 use crate::lookup::{Names, Position};
 use crate::size::greatest_need;
 use c_scope::Scopes;
@@ -26,17 +26,17 @@ fn initialiser(alloc: Global, known: &Known, expr: &Expr) -> Result<Part, AllocE
         scopes: &scopes,
         position: Position::InInitialiser,
     };
-    look(alloc, &names, expr)
+    infer(alloc, &names, expr)
 }
 
 /// What is wrong with an initialiser of a global of a type.
-fn initialised(
+fn initialiser_fault(
     alloc: Global,
     known: &Known,
     to: &CType,
     expr: &Expr,
 ) -> Result<Option<Fault>, AllocError>
-    ensures { IfOk result (λ fault. fault ≡ first (initialised known.now to.now expr.now)) }
+    ensures { IfOk result (λ fault. fault ≡ first (initialiser_faults known.now to.now expr.now)) }
 {
     let part = initialiser(alloc, known, expr)?;
     Ok(part.required(fits(known, to, &part.found)))
@@ -52,14 +52,14 @@ pub(crate) fn initial(
     ensures { IfOk result (λ fault. fault ≡ first (initial known.now to.now expr.now)) }
 {
     match expr {
-        Some(expr) => initialised(alloc, known, to, expr),
+        Some(expr) => initialiser_fault(alloc, known, to, expr),
         None => Ok(None),
     }
 }
 
 /// The initialisers of an array.
-pub(crate) fn listed(initial: &Option<List<Expr>>) -> &[Expr]
-    ensures { result.now ≡ listed initial.now }
+pub(crate) fn initialisers_of(initial: &Option<List<Expr>>) -> &[Expr]
+    ensures { result.now ≡ initialisers_of initial.now }
 {
     match initial {
         Some(list) => list.as_slice(),
@@ -68,27 +68,27 @@ pub(crate) fn listed(initial: &Option<List<Expr>>) -> &[Expr]
 }
 
 /// What is wrong with the initialisers of an array of elements of a type.
-pub(crate) fn all_initialised(
+pub(crate) fn initialisers_fault(
     alloc: Global,
     known: &Known,
     to: &CType,
     exprs: &[Expr],
 ) -> Result<Option<Fault>, AllocError>
-    ensures { IfOk result (λ fault. fault ≡ first (flat_map (initialised known.now to.now) exprs.now)) }
+    ensures { IfOk result (λ fault. fault ≡ first (flat_map (initialiser_faults known.now to.now) exprs.now)) }
 {
     let mut fault = None;
     for expr in exprs {
-        fault = sooner(fault, initialised(alloc, known, to, expr)?);
+        fault = sooner(fault, initialiser_fault(alloc, known, to, expr)?);
     }
     Ok(fault)
 }
 
 /// Whether an array has a length from 1 on, a list that isn't longer, and small initialisers.
-pub(crate) fn is_filled(array: &Array) -> bool
-    ensures { result ≡ is_filled array.now }
+pub(crate) fn is_small_array(array: &Array) -> bool
+    ensures { result ≡ is_small_array array.now }
 {
     let length = array.length.value.value();
-    let exprs = listed(&array.initial);
+    let exprs = initialisers_of(&array.initial);
     1 <= length
         && length <= LONGEST_ARRAY
         && exprs.len() as i128 <= length

@@ -2,7 +2,7 @@ ghost use Rattle.std.specs.Prelude.{◌≡◌, ◌+◌, [], ◌∷◌, IfOk, OnO
 ghost use Rattle.std.specs.List.{find, list_any, slice_get};
 ghost use Rattle.c_scope.specs.Tables.{innermost};
 ghost use Rattle.c_types.specs.Expressions.{member};
-ghost use Rattle.c_types.specs.Index.{is_key, key_of, keys, member_keys, member_tables, noted, own_members, place_of, stands_before, table_of};
+ghost use Rattle.c_types.specs.Index.{is_key, key_of, keys, member_keys, member_tables, with_name, own_members, place_of, stands_before, table_of};
 ghost use Rattle.c_types.specs.Lookup.{definition_of, is_known, is_tag, members_of, struct_of};
 
 use crate::key::{Key, key_of};
@@ -64,8 +64,8 @@ impl<'a> Model for Known<'a> {
 }
 
 /// Gives a name, if there is one, its place in the table, unless the table has it.
-fn note(table: &mut Scopes<usize>, name: Option<&Text>, place: usize) -> Result<(), AllocError>
-    ensures { OnOk result (table.new ≡ noted (option_copied name.entry) place table.old) }
+fn add_name(table: &mut Scopes<usize>, name: Option<&Text>, place: usize) -> Result<(), AllocError>
+    ensures { OnOk result (table.new ≡ with_name (option_copied name.entry) place table.old) }
 {
     if let Some(name) = name {
         table.declare(name.as_str(), place)?;
@@ -79,7 +79,7 @@ fn table_of(alloc: Global, by: Key, definitions: &[Def]) -> Result<Scopes<usize>
 {
     let mut table = Scopes::new(alloc);
     for place in 0..definitions.len() {
-        note(&mut table, key_of(by, &definitions[place].kind), place)?;
+        add_name(&mut table, key_of(by, &definitions[place].kind), place)?;
     }
     Ok(table)
 }
@@ -96,7 +96,7 @@ fn tags_of(alloc: Global, definitions: &[Def]) -> Result<Tags, AllocError>
 }
 
 /// The tables of what transformers transform.
-fn transformed_by(alloc: Global, definitions: &[Def]) -> Result<Transformed, AllocError>
+fn transformers_of(alloc: Global, definitions: &[Def]) -> Result<Transformed, AllocError>
     ensures structs { IfOk result (λ them. them.structs ≡ table_of (keys Key.StructTransformer definitions.now)) }
     ensures globals { IfOk result (λ them. them.globals ≡ table_of (keys Key.GlobalTransformer definitions.now)) }
 {
@@ -117,7 +117,7 @@ fn tables_of(alloc: Global, definitions: &[Def]) -> Result<Tables, AllocError>
     Ok(Tables {
         names: table_of(alloc, Key::Name, definitions)?,
         tags: tags_of(alloc, definitions)?,
-        transformed: transformed_by(alloc, definitions)?,
+        transformed: transformers_of(alloc, definitions)?,
     })
 }
 
@@ -127,7 +127,7 @@ fn member_table(alloc: Global, members: &[Binding]) -> Result<Scopes<usize>, All
 {
     let mut table = Scopes::new(alloc);
     for place in 0..members.len() {
-        note(&mut table, Some(&members[place].name.text), place)?;
+        add_name(&mut table, Some(&members[place].name.text), place)?;
     }
     Ok(table)
 }
@@ -154,7 +154,7 @@ fn own_members(kind: &DefKind) -> &[Binding]
 }
 
 impl<'a> Known<'a> {
-    /// Builds the tables of a text's definitions, in time linear in the text. It fails for want of memory alone.
+    /// Builds the tables of a text's definitions, in time linear in the text. It fails only when out of memory.
     pub fn of(alloc: Global, definitions: &'a [Def]) -> Result<Known<'a>, AllocError>
         ensures { IfOk result (λ known. known ≡ definitions.now) }
     {
@@ -187,7 +187,7 @@ impl<'a> Known<'a> {
     }
 
     /// The first place of a definition that is found by a name.
-    #[tactic(auto, using(crate::proofs::Index::table_looked))]
+    #[tactic(auto, using(crate::proofs::Index::look_up_table))]
     fn place_of(&self, by: Key, name: &str) -> Option<usize>
         ensures { result ≡ place_of name.now (keys by self.now) }
     {
@@ -205,7 +205,7 @@ impl<'a> Known<'a> {
     }
 
     /// The first definition that is found by a name.
-    fn found(&self, by: Key, name: &str) -> Option<&'a Def>
+    fn find_by(&self, by: Key, name: &str) -> Option<&'a Def>
         ensures { option_copied result ≡ find (λ d. is_key name.now (key_of by d.kind)) self.now }
     {
         self.at(self.place_of(by, name))
@@ -224,7 +224,7 @@ impl<'a> Known<'a> {
     pub fn definition_of(&self, name: &str) -> Option<&'a Def>
         ensures { option_copied result ≡ definition_of self.now name.now }
     {
-        self.found(Key::Name, name)
+        self.find_by(Key::Name, name)
     }
 
     /// Whether a tag is declared.
@@ -251,7 +251,7 @@ impl<'a> Known<'a> {
     pub fn struct_of(&self, tag: &str) -> Option<&'a Def>
         ensures { option_copied result ≡ struct_of self.now tag.now }
     {
-        self.found(Key::Struct, tag)
+        self.find_by(Key::Struct, tag)
     }
 
     /// The members of a tag's struct, where it is defined.
@@ -267,7 +267,7 @@ impl<'a> Known<'a> {
         ensures { option_copied result ≡ option_and_then (λ d. member (own_members d.kind) name.now) (option_and_then (slice_get self.now) place) }
     {
         let number = number_in(self.members.as_slice(), place, name);
-        declared_in(self.at(place), number)
+        type_in(self.at(place), number)
     }
 
     /// The type of a member of a tag's struct.
@@ -296,7 +296,7 @@ fn number_in(tables: &[Scopes<usize>], place: Option<usize>, name: &str) -> Opti
 }
 
 /// The type of the member of a number.
-fn declared_at(members: &[Binding], number: Option<usize>) -> Option<&CType>
+fn type_at(members: &[Binding], number: Option<usize>) -> Option<&CType>
     ensures { option_copied result ≡ option_map (λ b. b.declared) (option_and_then (slice_get members.now) number) }
 {
     let binding = members.get(number?)?;
@@ -304,11 +304,11 @@ fn declared_at(members: &[Binding], number: Option<usize>) -> Option<&CType>
 }
 
 /// The type of the member of a number of a definition.
-fn declared_in(definition: Option<&Def>, number: Option<usize>) -> Option<&CType>
+fn type_in(definition: Option<&Def>, number: Option<usize>) -> Option<&CType>
     ensures { option_copied result ≡ option_and_then (λ d. option_map (λ b. b.declared) (option_and_then (slice_get (own_members d.kind)) number)) (option_copied definition.entry) }
 {
     match definition {
-        Some(definition) => declared_at(own_members(&definition.kind), number),
+        Some(definition) => type_at(own_members(&definition.kind), number),
         None => None,
     }
 }

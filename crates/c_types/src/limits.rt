@@ -1,4 +1,4 @@
-//! The limits of a text. What goes past one is told at the first token of its definition.
+//! The limits of a text. What goes past one is reported at the first token of its definition.
 
 /// Tokens of a function, from its result type to its closing brace.
 pub(crate) const MOST_TOKENS: u32 = 4096;
@@ -17,6 +17,9 @@ pub(crate) const MOST_NEED: u32 = 64;
 
 /// Names of a text.
 pub(crate) const MOST_NAMES: usize = 2048;
+
+/// Cells of all globals and arrays of a text.
+pub(crate) const MOST_CELLS: u64 = 65_536;
 
 /// The length of an array.
 pub(crate) const LONGEST_ARRAY: i128 = 65_536;

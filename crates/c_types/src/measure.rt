@@ -2,11 +2,12 @@ ghost use Rattle.std.specs.Prelude.{◌≡◌, ◌+◌, ◌≤◌, min, map};
 ghost use Rattle.c_types.specs.Need.{body_need, optional_need, stmt_need};
 ghost use Rattle.c_types.specs.Statements.{total, variables};
 
+use crate::limits::MOST_VARIABLES;
 use crate::need::need;
 use c_tree::{Expr, Stmt, StmtNode as Node};
 
 /// More than any number that is allowed; greater numbers aren't told apart.
-const TOO_MANY: u32 = 65;
+const TOO_MANY: u32 = MOST_VARIABLES as u32 + 1;
 
 /// Two numbers of variables together.
 fn together(a: u32, b: u32) -> u32

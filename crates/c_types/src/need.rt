@@ -1,11 +1,12 @@
 ghost use Rattle.std.specs.Prelude.{◌≡◌, ◌≤◌, ◌+◌, map, max, min};
 ghost use Rattle.c_types.specs.Need.{call_need, in_turn, need};
 
+use crate::limits::MOST_NEED;
 use c_tree::{Expr, ExprNode as Node};
 use dsu_io::{Boxed, List};
 
 /// More than any need that is allowed; greater needs aren't told apart.
-const TOO_MUCH: u32 = 65;
+const TOO_MUCH: u32 = MOST_NEED + 1;
 
 /// A need and so many more.
 fn and_more(need: u32, more: u32) -> u32
@@ -17,7 +18,7 @@ fn and_more(need: u32, more: u32) -> u32
 }
 
 /// Of two operands, of which the first is kept.
-fn operands(a: u32, b: u32) -> u32
+fn operand_need(a: u32, b: u32) -> u32
     requires { b ≤ 65 }
     ensures { result ≡ max a (min (b + 1) 65) }
 {
@@ -25,7 +26,7 @@ fn operands(a: u32, b: u32) -> u32
 }
 
 /// Of a place and what is written to it.
-fn written(a: u32, b: u32) -> u32
+fn assignment_need(a: u32, b: u32) -> u32
     requires a { a ≤ 65 }
     requires b { b ≤ 65 }
     ensures { result ≡ min (max a b + 2) 65 }
@@ -34,11 +35,11 @@ fn written(a: u32, b: u32) -> u32
 }
 
 /// Of a call with two arguments.
-fn called_with_two(a: u32, b: u32) -> u32
+fn two_argument_call_need(a: u32, b: u32) -> u32
     requires { b ≤ 65 }
     ensures { result ≡ max a (min (max b 1 + 1) 65) }
 {
-    operands(a, b.max(1))
+    operand_need(a, b.max(1))
 }
 
 /// The operand need of an expression, or 65 where it is greater.
@@ -50,21 +51,21 @@ pub(crate) fn need(expr: &Expr) -> u32
         Node::Unary(_, a) => part(a),
         Node::Step(_, a) => and_more(part(a), 2),
         Node::Cast(_, a) => part(a),
-        Node::Binary(_, a, b) => operands(part(a), part(b)),
+        Node::Binary(_, a, b) => operand_need(part(a), part(b)),
         Node::And(a, b) => part(a).max(part(b)),
         Node::Or(a, b) => part(a).max(part(b)),
         Node::Choice(a, b, c) => part(a).max(part(b).max(part(c))),
-        Node::Assign(a, b) => written(part(a), part(b)),
-        Node::Update(_, a, b) => written(part(a), part(b)),
-        Node::Call(_, list) => called(list),
+        Node::Assign(a, b) => assignment_need(part(a), part(b)),
+        Node::Update(_, a, b) => assignment_need(part(a), part(b)),
+        Node::Call(_, list) => call_need_of(list),
         Node::Element(_, a) => part(a),
         Node::Arrow(a, _) => part(a),
         Node::Dot(a, _) => part(a),
-        Node::Print { arguments, .. } => called(arguments),
+        Node::Print { arguments, .. } => call_need_of(arguments),
         Node::Free(a) => part(a).max(1),
-        Node::Create(a, _, b) => called_with_two(part(a), part(b)),
+        Node::Create(a, _, b) => two_argument_call_need(part(a), part(b)),
         Node::Join(a) => part(a).max(1),
-        Node::JoinInto(a, b) => called_with_two(part(a), part(b)),
+        Node::JoinInto(a, b) => two_argument_call_need(part(a), part(b)),
         Node::Number(_) | Node::Character(_) | Node::Null | Node::Success | Node::Error => 1,
         Node::Variable(_) | Node::Calloc(_) => 1,
         Node::InitMutex(_) | Node::Lock(_) | Node::Unlock(_) => 1,
@@ -80,7 +81,7 @@ fn part(a: &Boxed<Expr>) -> u32
 
 /// Of a call, by its arguments.
 #[cycle(need)]
-fn called(arguments: &List<Expr>) -> u32
+fn call_need_of(arguments: &List<Expr>) -> u32
     ensures { result ≡ min (call_need (map need arguments.now)) 65 }
 {
     in_turn(arguments.as_slice()).max(1)

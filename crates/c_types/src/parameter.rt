@@ -13,7 +13,7 @@ use crate::fault::{Fault, TypeKind, sooner, unless};
 use crate::found::same;
 use crate::known::Known;
 use crate::lookup::Meaning;
-use crate::statement::add;
+use crate::statement::declare_variable;
 use c_scope::Scopes;
 use c_tree::{Binding, CType, Parameters};
 use std::alloc::{AllocError, Global};
@@ -29,7 +29,7 @@ fn bind_one(
         ++ unless (not (is_repeated binding.now.name.text scopes.old)) DeclaredTwice binding.now.name.place)) }
     ensures scopes { OnOk result (scopes.new ≡ declare binding.now.name.text binding.now.declared scopes.old) }
 {
-    let is_new = add(scopes, binding.name.text.as_str(), binding.declared.copy()?)?;
+    let is_new = declare_variable(scopes, binding.name.text.as_str(), binding.declared.copy()?)?;
     Ok(sooner(
         unknown_tag(known, &binding.declared),
         unless(is_new, TypeKind::DeclaredTwice, binding.name.place),
@@ -53,8 +53,8 @@ pub(crate) fn bind(
     Ok(fault)
 }
 
-/// What is wrong with names with types that stand in no block.
-pub(crate) fn bound(
+/// What is wrong with names with types that are in no block.
+pub(crate) fn bindings_fault(
     alloc: Global,
     known: &Known,
     list: &[Binding],
@@ -66,7 +66,7 @@ pub(crate) fn bound(
 }
 
 /// What is wrong with types by themselves.
-fn unnamed(known: &Known, types: &[CType]) -> Option<Fault>
+fn types_fault(known: &Known, types: &[CType]) -> Option<Fault>
     ensures { result ≡ first (flat_map (unknown_tag known.now) types.now) }
 {
     let mut fault = None;
@@ -85,8 +85,8 @@ pub(crate) fn parameters(
     ensures { IfOk result (λ fault. fault ≡ first (parameters known.now listed.now)) }
 {
     match listed {
-        Parameters::Named(bindings) => bound(alloc, known, bindings.as_slice()),
-        Parameters::Unnamed(types) => Ok(unnamed(known, types.as_slice())),
+        Parameters::Named(bindings) => bindings_fault(alloc, known, bindings.as_slice()),
+        Parameters::Unnamed(types) => Ok(types_fault(known, types.as_slice())),
     }
 }
 

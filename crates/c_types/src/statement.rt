@@ -4,14 +4,14 @@ ghost use Rattle.c_types.specs.Expressions.{fits, is_condition};
 ghost use Rattle.c_types.specs.Faults.{first};
 ghost use Rattle.c_types.specs.Found.{is_evaluated};
 ghost use Rattle.c_types.specs.Lookup.{declare, is_repeated};
-ghost use Rattle.c_types.specs.Statements.{declared, evaluated, jump, left, optional, part_in, returned, value_returned};
+ghost use Rattle.c_types.specs.Statements.{walk_declaration, expression_faults, jump_faults, leaving_faults, optional_faults, part_in, return_faults, value_return_faults};
 ghost use Rattle.c_types.specs.Views.{around_seen};
 
 use crate::expression::{fits, unknown_tag};
 use crate::fault::{Fault, TypeKind, sooner, unless};
 use crate::found::Part;
+use crate::infer::infer;
 use crate::known::Known;
-use crate::look::look;
 use crate::lookup::{Names, Position};
 use c_scope::Scopes;
 use c_tree::{CType, Declaration, Expr};
@@ -22,9 +22,9 @@ use std::alloc::{AllocError, Global};
 pub enum Loop {
     /// No loop encloses the place.
     Outside,
-    /// A loop that stands in the innermost transaction round the place, or there is none.
+    /// A loop that is in the innermost transaction round the place, or there is none.
     Within,
-    /// A loop that the innermost transaction stands in.
+    /// A loop that the innermost transaction is in.
     Beyond,
 }
 
@@ -39,7 +39,7 @@ pub struct Around<'a> {
 }
 
 /// What an expression in a function is found to be.
-fn seen(
+fn infer_in_function(
     alloc: Global,
     around: &Around,
     scopes: &Scopes<CType>,
@@ -52,52 +52,52 @@ fn seen(
         scopes,
         position: Position::InFunction,
     };
-    look(alloc, &names, expr)
+    infer(alloc, &names, expr)
 }
 
 /// What is wrong with a test.
-pub(crate) fn tested(
+pub(crate) fn condition_fault(
     alloc: Global,
     around: &Around,
     scopes: &Scopes<CType>,
     expr: &Expr,
 ) -> Result<Option<Fault>, AllocError>
-    ensures { IfOk result (λ fault. fault ≡ first (evaluated is_condition (around_seen around.now scopes.now) expr.now)) }
+    ensures { IfOk result (λ fault. fault ≡ first (expression_faults is_condition (around_seen around.now scopes.now) expr.now)) }
 {
-    let part = seen(alloc, around, scopes, expr)?;
+    let part = infer_in_function(alloc, around, scopes, expr)?;
     Ok(part.required(part.found.has_scalar()))
 }
 
 /// What is wrong with an expression that may be without a value.
-pub(crate) fn stood(
+pub(crate) fn evaluation_fault(
     alloc: Global,
     around: &Around,
     scopes: &Scopes<CType>,
     expr: &Expr,
 ) -> Result<Option<Fault>, AllocError>
-    ensures { IfOk result (λ fault. fault ≡ first (evaluated is_evaluated (around_seen around.now scopes.now) expr.now)) }
+    ensures { IfOk result (λ fault. fault ≡ first (expression_faults is_evaluated (around_seen around.now scopes.now) expr.now)) }
 {
-    let part = seen(alloc, around, scopes, expr)?;
+    let part = infer_in_function(alloc, around, scopes, expr)?;
     Ok(part.required(part.found.is_evaluated()))
 }
 
 /// What is wrong with a value that is converted to a type.
-pub(crate) fn given(
+pub(crate) fn conversion_fault(
     alloc: Global,
     around: &Around,
     scopes: &Scopes<CType>,
     to: &CType,
     expr: &Expr,
 ) -> Result<Option<Fault>, AllocError>
-    ensures { IfOk result (λ fault. fault ≡ first (evaluated (fits around.now.text.now to.now) (around_seen around.now scopes.now) expr.now)) }
+    ensures { IfOk result (λ fault. fault ≡ first (expression_faults (fits around.now.text.now to.now) (around_seen around.now scopes.now) expr.now)) }
 {
-    let part = seen(alloc, around, scopes, expr)?;
+    let part = infer_in_function(alloc, around, scopes, expr)?;
     Ok(part.required(fits(around.text, to, &part.found)))
 }
 
 /// What is wrong with a `break` or `continue`.
-pub(crate) fn jump(loops: Loop, at: usize) -> Option<Fault>
-    ensures { result ≡ first (jump loops at) }
+pub(crate) fn jump_fault(loops: Loop, at: usize) -> Option<Fault>
+    ensures { result ≡ first (jump_faults loops at) }
 {
     match loops {
         Loop::Outside => unless(false, TypeKind::OutsideLoop, at),
@@ -107,8 +107,8 @@ pub(crate) fn jump(loops: Loop, at: usize) -> Option<Fault>
 }
 
 /// What is wrong with `return;`.
-pub(crate) fn returned(around: &Around, scopes: &Scopes<CType>, at: usize) -> Option<Fault>
-    ensures { result ≡ first (returned around.now.result.now at ++ left (around_seen around.now scopes.now) at) }
+pub(crate) fn return_fault(around: &Around, scopes: &Scopes<CType>, at: usize) -> Option<Fault>
+    ensures { result ≡ first (return_faults around.now.result.now at ++ leaving_faults (around_seen around.now scopes.now) at) }
 {
     let no_value = match around.result {
         None => None,
@@ -119,23 +119,23 @@ pub(crate) fn returned(around: &Around, scopes: &Scopes<CType>, at: usize) -> Op
 }
 
 /// What is wrong with `return e;`.
-pub(crate) fn value_returned(
+pub(crate) fn value_return_fault(
     alloc: Global,
     around: &Around,
     scopes: &Scopes<CType>,
     at: usize,
     expr: &Expr,
 ) -> Result<Option<Fault>, AllocError>
-    ensures { IfOk result (λ fault. fault ≡ first (left (around_seen around.now scopes.now) at
-        ++ value_returned around.now.result.now at (around_seen around.now scopes.now) expr.now)) }
+    ensures { IfOk result (λ fault. fault ≡ first (leaving_faults (around_seen around.now scopes.now) at
+        ++ value_return_faults around.now.result.now at (around_seen around.now scopes.now) expr.now)) }
 {
     let left = unless(!around.in_transaction, TypeKind::LeavesTransaction, at);
     let value = match around.result {
         None => sooner(
             unless(false, TypeKind::WrongType, at),
-            stood(alloc, around, scopes, expr)?,
+            evaluation_fault(alloc, around, scopes, expr)?,
         ),
-        Some(declared) => given(alloc, around, scopes, declared, expr)?,
+        Some(declared) => conversion_fault(alloc, around, scopes, declared, expr)?,
     };
     Ok(sooner(left, value))
 }
@@ -148,7 +148,7 @@ pub(crate) fn hiding(parts: Option<Fault>, whole: Option<Fault>) -> Option<Fault
 }
 
 /// Adds a variable to the innermost block, unless that has one of its name; tells whether it was added.
-pub(crate) fn add(
+pub(crate) fn declare_variable(
     scopes: &mut Scopes<CType>,
     name: &str,
     declared: CType,
@@ -160,36 +160,36 @@ pub(crate) fn add(
 }
 
 /// What is wrong with an initialiser that may be absent.
-fn initial(
+fn initialiser_fault(
     alloc: Global,
     around: &Around,
     scopes: &Scopes<CType>,
     to: &CType,
     expr: &Option<Expr>,
 ) -> Result<Option<Fault>, AllocError>
-    ensures { IfOk result (λ fault. fault ≡ first (optional (fits around.now.text.now to.now) (around_seen around.now scopes.now) expr.now)) }
+    ensures { IfOk result (λ fault. fault ≡ first (optional_faults (fits around.now.text.now to.now) (around_seen around.now scopes.now) expr.now)) }
 {
     match expr {
-        Some(expr) => given(alloc, around, scopes, to, expr),
+        Some(expr) => conversion_fault(alloc, around, scopes, to, expr),
         None => Ok(None),
     }
 }
 
-/// What is wrong with a declaration in a block. Behind it the innermost block has the variable, unless
+/// What is wrong with a declaration in a block. After it the innermost block has the variable, unless
 /// it had one of that name.
 #[tactic(auto, using(crate::proofs::Firsts::first_append, crate::proofs::Firsts::first_hiding))]
-pub(crate) fn declared(
+pub(crate) fn declaration_fault(
     alloc: Global,
     around: &Around,
     scopes: &mut Scopes<CType>,
     declaration: &Declaration,
 ) -> Result<Option<Fault>, AllocError>
-    ensures fault { IfOk result (λ fault. fault ≡ first (declared (around_seen around.now scopes.old) declaration.now).faults) }
-    ensures scopes { OnOk result (scopes.new ≡ (declared (around_seen around.now scopes.old) declaration.now).scopes) }
+    ensures fault { IfOk result (λ fault. fault ≡ first (walk_declaration (around_seen around.now scopes.old) declaration.now).faults) }
+    ensures scopes { OnOk result (scopes.new ≡ (walk_declaration (around_seen around.now scopes.old) declaration.now).scopes) }
 {
     let name = declaration.name.text.as_str();
-    let is_new = add(scopes, name, declaration.declared.copy()?)?;
-    let part = initial(
+    let is_new = declare_variable(scopes, name, declaration.declared.copy()?)?;
+    let part = initialiser_fault(
         alloc,
         around,
         scopes,

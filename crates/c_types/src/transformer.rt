@@ -3,7 +3,7 @@ ghost use Rattle.c_types.specs.Definitions.{max_need};
 ghost use Rattle.c_types.specs.Expressions.{member};
 ghost use Rattle.c_types.specs.Lookup.{members_of};
 ghost use Rattle.c_types.specs.Need.{greatest, need};
-ghost use Rattle.c_types.specs.TransformSyntax.{are_given, form_of, is_global, is_transforming, transforms_struct};
+ghost use Rattle.c_types.specs.TransformSyntax.{transforms_fields, form_of, is_global, is_transforming, transforms_struct};
 ghost use Rattle.c_types.specs.Views.{meaning_seen};
 
 use crate::expression::is_safe;

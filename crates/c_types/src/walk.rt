@@ -2,11 +2,14 @@ ghost use Rattle.std.specs.Prelude.{◌≡◌, ◌++◌, IfOk, OnOk, map};
 ghost use Rattle.c_types.specs.Expressions.{is_condition};
 ghost use Rattle.c_types.specs.Faults.{first};
 ghost use Rattle.c_types.specs.Found.{is_evaluated};
-ghost use Rattle.c_types.specs.Statements.{beyond, evaluated, in_a_transaction, in_block, in_loop, in_order, optional, walk};
+ghost use Rattle.c_types.specs.Statements.{beyond, expression_faults, in_a_transaction, in_block, in_loop, in_order, optional_faults, walk};
 ghost use Rattle.c_types.specs.Views.{around_seen};
 
 use crate::fault::{Fault, sooner};
-use crate::statement::{Around, Loop, declared, jump, returned, stood, tested, value_returned};
+use crate::statement::{
+    Around, Loop, condition_fault, declaration_fault, evaluation_fault, jump_fault, return_fault,
+    value_return_fault,
+};
 use c_scope::Scopes;
 use c_tree::{CType, Expr, Stmt, StmtNode as Node};
 use dsu_io::Boxed;
@@ -29,10 +32,10 @@ fn test_of_for(
     scopes: &Scopes<CType>,
     test: &Option<Expr>,
 ) -> Result<Option<Fault>, AllocError>
-    ensures { IfOk result (λ fault. fault ≡ first (optional is_condition (around_seen around.now scopes.now) test.now)) }
+    ensures { IfOk result (λ fault. fault ≡ first (optional_faults is_condition (around_seen around.now scopes.now) test.now)) }
 {
     match test {
-        Some(test) => tested(alloc, around, scopes, test),
+        Some(test) => condition_fault(alloc, around, scopes, test),
         None => Ok(None),
     }
 }
@@ -44,15 +47,15 @@ fn step_of_for(
     scopes: &Scopes<CType>,
     step: &Option<Expr>,
 ) -> Result<Option<Fault>, AllocError>
-    ensures { IfOk result (λ fault. fault ≡ first (optional is_evaluated (around_seen around.now scopes.now) step.now)) }
+    ensures { IfOk result (λ fault. fault ≡ first (optional_faults is_evaluated (around_seen around.now scopes.now) step.now)) }
 {
     match step {
-        Some(step) => stood(alloc, around, scopes, step),
+        Some(step) => evaluation_fault(alloc, around, scopes, step),
         None => Ok(None),
     }
 }
 
-/// The first fault of statements one after another. Behind them the innermost block has what they
+/// The first fault of statements one after another. After them the innermost block has what they
 /// declare.
 #[cycle(walk)]
 pub(crate) fn statements(
@@ -71,7 +74,7 @@ pub(crate) fn statements(
     Ok(fault)
 }
 
-/// The first fault of a statement. Behind it the innermost block has what it declares.
+/// The first fault of a statement. After it the innermost block has what it declares.
 #[cycle(walk)]
 fn statement(
     alloc: Global,
@@ -85,8 +88,8 @@ fn statement(
     match &stmt.node {
         Node::Block(body) => block(alloc, around, scopes, body.as_slice()),
         Node::Empty | Node::Update => Ok(None),
-        Node::Evaluate(expr) => stood(alloc, around, scopes, expr),
-        Node::Declare(declaration) => declared(alloc, around, scopes, declaration),
+        Node::Evaluate(expr) => evaluation_fault(alloc, around, scopes, expr),
+        Node::Declare(declaration) => declaration_fault(alloc, around, scopes, declaration),
         Node::If(test, body) => if_then(alloc, around, scopes, body, test),
         Node::IfElse(test, body, otherwise) => {
             let of_then = if_then(alloc, around, scopes, body, test)?;
@@ -102,9 +105,9 @@ fn statement(
             scopes.leave();
             Ok(sooner(of_opening, of_turn))
         }
-        Node::Break | Node::Continue => Ok(jump(around.loops, stmt.place)),
-        Node::Return => Ok(returned(around, scopes, stmt.place)),
-        Node::ReturnValue(expr) => value_returned(alloc, around, scopes, stmt.place, expr),
+        Node::Break | Node::Continue => Ok(jump_fault(around.loops, stmt.place)),
+        Node::Return => Ok(return_fault(around, scopes, stmt.place)),
+        Node::ReturnValue(expr) => value_return_fault(alloc, around, scopes, stmt.place, expr),
         Node::Transaction(body, _) => transaction(alloc, around, scopes, body.as_slice()),
     }
 }
@@ -119,10 +122,10 @@ fn if_then(
     test: &Expr,
 ) -> Result<Option<Fault>, AllocError>
     ensures fault { let around = around_seen around.now scopes.old in
-        IfOk result (λ fault. fault ≡ first (evaluated is_condition around test.now ++ (walk body.now (in_block around)).faults)) }
+        IfOk result (λ fault. fault ≡ first (expression_faults is_condition around test.now ++ (walk body.now (in_block around)).faults)) }
     ensures scopes { OnOk result (scopes.new ≡ scopes.old) }
 {
-    let of_test = tested(alloc, around, scopes, test)?;
+    let of_test = condition_fault(alloc, around, scopes, test)?;
     let of_body = inner(alloc, around, scopes, body)?;
     Ok(sooner(of_test, of_body))
 }
@@ -137,11 +140,11 @@ fn while_loop(
     test: &Expr,
 ) -> Result<Option<Fault>, AllocError>
     ensures fault { let around = around_seen around.now scopes.old in
-        IfOk result (λ fault. fault ≡ first (evaluated is_condition around test.now ++ (walk body.now (in_block (in_loop around))).faults)) }
+        IfOk result (λ fault. fault ≡ first (expression_faults is_condition around test.now ++ (walk body.now (in_block (in_loop around))).faults)) }
     ensures scopes { OnOk result (scopes.new ≡ scopes.old) }
 {
-    let of_test = tested(alloc, around, scopes, test)?;
-    let of_body = repeated(alloc, around, scopes, body)?;
+    let of_test = condition_fault(alloc, around, scopes, test)?;
+    let of_body = loop_body_fault(alloc, around, scopes, body)?;
     Ok(sooner(of_test, of_body))
 }
 
@@ -155,11 +158,11 @@ fn do_loop(
     test: &Expr,
 ) -> Result<Option<Fault>, AllocError>
     ensures fault { let around = around_seen around.now scopes.old in
-        IfOk result (λ fault. fault ≡ first ((walk body.now (in_block (in_loop around))).faults ++ evaluated is_condition around test.now)) }
+        IfOk result (λ fault. fault ≡ first ((walk body.now (in_block (in_loop around))).faults ++ expression_faults is_condition around test.now)) }
     ensures scopes { OnOk result (scopes.new ≡ scopes.old) }
 {
-    let of_body = repeated(alloc, around, scopes, body)?;
-    let of_test = tested(alloc, around, scopes, test)?;
+    let of_body = loop_body_fault(alloc, around, scopes, body)?;
+    let of_test = condition_fault(alloc, around, scopes, test)?;
     Ok(sooner(of_body, of_test))
 }
 
@@ -220,7 +223,7 @@ fn inner(
 
 /// The first fault of a loop's body.
 #[cycle(walk)]
-fn repeated(
+fn loop_body_fault(
     alloc: Global,
     around: &Around,
     scopes: &mut Scopes<CType>,
@@ -238,7 +241,7 @@ fn repeated(
     inner(alloc, &inside, scopes, body)
 }
 
-/// The first fault of what stands behind the first part of a `for`: its test, its step and its body.
+/// The first fault of what comes after the first part of a `for`: its test, its step and its body.
 #[cycle(walk)]
 fn turn(
     alloc: Global,
@@ -249,12 +252,12 @@ fn turn(
     body: &Boxed<Stmt>,
 ) -> Result<Option<Fault>, AllocError>
     ensures fault { let around = around_seen around.now scopes.old in
-        IfOk result (λ fault. fault ≡ first (optional is_condition around test.now
-        ++ (optional is_evaluated around step.now ++ (walk body.now (in_block (in_loop around))).faults))) }
+        IfOk result (λ fault. fault ≡ first (optional_faults is_condition around test.now
+        ++ (optional_faults is_evaluated around step.now ++ (walk body.now (in_block (in_loop around))).faults))) }
     ensures scopes { OnOk result (scopes.new ≡ scopes.old) }
 {
     let of_test = test_of_for(alloc, around, scopes, test)?;
     let of_step = step_of_for(alloc, around, scopes, step)?;
-    let of_body = repeated(alloc, around, scopes, body)?;
+    let of_body = loop_body_fault(alloc, around, scopes, body)?;
     Ok(sooner(of_test, sooner(of_step, of_body)))
 }

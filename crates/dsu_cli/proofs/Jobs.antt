@@ -121,6 +121,6 @@ pub job_missing : (c : Command) (found : Option (List Item)) → fits_items (lin
 job_missing c None fit = refl
 job_missing c (Some its) fit = rw fit refl
 
--- the words behind a command's name
+-- the words after a command's name
 pub job_of_command : (words rest : List Text) (name : Text) (c : Command) → words ≡ name ∷ rest → command_of name ≡ Some c → job_of words ≡ job_of_items c (items None rest)
 job_of_command words rest name c is named = ap job_of is ∙ ap (λ o. option_and_then (λ k. option_and_then (job_if_fits k) (items None rest)) o) named

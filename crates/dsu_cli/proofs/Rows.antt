@@ -1,4 +1,4 @@
--- The values of each argument behind the items that were read.
+-- The values of each argument after the items that were read.
 use Rattle.std.proofs.Common.{◌≡◌, ◌∙◌, ◌++◌, true, false, List, [], ◌∷◌, length, refl, sym, ap, codes, cond, arith, inl, inr}
 use Rattle.std.specs.Prelude.{unwrap_or}
 use Rattle.std.specs.List.{fold, list_all}

@@ -45,7 +45,7 @@ pub data State : Option Text → List Row → Walk → Type 0 where
   resting : (rows : List Row) (p : Option (Text × List Text)) (w : Waiting) → Pending p → Resting w → State None (base rows p) (at rows p w)
   waiting_for : (rows : List Row) (s : Setting) → State (Some (name_of s)) rows (at rows (Some (name_of s, [])) (waits_for (name_of s)))
 
--- the words behind this place can be walked over
+-- the words after this place can be walked over
 abbrev pub Goes : List Text → Type 0
 Goes words = (its : List Item) (name : Option Text) (start : List Row) (from : Walk) → State name start from → items name words ≡ Some its
     → list_all is_known its ≡ true → Walked words its start from
@@ -54,7 +54,7 @@ first_item : (item : Item) (o : Option (List Item)) (its : List Item) → then_i
 first_item item None its e = absurd (none-some its e)
 first_item item (Some rest) its e = (rest, refl, sym (same_Some _ _ e))
 
--- what is found behind an item counts with it
+-- what is found after an item counts with it
 with_item : (words : List Text) (item : Item) (rest : List Item) (start : List Row) (to : Walk) → Walked words rest (put_item start item) to → Walked words (item ∷ rest) start to
 with_item words item rest start to h = record {
   rows = h.rows;

@@ -50,14 +50,14 @@ abbrev pub times : Bool → ℕ
 times false = 0
 times true = 1
 
--- the items fit behind those that were seen
+-- the items fit after those that were seen
 abbrev pub fits_after : Line → Seen → List Item → Bool
 fits_after l seen items = list_all (item_fits l) items && (positionals_fit (drop seen.positionals l.positionals) (positionals items)
     && (nat_le (uses (codes "offer") items) seen.offers_left && (nat_le (times seen.workers + uses (codes "workers") items) 1
     && (nat_le (times seen.moves + uses (codes "moves") items) 1 && (nat_le (times seen.objects + uses (codes "objects") items) 1
     && nat_le (times seen.journal + uses (codes "journal") items) 1)))))
 
--- the words fit behind those that were seen
+-- the words fit after those that were seen
 abbrev pub fits_from : Line → Seen → List Text → Bool
 fits_from l seen words = option_map_or (fits_after l seen) (items (option_map name_of seen.waiting) words) false
 
@@ -65,7 +65,7 @@ fits_from l seen words = option_map_or (fits_after l seen) (items (option_map na
 abbrev pub fits_items : Line → Option (List Item) → Bool
 fits_items l found = option_map_or (fits l) found false
 
--- one more item leads to the next, or to none where nothing behind it can fit
+-- one more item leads to the next, or to none where nothing after it can fit
 abbrev pub Steps : Line → Seen → Item → Option Seen → Type 0
 Steps l seen item next = (items : List Item) → fits_after l seen (item ∷ items) ≡ option_map_or (λ s. fits_after l s items) next false
 

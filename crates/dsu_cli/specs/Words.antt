@@ -53,7 +53,7 @@ file_and_lines text = if list_any is_at text then Some (before_last is_at text, 
 abbrev pub is_offer : Text → Bool
 is_offer text = is_value text && option_map_or (λ parts. nat_lt 0 (length parts.0) && is_number 7 0 1000000 parts.1) (file_and_lines text) false
 
--- ---- the words behind the command
+-- ---- the words after the command
 
 -- what one of them is, or two of them
 pub data Item : Type 0 where
@@ -63,7 +63,7 @@ pub data Item : Type 0 where
   -- the name of an option that has no value: `--journal`
   switch : Text → Item
 
--- what stands behind the `--` (45) of an option; none where the word is no option
+-- what comes after the `--` (45) of an option; none where the word is no option
 abbrev pub behind_dashes : Text → Option Text
 behind_dashes (a ∷ b ∷ text) = if a == 45 && b == 45 then Some text else None
 behind_dashes _ = None
@@ -76,7 +76,7 @@ name_and_value text = option_map (λ at. (take at text, drop (at + 1) text)) (po
 abbrev pub then_items : Item → Option (List Item) → Option (List Item)
 then_items item = option_map (λ items. item ∷ items)
 
--- the words as items, where an option in front of them may wait for its value; none where an option's value is missing
+-- the words as items, where an option before them may wait for its value; none where an option's value is missing
 abbrev pub items : Option Text → List Text → Option (List Item)
 items None [] = Some []
 items (Some name) [] = None
@@ -154,7 +154,7 @@ positionals_fit _ _ = false
 abbrev pub is_once : Text → List Item → Bool
 is_once name items = nat_le (uses name items) 1
 
--- the items fit the command: every option but `--offer` stands at most once, and that at most 63 times
+-- the items fit the command: every option but `--offer` is at most once, and that at most 63 times
 abbrev pub fits : Line → List Item → Bool
 fits l items = list_all (item_fits l) items && (positionals_fit l.positionals (positionals items)
     && (nat_le (uses (codes "offer") items) 63 && (is_once (codes "workers") items

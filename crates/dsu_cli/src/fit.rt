@@ -23,7 +23,7 @@ pub struct Seen {
 /// The most offers.
 const MOST_OFFERS: usize = 63;
 
-/// Whether the words behind the command fit it. No memory is taken.
+/// Whether the words after the command fit it. No memory is taken.
 pub fn fit(command: Command, words: &[Text]) -> bool
     ensures { result ≡ fits_items (line command) (items None words.now) }
 {
@@ -142,7 +142,7 @@ impl Seen {
     }
 }
 
-/// What stands behind the `--` of an option.
+/// What comes after the `--` of an option.
 fn behind_dashes(word: &str) -> Option<&str>
     ensures { option_map (λ text. text.now) result ≡ behind_dashes word.now }
 {

@@ -1,7 +1,7 @@
 use dsu_io::{List, Text};
 use thiserror::Error;
 
-/// A newer text, and the number of printed lines behind which it is offered.
+/// A newer text, and the number of printed lines after which it is offered.
 #[derive(Drop)]
 pub struct Offer {
     pub file: Text,
@@ -42,7 +42,7 @@ pub enum Job {
     Replay(ReplayJob),
     /// The file to check.
     Check(Text),
-    /// The file whose effects are told.
+    /// The file whose effects are reported.
     Effects(Text),
     /// The old file and the new one.
     Changes(Text, Text),

@@ -19,7 +19,7 @@ const DEFAULT_MOVES: u32 = 1_000_000;
 
 const DEFAULT_OBJECTS: u32 = 4096;
 
-/// The job that the words behind the program's name ask for.
+/// The job that the words after the program's name ask for.
 ///
 /// `Usage` comes where they fit no line of the definition, before any memory is taken; `Memory` where it is
 /// refused for words that fit.

@@ -9,7 +9,7 @@ pub const MOST_WORKERS: u64 = 8;
 pub const MOST_MOVES: u64 = 1_600_000;
 
 pub const MOST_OBJECTS: u64 = 65_536;
-/// The most printed lines behind which an offer is made.
+/// The most printed lines after which an offer is made.
 pub const MOST_LINES: u64 = 1_000_000;
 
 /// The options that have a value.

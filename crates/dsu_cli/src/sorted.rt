@@ -7,7 +7,7 @@ use clap::error::ErrorKind;
 use clap::{Arg, ArgAction, ArgMatches, Command};
 use std::alloc::{AllocError, Global};
 
-/// The words by their names: `files` has the positionals. It fails for want of memory alone.
+/// The words by their names: `files` has the positionals. It fails only when out of memory.
 pub fn sorted<'a>(alloc: Global, words: &'a [&'a str]) -> Result<ArgMatches<'a>, AllocError>
     requires { (its : List Item) × AreKnown (map (λ word. word.now) words.now) its }
     ensures { IfOk result (λ matches. (its : List Item) → AreKnown (map (λ word. word.now) words.now) its → Sorts its matches) }

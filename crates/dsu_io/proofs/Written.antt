@@ -6,11 +6,11 @@ use Rattle.std.specs.declared.option.Option.{Option}
 use Rattle.std.specs.Io.KnownBytes.{Appends}
 use Rattle.std.proofs.Math.Seq.{take-add, take-length, take-append-add}
 
--- what stands behind a place, up to the end
+-- what comes after a place, up to the end
 pub take-rest : (bytes : List ℕ) (done : ℕ) → take (length bytes - done) (drop done bytes) ≡ drop done bytes
 take-rest bytes done = ap (λ k. take k (drop done bytes)) (sym (length-drop done bytes)) ∙ take-length (drop done bytes)
 
--- a front, and then a front of what stands behind it
+-- a prefix, and then a prefix of what comes after it
 pub Appends-more : (old mid new : Option (List ℕ)) (bytes : List ℕ) (done n : ℕ) → Appends old mid (take done bytes)
     → Appends mid new (take n (take (length bytes - done) (drop done bytes))) → Appends old new (take (done + n) bytes)
 Appends-more None mid new bytes done n first second = tt
@@ -27,7 +27,7 @@ Appends-then (Some os) None new xs ys first second = absurd first
 Appends-then (Some os) (Some ms) None xs ys first second = absurd second
 Appends-then (Some os) (Some ms) (Some ns) xs ys first second = second ∙ ap (λ zs. zs ++ ys) first ∙ append_assoc os xs ys
 
--- bytes, and then a front of more of them
+-- bytes, and then a prefix of more of them
 pub AppendsFront-then : (old mid new : Option (List ℕ)) (xs ys zs : List ℕ) → Appends old mid xs → AppendsFront mid new ys
     → AppendsFront old new (xs ++ (ys ++ zs))
 AppendsFront-then old mid new xs ys zs first (n, within, second) =
@@ -44,7 +44,7 @@ joined-append : (xs ys : List (Bor (List ℕ))) → joined (xs ++ ys) ≡ joined
 joined-append [] ys = refl
 joined-append (x ∷ xs) ys = ap (λ rest. x.now ++ rest) (joined-append xs ys) ∙ sym (append_assoc x.now (joined xs) (joined ys))
 
--- the pieces up to a place, one more, and those behind it
+-- the pieces up to a place, one more, and those after it
 pub joined-more : (pieces : List (Bor (List ℕ))) (i : ℕ) (d : Bor (List ℕ)) → i < length pieces
     → joined (take (i + 1) pieces) ≡ joined (take i pieces) ++ (get_or pieces i d).now
 joined-more pieces i d within =
@@ -63,7 +63,7 @@ pieces-more old mid new pieces i d within first second =
     subst {A = List ℕ} (λ bytes. Appends old new bytes) (sym (joined-more pieces i d within))
     (Appends-then old mid new (joined (take i pieces)) (get_or pieces i d).now first second)
 
--- a front of one more piece
+-- a prefix of one more piece
 pub pieces-front : (old mid new : Option (List ℕ)) (pieces : List (Bor (List ℕ))) (i : ℕ) (d : Bor (List ℕ)) → i < length pieces
     → Appends old mid (joined (take i pieces)) → AppendsFront mid new (get_or pieces i d).now → AppendsFront old new (joined pieces)
 pieces-front old mid new pieces i d within first second =

@@ -1,7 +1,7 @@
 -- When a fault may be answered: only where a count of faults has risen.
 use Rattle.std.specs.Prelude.{ℕ, ◌+◌, ◌-◌, ◌^◌, ◌≤◌, min, Result, OnErr}
 
--- a count went up, or stands at the greatest number it can hold
+-- a count went up, or is at the greatest number it can hold
 abbrev pub Rose : ℕ → ℕ → Type 0
 Rose before now = min (before + 1) (2 ^ 64 - 1) ≤ now
 

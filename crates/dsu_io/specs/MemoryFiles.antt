@@ -20,7 +20,7 @@ content_of (file ∷ files) name = if pointwise nat_eq file.0 name then Some fil
 abbrev pub read_fails : Folder → List ℕ → Bool
 read_fails folder name = is_listed folder.failing folder.calls || is_none (content_of folder.files name)
 
--- the folder behind a read
+-- the folder after a read
 abbrev pub after_read : Folder → List ℕ → Folder
 after_read folder name =
     if read_fails folder name

@@ -32,7 +32,7 @@ taken_count s bytes = min (length bytes) (s.room - length s.bytes)
 abbrev pub write_answer : Storage → List ℕ → Result ℕ Failed
 write_answer s bytes = if write_fails s bytes then Err (record {}) else Ok (taken_count s bytes)
 
--- the sink behind a write
+-- the sink after a write
 abbrev pub after_write : Storage → List ℕ → Storage
 after_write s bytes =
     if write_fails s bytes

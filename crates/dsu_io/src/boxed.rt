@@ -37,7 +37,7 @@ impl<T> Boxed<T> {
 }
 
 impl<T: Drop> Boxed<T> {
-    /// Puts a value on the heap. For want of memory the value is dropped.
+    /// Puts a value on the heap. When out of memory the value is dropped.
     pub fn of(alloc: Global, value: T) -> Result<Boxed<T>, AllocError>
         ensures { IfOk result (λ b. b ≡ value) }
     {

@@ -27,7 +27,7 @@ impl From<AllocError> for FileFault {
 
 /// Files that are read whole, by name.
 pub trait Files {
-    /// The content of the file with a name, where it is told.
+    /// The content of the file with a name, where it is known.
     ghost content: { Self → List ℕ → Option (List ℕ) };
 
     /// How often opening or reading has failed; the count stops at 2^64 - 1.

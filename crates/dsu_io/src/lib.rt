@@ -2,7 +2,7 @@
 //! outputs that count their faults, and files that count theirs.
 //!
 //! The contract is about bytes and causes. A sink appends what it says it took; `put` appends all of a
-//! text, or a front of it where it fails. A file read in full is its content. Every fault that is
+//! text, or a prefix of it where it fails. A file read in full is its content. Every fault that is
 //! answered has raised the count of faults of the object that was lent.
 //!
 //! Read in this order: `text`, `list`, `boxed` (data); `sink`, `memory_sink`, `null_sink`, `std_sink`

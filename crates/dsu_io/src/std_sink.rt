@@ -4,8 +4,8 @@ use crate::{Failed, Sink};
 use std::io::Write;
 
 /// A sink over a writer of the standard library. Each write that fails, or that takes nothing of a
-/// piece that isn't empty, counts as a fault. What the writer does with the bytes behind its answer is
-/// not known here: its bytes are told only where the writer tells them.
+/// piece that isn't empty, counts as a fault. What the writer does with the bytes after its answer is
+/// not known here: its bytes are reported only where the writer tells them.
 #[derive(Drop)]
 pub struct StdSink<W: Write> {
     inner: W,

@@ -25,7 +25,7 @@ unsafe impl Send for Text {}
 unsafe impl Sync for Text {}
 
 impl Text {
-    /// A copy of `text`. It fails for want of memory alone.
+    /// A copy of `text`. It fails only when out of memory.
     pub fn of(alloc: Global, text: &str) -> Result<Text, AllocError>
         ensures { IfOk result (λ t. t ≡ text.now) }
     {

@@ -1,4 +1,4 @@
--- A place as a reader counts it: lines and columns from 1. A line ends behind its newline, and a column counts bytes.
+-- A place as a reader counts it: lines and columns from 1. A line ends after its newline, and a column counts bytes.
 use Rattle.std.specs.Prelude.{ℕ, zero, suc, ◌+◌, ◌==◌, List, slice_index, if◌then◌else◌}
 
 -- the line of a place

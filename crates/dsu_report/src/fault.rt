@@ -31,7 +31,7 @@ pub enum FaultLine {
     Line(u32, LineWord),
     /// Standard output couldn't be written.
     Write,
-    /// Want of memory.
+    /// Lack of memory.
     Memory,
 }
 

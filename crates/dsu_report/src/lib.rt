@@ -1,6 +1,6 @@
 //! What the program writes on standard error: for each fault its one line, or the usage text, byte for
 //! byte as [`specs/Faults.antt`] has it, and for a run that ended its report, as [`specs/Endings.antt`]
-//! has it. A writer puts all of its text into the sink, or a front of it where the sink failed, and takes
+//! has it. A writer puts all of its text into the sink, or a prefix of it where the sink failed, and takes
 //! no memory. Beside it stands how a place in a text is counted by lines and columns.
 //!
 //! - [`place`]: a byte's place, by line and column

@@ -2,7 +2,7 @@
 ghost use Rattle.std.specs.Prelude.{◌≡◌, ◌<◌, ◌≤◌, ◌-◌, ◌^◌, length};
 ghost use Rattle.dsu_report.specs.Places.{line_at, column_at};
 
-/// A place in a text as a reader counts it, from 1. A line ends behind its newline, and a column counts
+/// A place in a text as a reader counts it, from 1. A line ends after its newline, and a column counts
 /// bytes.
 #[derive(Clone, Copy, Debug, PartialEq, Eq)]
 pub struct Place {

@@ -1,4 +1,4 @@
--- What follows for a text whose content is told.
+-- What follows for a text whose content is known.
 use Rattle.std.proofs.Common.{◌≡◌, ◌≢◌, ◌≤◌, ◌⊎◌, ℕ, List, Option, Some, Result, Ok, Err, inl, inr, ◌∙◌, ap, subst, refl, arith, length}
 use Rattle.dsu_io.specs.Files.{IsContent}
 use Rattle.c_ints.specs.declared.int.Int.{Int}
@@ -16,7 +16,7 @@ use Rattle.dsu_run.specs.Form.{Formula, IsForm, value}
 use Rattle.dsu_run.specs.Answer.{HoldsForm, IsRefused, IsExcused, IsRun, IsStatus, status_of, status_of_run}
 use Rattle.dsu_run.proofs.FormLemmas.{form_once}
 
--- what was read of a file whose content is told
+-- what was read of a file whose content is known
 pub told_text : (content : Option (List ℕ)) (text read : List ℕ) → content ≡ Some text → IsContent content read → read ≡ text
 told_text content text read told is = subst {A = Option (List ℕ)} (λ c. IsContent c read) told is
 
@@ -119,7 +119,7 @@ run_is_no_usage left status (inl failed) ten = omega (arith, failed, ten)
 run_is_no_usage (Ok value) status (inr is) ten = omega (arith, is, ten)
 run_is_no_usage (Err trap) status (inr is) ten = omega (arith, is, ten)
 
--- a run of a file that is told and of the form is told as the value of its expression asks, or an output failed
+-- a run of a file that is known and of the form is reported as the value of its expression asks, or an output failed
 pub told_run : (content : Option (List ℕ)) (text : List ℕ) (e f : Formula) (left : Result Int ArithTrap) (status : ℕ) (R : Result Int ArithTrap → Type 0)
     → content ≡ Some text → IsForm text e → HoldsForm content f → left ≡ value f → (status ≡ 13) ⊎ (status ≡ status_of_run left)
     → (status ≢ 13 → R left) → IsExcused status ⊎ R (value e)

@@ -36,7 +36,7 @@ pub record Parts (front found back : List Token) (ws : List Word) : Type 0 where
 long : (tokens : List Token) (ws : List Word) → map word tokens ≡ ws → length tokens ≡ length ws
 long tokens ws same = sym (length-map tokens word) ∙ ap length same
 
--- what stands behind the first words of the form
+-- what comes after the first words of the form
 rest_is : (tokens : List Token) (ws : List Word) → map word tokens ≡ before ++ ws ++ behind → map word (drop 10 tokens) ≡ ws ++ behind
 rest_is tokens ws same = sym (drop-map word 10 tokens) ∙ ap (drop 10) same
 

@@ -5,4 +5,3 @@ pub mod ReadSum
 pub mod ReaderSteps
 pub mod Scans
 pub mod Statuses
-pub mod TextNames

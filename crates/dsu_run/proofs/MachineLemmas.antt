@@ -56,7 +56,7 @@ leaves_value e = ap (λ code. outcome (execute code [])) (sym (append-nil (postf
     settled (Ok v) = refl
     settled (Err trap) = refl
 
--- what a step comes to, with the rest of the code behind it
+-- what a step comes to, with the rest of the code after it
 abbrev pub goes : Step → List Int → List Instr → Option Operands
 goes Done stack rest = execute rest (reverse stack)
 goes (Trapped trap) stack rest = Some (Err trap)

@@ -1,4 +1,4 @@
--- What a reader keeps behind one more word.
+-- What a reader keeps after one more word.
 use Rattle.std.proofs.Common.{◌≡◌, ◌≢◌, ◌≤◌, ◌-◌, ◌^◌, w32, subst, rules, arith, ℕ, pos, [], ◌∷◌, ◌++◌, Some, None, refl, sym, ◌∙◌, ap, append_assoc}
 use Rattle.std.specs.Prelude.{ℤ}
 use mir.Val.{to_z, of_z, SFits}
@@ -38,7 +38,7 @@ operand_read (opening front) old new w n z is wants constant value code sign exp
 operand_read (factor front p) old new w n z is wants constant value code sign expected = absurd (apart _ _ (λ e. omega (arith, e)) (sym is.expected ∙ wants))
 operand_read (read front p) old new w n z is wants constant value code sign expected = absurd (apart _ _ (λ e. omega (arith, e)) (sym is.expected ∙ wants))
 
--- a number behind a `*`
+-- a number after a `*`
 pub factor_read : (state : State) (old new : Reader) (w : Word) (n : ℕ) (z : ℤ) → IsIn state old → old.expected ≡ Factor
     → IsConstant w n → z ≡ pos n → new.code.items ≡ old.code.items ++ Const (I32 z) ∷ [] ++ Binary Mul ∷ [] → new.sign ≡ old.sign
     → new.expected ≡ Operator → (next : State) × Steps state w next × IsIn next new
@@ -92,7 +92,7 @@ adds_read (factor front p) old new w by is wants word code sign expected = absur
 pub kept_int : (n : ℕ) (z : ℤ) → z ≡ pos n → n ≤ 2 ^ 31 - 1 → to_z w32 (of_z w32 z) ≡ pos n
 kept_int n z same fits = to_z-of_z w32 z (subst {A = ℤ} (SFits w32) (sym same) (search rules)) ∙ same
 
--- a reader that expects an operator is behind a number
+-- a reader that expects an operator is after a number
 pub at_operator : (state : State) (reader : Reader) → IsIn state reader → reader.expected ≡ Operator
     → (front : Front) × ((p : Formula) × (state ≡ read front p))
 at_operator (read front p) reader is expects = (front, (p, refl))
@@ -104,7 +104,7 @@ pub unlike_read : (state : State) (reader : Reader) → IsIn state reader → re
     → (front : Front) (p : Formula) → state ≡ read front p → ⊥
 unlike_read state reader is other front p at = other (is.expected ∙ ap expected_in at)
 
--- the code of the sum that ends behind a number
+-- the code of the sum that ends after a number
 pub code_closed : (reader : Reader) (front : Front) (p : Formula) → IsIn (read front p) reader
     → closed_code reader.code.items reader.sign ≡ postfix (closed front p)
 code_closed reader front p is =

@@ -9,7 +9,7 @@ use Rattle.dsu_run.specs.declared.reader.Joint.TheVariants.{Times, Adds}
 use Rattle.dsu_run.specs.Form.{Word, Formula, number, operation, IsConstant, Product, constant, times, Sum, product, plus, minus}
 use Rattle.dsu_run.specs.Reader.{operator, joint_word, Front, closed, State, opening, factor, read, joined, Steps}
 
--- the state behind more words
+-- the state after more words
 abbrev pub Scans : State → List Word → State → Type 0
 Scans state [] next = state ≡ next
 Scans state (w ∷ ws) next = (between : State) × Steps state w between × Scans between ws next
@@ -27,20 +27,20 @@ Scans-split state (w ∷ xs) ys next (first, step, rest) =
 same_value : (w : Word) (m n : ℕ) → IsConstant w m → IsConstant w n → m ≡ n
 same_value w m n a b = a.1.value ∙ sym b.1.value
 
-mark_code : Word → ℕ
-mark_code w = slice_index w.1 0
+punctuator_code : Word → ℕ
+punctuator_code w = slice_index w.1 0
 
 -- no two operators are one word
 joints_apart : (a b : Joint) → joint_word a ≡ joint_word b → a ≡ b
-unfolding mark_code
+unfolding punctuator_code
 joints_apart Times Times same = refl
-joints_apart Times (Adds Plus) same = let e : 42 ≡ 43 = ap mark_code same in absurd (omega (arith, e))
-joints_apart Times (Adds Minus) same = let e : 42 ≡ 45 = ap mark_code same in absurd (omega (arith, e))
-joints_apart (Adds Plus) Times same = let e : 43 ≡ 42 = ap mark_code same in absurd (omega (arith, e))
-joints_apart (Adds Minus) Times same = let e : 45 ≡ 42 = ap mark_code same in absurd (omega (arith, e))
+joints_apart Times (Adds Plus) same = let e : 42 ≡ 43 = ap punctuator_code same in absurd (omega (arith, e))
+joints_apart Times (Adds Minus) same = let e : 42 ≡ 45 = ap punctuator_code same in absurd (omega (arith, e))
+joints_apart (Adds Plus) Times same = let e : 43 ≡ 42 = ap punctuator_code same in absurd (omega (arith, e))
+joints_apart (Adds Minus) Times same = let e : 45 ≡ 42 = ap punctuator_code same in absurd (omega (arith, e))
 joints_apart (Adds Plus) (Adds Plus) same = refl
-joints_apart (Adds Plus) (Adds Minus) same = let e : 43 ≡ 45 = ap mark_code same in absurd (omega (arith, e))
-joints_apart (Adds Minus) (Adds Plus) same = let e : 45 ≡ 43 = ap mark_code same in absurd (omega (arith, e))
+joints_apart (Adds Plus) (Adds Minus) same = let e : 43 ≡ 45 = ap punctuator_code same in absurd (omega (arith, e))
+joints_apart (Adds Minus) (Adds Plus) same = let e : 45 ≡ 43 = ap punctuator_code same in absurd (omega (arith, e))
 joints_apart (Adds Minus) (Adds Minus) same = refl
 
 -- one word leads to one state
@@ -64,7 +64,7 @@ Product-scans (times {ws} {w} {a} {n} p is) front =
     Scans-append (opening front) ws _ (read front a) _ (Product-scans p front)
     (factor front a, (Times, refl, refl), (read front (operation Mul a (number n)), (n, is, refl), refl))
 
--- where a reader stands behind a sum
+-- where a reader comes after a sum
 pub record Closes (ws : List Word) (a : Formula) : Type 0 where
   pub front : Front
   pub last : Formula
@@ -127,7 +127,7 @@ opens : (front : Front) (w : Word) (n : ℕ) (xs : List Word) → IsConstant w n
 opens None w n xs is empty = subst {A = List Word} (λ xs. Product (xs ++ w ∷ []) (number n)) (sym empty) (constant is)
 opens (Some (sum, sign)) w n xs is (us, cut, s) = (us, (w ∷ [], ap (λ xs. xs ++ w ∷ []) cut ∙ append_assoc us _ _, s, constant is))
 
--- a number behind a `*`
+-- a number after a `*`
 grows : (front : Front) (p : Formula) (w : Word) (n : ℕ) (ys : List Word) → IsConstant w n → ReadsProduct front p ys
     → ReadsProduct front (operation Mul p (number n)) (ys ++ joint_word Times ∷ w ∷ [])
 grows None p w n ys is reads = times reads is
@@ -159,7 +159,7 @@ Reads-scan state (w ∷ ys) next xs reads (between, step, rest) =
 pub Scans-sum : (ws : List Word) (front : Front) (p : Formula) → Scans (opening None) ws (read front p) → Sum ws (closed front p)
 Scans-sum ws front p scans = Reads-sum front p ws (Reads-scan (opening None) ws (read front p) [] refl scans)
 
--- words that lead to a state in which no next word can come are no front of a sum
+-- words that lead to a state in which no next word can come are no prefix of a sum
 pub stuck : (xs : List Word) (w : Word) (ys : List Word) (state : State) → Scans (opening None) xs state
     → ((next : State) → Steps state w next → ⊥) → (a : Formula) → Sum (xs ++ w ∷ ys) a → ⊥
 stuck xs w ys state scans none a sum =
@@ -167,7 +167,7 @@ stuck xs w ys state scans none a sum =
     let split = Scans-split (opening None) xs (w ∷ ys) _ whole.scans in
     none split.2.0 (subst {A = State} (λ s. Steps s w split.2.0) (Scans-once (opening None) xs split.0 state split.1 scans) split.2.1)
 
--- words that lead to a state which isn't behind a number are no sum
+-- words that lead to a state which isn't after a number are no sum
 pub unfinished : (ws : List Word) (state : State) → Scans (opening None) ws state
     → ((front : Front) (p : Formula) → state ≡ read front p → ⊥) → (a : Formula) → Sum ws a → ⊥
 unfinished ws state scans other a sum =

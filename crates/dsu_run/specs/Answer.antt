@@ -60,7 +60,7 @@ abbrev pub status_of : Fault → ℕ
 status_of Refused = 11
 status_of (Told line) = status_of_line line
 
--- a fault of a file or its text, or want of memory (a private function cites this)
+-- a fault of a file or its text, or lack of memory (a private function cites this)
 abbrev pub IsOfText : Fault → Type 0
 IsOfText fault = (fault ≢ Told Usage) × (fault ≢ Told Write) × (status_of fault ≢ 14)
 
@@ -91,7 +91,7 @@ abbrev pub printed : Result Int ArithTrap → List ℕ
 printed (Ok value) = number_line (value_of value)
 printed (Err trap) = []
 
--- a whole text was appended, or a front of it where a fault was counted
+-- a whole text was appended, or a prefix of it where a fault was counted
 abbrev pub Writes : List ℕ → Option (List ℕ) → Option (List ℕ) → ℕ → ℕ → Type 0
 Writes text old new before now = Appends old new text ⊎ (AppendsFront old new text × Rose before now)
 
@@ -104,7 +104,7 @@ pub record Ran (left : Result Int ArithTrap) (status : ℕ) (ending : Option End
   pub prints : Appends out out' (printed left)
   pub reports : Appends err err' (report_text (ending_of left))
 
--- a run whose print failed: a front of the print, and the fault's line
+-- a run whose print failed: a prefix of the print, and the fault's line
 pub record PrintFailed (left : Result Int ArithTrap) (ending : Option Ending) (history : List Event)
     (out out' err err' : Option (List ℕ)) (out_before out_now err_before err_now : ℕ) : Type 0 where
   pub ending_is : ending ≡ None
@@ -113,7 +113,7 @@ pub record PrintFailed (left : Result Int ArithTrap) (ending : Option Ending) (h
   pub cause : Rose out_before out_now
   pub tells : Writes (fault_text (Told Write) []) err err' err_before err_now
 
--- a run that went to its end and whose report failed: the whole print, and a front of the report
+-- a run that went to its end and whose report failed: the whole print, and a prefix of the report
 pub record ReportFailed (left : Result Int ArithTrap) (ending : Option Ending) (history : List Event)
     (out out' err err' : Option (List ℕ)) (err_before err_now : ℕ) : Type 0 where
   pub ending_is : ending ≡ None

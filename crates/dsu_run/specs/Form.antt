@@ -10,7 +10,7 @@ use Rattle.c_ints.specs.declared.operator.ArithTrap.{ArithTrap}
 use Rattle.c_ints.specs.Arithmetic.{binary_value}
 use Rattle.c_lexer.specs.declared.token.Token.{Token}
 use Rattle.c_lexer.specs.declared.token.TokenKind.{TokenKind}
-use Rattle.c_lexer.specs.declared.token.TokenKind.TheVariants.{Identifier, Keyword, Profile, Number, Str, Mark}
+use Rattle.c_lexer.specs.declared.token.TokenKind.TheVariants.{Identifier, Keyword, LibraryWord, Number, Str, Punctuator}
 use Rattle.c_lexer.specs.Cut.{Lexes}
 
 -- a token without its place: its kind and its spelling
@@ -39,25 +39,25 @@ IsConstant w n = (w.0 ≡ Number) × IsDecimal w.1 n
 pub data Product : List Word → Formula → Type 0 where
   constant : {w : Word} {n : ℕ} → IsConstant w n → Product (w ∷ []) (number n)
   times : {ws : List Word} {w : Word} {a : Formula} {n : ℕ} → Product ws a → IsConstant w n
-      → Product (ws ++ (Mark, codes "*") ∷ w ∷ []) (operation Mul a (number n))
+      → Product (ws ++ (Punctuator, codes "*") ∷ w ∷ []) (operation Mul a (number n))
 
 -- an additive expression: its operators group from the left, and its operands are multiplicative expressions (6.5.6)
 pub data Sum : List Word → Formula → Type 0 where
   product : {ws : List Word} {a : Formula} → Product ws a → Sum ws a
-  plus : {us ws : List Word} {a b : Formula} → Sum us a → Product ws b → Sum (us ++ (Mark, codes "+") ∷ ws) (operation Add a b)
-  minus : {us ws : List Word} {a b : Formula} → Sum us a → Product ws b → Sum (us ++ (Mark, codes "-") ∷ ws) (operation Sub a b)
+  plus : {us ws : List Word} {a b : Formula} → Sum us a → Product ws b → Sum (us ++ (Punctuator, codes "+") ∷ ws) (operation Add a b)
+  minus : {us ws : List Word} {a b : Formula} → Sum us a → Product ws b → Sum (us ++ (Punctuator, codes "-") ∷ ws) (operation Sub a b)
 
 -- int main(void) { printf("%d\n",
 abbrev pub before : List Word
 before =
-    (Keyword, codes "int") ∷ (Identifier, codes "main") ∷ (Mark, codes "(") ∷ (Keyword, codes "void") ∷ (Mark, codes ")")
-    ∷ (Mark, codes "{") ∷ (Profile, codes "printf") ∷ (Mark, codes "(") ∷ (Str, codes "\"%d\\n\"") ∷ (Mark, codes ",") ∷ []
+    (Keyword, codes "int") ∷ (Identifier, codes "main") ∷ (Punctuator, codes "(") ∷ (Keyword, codes "void") ∷ (Punctuator, codes ")")
+    ∷ (Punctuator, codes "{") ∷ (LibraryWord, codes "printf") ∷ (Punctuator, codes "(") ∷ (Str, codes "\"%d\\n\"") ∷ (Punctuator, codes ",") ∷ []
 
 -- ); return 0; }
 abbrev pub behind : List Word
 behind =
-    (Mark, codes ")") ∷ (Mark, codes ";") ∷ (Keyword, codes "return") ∷ (Number, codes "0") ∷ (Mark, codes ";")
-    ∷ (Mark, codes "}") ∷ []
+    (Punctuator, codes ")") ∷ (Punctuator, codes ";") ∷ (Keyword, codes "return") ∷ (Number, codes "0") ∷ (Punctuator, codes ";")
+    ∷ (Punctuator, codes "}") ∷ []
 
 -- the text is of the form with this expression
 pub record IsForm (text : List ℕ) (e : Formula) : Type 0 where

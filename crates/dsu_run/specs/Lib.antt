@@ -4,4 +4,3 @@ pub mod Reader
 pub mod Machine
 pub mod Texts
 pub mod Answer
-pub mod Names

@@ -9,7 +9,7 @@ use Rattle.dsu_run.specs.declared.machine.Step.TheVariants.{Done, Trapped, Missi
 use Rattle.dsu_run.specs.Form.{Formula}
 use Rattle.dsu_run.specs.Reader.{postfix}
 
--- what a step on the stack came to, and the stack behind it
+-- what a step on the stack came to, and the stack after it
 abbrev pub CameTo : Option Operands → Step → List Int → Type 0
 CameTo None came stack = came ≡ Missing
 CameTo (Some (Err trap)) came stack = came ≡ Trapped trap

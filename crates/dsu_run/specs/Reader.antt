@@ -6,7 +6,7 @@ use Rattle.std.specs.Prelude.{◌≡◌, ℕ, pos, Bool, true, false, List, [], 
 use Rattle.c_ints.specs.declared.int.Int.TheVariants.{I32}
 use Rattle.c_ints.specs.declared.operator.BinOp.{BinOp}
 use Rattle.c_ints.specs.declared.operator.BinOp.TheVariants.{Add, Sub, Mul}
-use Rattle.c_lexer.specs.declared.token.TokenKind.TheVariants.{Mark}
+use Rattle.c_lexer.specs.declared.token.TokenKind.TheVariants.{Punctuator}
 use Rattle.bytecode.specs.declared.instr.Instr.{Instr}
 use Rattle.bytecode.specs.declared.instr.Instr.TheVariants.{Const, Binary}
 use Rattle.dsu_run.specs.declared.reader.Sign.{Sign}
@@ -23,11 +23,11 @@ operator Plus = Add
 operator Minus = Sub
 
 abbrev pub joint_word : Joint → Word
-joint_word Times = (Mark, codes "*")
-joint_word (Adds Plus) = (Mark, codes "+")
-joint_word (Adds Minus) = (Mark, codes "-")
+joint_word Times = (Punctuator, codes "*")
+joint_word (Adds Plus) = (Punctuator, codes "+")
+joint_word (Adds Minus) = (Punctuator, codes "-")
 
--- the sum in front of the product that is being read, with the operator between them
+-- the sum before the product that is being read, with the operator between them
 abbrev pub Front : Type 0
 Front = Option (Formula × Sign)
 
@@ -36,18 +36,18 @@ abbrev pub closed : Front → Formula → Formula
 closed None p = p
 closed (Some (sum, sign)) p = operation (operator sign) sum p
 
--- a reader wants the first number of a product, or the one behind a `*`, or has read a number
+-- a reader wants the first number of a product, or the one after a `*`, or has read a number
 pub data State : Type 0 where
   opening : Front → State
   factor : Front → Formula → State
   read : Front → Formula → State
 
--- the state behind an operator
+-- the state after an operator
 abbrev pub joined : Joint → Front → Formula → State
 joined Times front p = factor front p
 joined (Adds sign) front p = opening (Some (closed front p, sign))
 
--- the state behind one more word
+-- the state after one more word
 abbrev pub Steps : State → Word → State → Type 0
 Steps (opening front) w next = (n : ℕ) × IsConstant w n × (next ≡ read front (number n))
 Steps (factor front p) w next = (n : ℕ) × IsConstant w n × (next ≡ read front (operation Mul p (number n)))

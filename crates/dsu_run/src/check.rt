@@ -1,55 +1,21 @@
 ghost use Rattle.std.specs.Prelude.{◌≡◌, ◌≢◌, ◌⊎◌, ◌≤◌, List, ℕ, length, Some};
 ghost use Rattle.dsu_io.specs.Causes.{Rose};
 ghost use Rattle.c_tree.specs.declared.def.Program.{Program};
-ghost use Rattle.c_types.specs.Definitions.{Types, names_of};
+ghost use Rattle.c_types.specs.Definitions.{names_of};
 ghost use Rattle.c_front.specs.declared.fault.FaultKind.{FaultKind};
 ghost use Rattle.c_front.specs.Accepted.{Accepted, FirstFault};
 ghost use Rattle.program_file.specs.Lines.{line_of};
 ghost use Rattle.program_file.specs.Sources.{Exceeds};
 ghost use Rattle.dsu_run.specs.declared.request.Request.{Request};
 ghost use Rattle.dsu_run.specs.Answer.{Holds, IsRefused, status_of, IsStatus, IsRun, IsExcused, Faulted, Checked, NamesFailed};
-ghost use Rattle.dsu_run.specs.Names.{given};
 
 use crate::fault::Fault;
 use crate::outcome::{Outcome, fail};
 use crate::report::{write_names, write_text};
-use c_tree::{DefKind, Program};
 use dsu_io::{Files, Sink};
 use dsu_report::FaultLine;
 use program_file::{TEXT_LIMIT, source_of};
 use std::alloc::Global;
-
-// How many names a definition gives its text: one where it is of a function, a global, an array, a mutex or a
-// struct.
-fn given(kind: &DefKind) -> usize
-    ensures value { result ≡ given kind.now }
-    ensures most { result ≤ 1 }
-{
-    match kind {
-        DefKind::Function(_)
-        | DefKind::Global(_)
-        | DefKind::Array(_)
-        | DefKind::Mutex(_)
-        | DefKind::Struct(_, _) => 1,
-        DefKind::Forward(_)
-        | DefKind::Prototype(_)
-        | DefKind::TransformStruct(_)
-        | DefKind::TransformGlobal(_, _) => 0,
-    }
-}
-
-// How many names a text has, whose types are right: no two of its definitions give it the same.
-fn names_in(program: &Program) -> usize
-    requires { Types program.now }
-    ensures { result ≡ names_of program.now.definitions }
-{
-    let mut names = 0;
-    let definitions = program.definitions.as_slice();
-    for definition in definitions {
-        names += given(&definition.kind);
-    }
-    names
-}
 
 // Prints how many names a text has.
 fn tell<O: Sink, E: Sink>(alloc: Global, names: usize, out: O, err: &mut E) -> Outcome<O>
@@ -113,7 +79,7 @@ pub fn check_file<F: Files, O: Sink, E: Sink>(
 {
     match source_of(alloc, files, file) {
         Ok(source) => {
-            let names = names_in(source.typed.program());
+            let names = source.typed.names();
             tell(alloc, names, out, err)
         }
         Err(line) => fail(alloc, Fault::Told(line), file, out, err),

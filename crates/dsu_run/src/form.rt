@@ -8,28 +8,28 @@ use bytecode::Instr;
 use c_lexer::{LexFault, Token, TokenKind, lex};
 use std::alloc::{AllocError, Global};
 
-/// What stands in front of the expression: `int main(void) { printf("%d\n",`
+/// What comes before the expression: `int main(void) { printf("%d\n",`
 const BEFORE: [(TokenKind, &str); 10] = [
     (TokenKind::Keyword, "int"),
     (TokenKind::Identifier, "main"),
-    (TokenKind::Mark, "("),
+    (TokenKind::Punctuator, "("),
     (TokenKind::Keyword, "void"),
-    (TokenKind::Mark, ")"),
-    (TokenKind::Mark, "{"),
-    (TokenKind::Profile, "printf"),
-    (TokenKind::Mark, "("),
+    (TokenKind::Punctuator, ")"),
+    (TokenKind::Punctuator, "{"),
+    (TokenKind::LibraryWord, "printf"),
+    (TokenKind::Punctuator, "("),
     (TokenKind::Str, "\"%d\\n\""),
-    (TokenKind::Mark, ","),
+    (TokenKind::Punctuator, ","),
 ];
 
-/// What stands behind it: `); return 0; }`
+/// What comes after it: `); return 0; }`
 const BEHIND: [(TokenKind, &str); 6] = [
-    (TokenKind::Mark, ")"),
-    (TokenKind::Mark, ";"),
+    (TokenKind::Punctuator, ")"),
+    (TokenKind::Punctuator, ";"),
     (TokenKind::Keyword, "return"),
     (TokenKind::Number, "0"),
-    (TokenKind::Mark, ";"),
-    (TokenKind::Mark, "}"),
+    (TokenKind::Punctuator, ";"),
+    (TokenKind::Punctuator, "}"),
 ];
 
 /// Why a text has no code.
@@ -37,7 +37,7 @@ const BEHIND: [(TokenKind, &str); 6] = [
 pub enum CompileFault {
     /// It isn't of the form.
     Refused,
-    /// Want of memory.
+    /// Lack of memory.
     Memory,
 }
 

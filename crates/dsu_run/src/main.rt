@@ -6,7 +6,7 @@
 //!
 //! Read in this order: `top` (the top call) with `outcome`, `request` (what the words ask for), `check` and `run`
 //! (the two commands), `form` with `constant` and `reader` (from tokens to code), `machine` (from code to a
-//! value), `fault` and `report` (what is told).
+//! value), `fault` and `report` (what is reported).
 #![tactic(auto)]
 
 mod check;
@@ -42,7 +42,7 @@ impl Promise<u8> for AnyStatus {
     ghost kept_by = { λ _ _. Unit {0} };
 }
 
-// The words behind the program's name.
+// The words after the program's name.
 fn words_of(rt: &HostRuntime) -> Result<Vec<Text>, CliFault> {
     let Ok(given) = env::args(rt) else {
         return Err(CliFault::Usage);

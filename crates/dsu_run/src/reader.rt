@@ -40,18 +40,18 @@ fn joint_of(token: &Token) -> Option<Joint>
     ensures { MatchOption result ((joint : Joint) → word token.now ≡ joint_word joint → ⊥)
         (λ joint. word token.now ≡ joint_word joint) }
 {
-    if is_word(token, TokenKind::Mark, "*") {
+    if is_word(token, TokenKind::Punctuator, "*") {
         Some(Joint::Times)
-    } else if is_word(token, TokenKind::Mark, "+") {
+    } else if is_word(token, TokenKind::Punctuator, "+") {
         Some(Joint::Adds(Sign::Plus))
-    } else if is_word(token, TokenKind::Mark, "-") {
+    } else if is_word(token, TokenKind::Punctuator, "-") {
         Some(Joint::Adds(Sign::Minus))
     } else {
         None
     }
 }
 
-/// What comes next in an expression: a product's first number, the number behind a `*`, or an operator.
+/// What comes next in an expression: a product's first number, the number after a `*`, or an operator.
 #[derive(Clone, Copy, Debug, PartialEq, Eq)]
 pub enum Expected {
     Operand,

@@ -21,7 +21,7 @@ use dsu_report::{FaultLine, ending_status, write_ending};
 use program_file::{TEXT_LIMIT, source_of};
 use std::alloc::{AllocError, Global};
 
-/// A run before anything of it is told: what its expression came to, and its events.
+/// A run before anything of it is reported: what its expression came to, and its events.
 #[derive(Drop)]
 struct Plan {
     left: Result<Int, ArithTrap>,

@@ -320,7 +320,7 @@ static CALLS: [Call; 52] = [
     ),
 ];
 
-/// What comes behind 64 `(`.
+/// What comes after 64 `(`.
 const CLOSED: &str = "1\
     ))))))))))))))))\
     ))))))))))))))))\
@@ -328,7 +328,7 @@ const CLOSED: &str = "1\
     ))))))))))))))))\
     ; int main(void) { return 0; }";
 
-/// A text: its front, a piece, how often that comes, and the rest.
+/// A text: its prefix, a piece, how often that comes, and the rest.
 type Parts = (&'static str, &'static str, usize, &'static str);
 
 /// The words, the text of `x.c`, and what it comes to.

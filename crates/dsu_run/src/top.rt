@@ -23,7 +23,7 @@ use std::alloc::Global;
 
 /// Does what the words of a command line say. `run FILE` reads the file from `files`, runs its text, prints on
 /// `out` and reports on `err`; `check FILE` reads it and prints on `out` how many names its text has. The words
-/// are those behind the program's name.
+/// are those after the program's name.
 ///
 /// What `out` holds at the end is given back with it. See `specs/Answer.antt` for the words of the clauses.
 pub fn dsu_main<F: Files, O: Sink, E: Sink>(
@@ -51,7 +51,7 @@ pub fn dsu_main<F: Files, O: Sink, E: Sink>(
         → IsExcused result.status ⊎ Checked (names_of program.definitions) result.status result.ending result.history.items
         (O.told out) (O.told result.out) (E.told err.old) (E.told err.new) }
 
-    // The first fault of a told text is told, unless a file or memory fails.
+    // The first fault of a known text is reported, unless a file or memory fails.
     ensures first { (request : Request) (text : List ℕ) (what : FaultKind) (at : ℕ) → asked words.now ≡ Some request
         → F.content files.old (file_of request) ≡ Some text → length text ≤ TEXT_LIMIT → FirstFault text what at
         → IsExcused result.status ⊎ ((result.status ≡ 11)

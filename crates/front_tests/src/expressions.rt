@@ -39,11 +39,16 @@ fn whole(alloc: Global, text: &str) -> Result<Expr, Fail> {
     whole_of(alloc, &tokens)
 }
 
+/// Whether a text is an expression that is the same as a tree.
+fn is_same(alloc: Global, tree: &Expr, text: &str) -> Result<bool, Fail> {
+    let other = whole(alloc, text)?;
+    Ok(same_expr(tree, &other))
+}
+
 /// Whether two texts are one expression.
 fn is_one(alloc: Global, a: &str, b: &str) -> Result<bool, Fail> {
-    let x = whole(alloc, a)?;
-    let y = whole(alloc, b)?;
-    Ok(same_expr(&x, &y))
+    let tree = whole(alloc, a)?;
+    is_same(alloc, &tree, b)
 }
 
 /// Whether a tree is printed with a part.
@@ -72,7 +77,7 @@ static NODES: [(&str, &str, usize); 60] = [
     ),
     ("a++", "Expr { place: 0, node: Step(PostIncrement,", 2),
     ("a--", "Expr { place: 0, node: Step(PostDecrement,", 2),
-    // Assignments (6.5.16), and other marks.
+    // Assignments (6.5.16), and other punctuators.
     ("a = b", "Expr { place: 0, node: Assign(", 3),
     ("a += b", "Expr { place: 0, node: Update(Add,", 3),
     ("a -= b", "Expr { place: 0, node: Update(Sub,", 3),
@@ -196,13 +201,19 @@ static NODES: [(&str, &str, usize); 60] = [
     ),
 ];
 
+/// Whether a tree of so many tokens is of this node and has these many.
+fn is_node(alloc: Global, tree: &Expr, to: usize, node: &str, count: usize) -> Result<bool, Fail> {
+    if to == count {
+        shows(alloc, tree, node)
+    } else {
+        Ok(false)
+    }
+}
+
 /// Whether tokens begin with so many that are an expression of this node.
 fn begin(alloc: Global, tokens: &[Token], node: &str, count: usize) -> Result<bool, Fail> {
     let (tree, to) = expression_of(alloc, tokens, 0)?;
-    if to != count {
-        return Ok(false);
-    }
-    shows(alloc, &tree, node)
+    is_node(alloc, &tree, to, node, count)
 }
 
 /// The same of a text.
@@ -513,7 +524,7 @@ static ENDS: [(&str, u32, Result<usize, SyntaxFault>); 73] = [
     ("(int) a", 64, Err(SyntaxFault::TooDeep(1))),
     ("(struct node *) a", 64, Err(SyntaxFault::TooDeep(1))),
     ("(thrd_t) x", 64, Err(SyntaxFault::TooDeep(1))),
-    // Names, marks and numbers.
+    // Names, punctuators and numbers.
     ("p->;", 0, Err(SyntaxFault::At(2))),
     ("p->", 0, Err(SyntaxFault::At(2))),
     ("thrd_join(t;", 0, Err(SyntaxFault::At(3))),

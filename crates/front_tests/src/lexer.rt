@@ -1,7 +1,7 @@
 //! That `c_lexer` cuts texts as C11 6.4 says, over the standard's examples and the language's own words,
 //! and that a text of any length takes linear time.
 
-use c_lexer::TokenKind::{Character, Identifier, Keyword, Mark, Number, Profile, Str};
+use c_lexer::TokenKind::{Character, Identifier, Keyword, LibraryWord, Number, Punctuator, Str};
 use c_lexer::{LexFault, Token, TokenKind, lex};
 use std::test::Fail;
 
@@ -16,9 +16,9 @@ static TEXTS: [(&str, &[Row]); 14] = [
         "x+++++y",
         &[
             (Identifier, 0, "x"),
-            (Mark, 1, "++"),
-            (Mark, 3, "++"),
-            (Mark, 5, "+"),
+            (Punctuator, 1, "++"),
+            (Punctuator, 3, "++"),
+            (Punctuator, 5, "+"),
             (Identifier, 6, "y"),
         ],
     ),
@@ -27,11 +27,11 @@ static TEXTS: [(&str, &[Row]); 14] = [
         &[
             (Str, 0, "\"a//b\""),
             (Identifier, 15, "f"),
-            (Mark, 17, "="),
+            (Punctuator, 17, "="),
             (Identifier, 19, "g"),
-            (Mark, 24, "/"),
+            (Punctuator, 24, "/"),
             (Identifier, 25, "h"),
-            (Mark, 26, ";"),
+            (Punctuator, 26, ";"),
         ],
     ),
     ("/*//*/ l /* * / **/", &[(Identifier, 7, "l")]),
@@ -39,13 +39,13 @@ static TEXTS: [(&str, &[Row]); 14] = [
         "a<<=b->c>=d--",
         &[
             (Identifier, 0, "a"),
-            (Mark, 1, "<<="),
+            (Punctuator, 1, "<<="),
             (Identifier, 4, "b"),
-            (Mark, 5, "->"),
+            (Punctuator, 5, "->"),
             (Identifier, 7, "c"),
-            (Mark, 8, ">="),
+            (Punctuator, 8, ">="),
             (Identifier, 10, "d"),
-            (Mark, 11, "--"),
+            (Punctuator, 11, "--"),
         ],
     ),
     (
@@ -80,7 +80,7 @@ static TEXTS: [(&str, &[Row]); 14] = [
         &[
             (Keyword, 0, "while"),
             (Identifier, 6, "_While"),
-            (Profile, 13, "thrd_t"),
+            (LibraryWord, 13, "thrd_t"),
             (Identifier, 20, "thrd_tt"),
         ],
     ),
@@ -89,7 +89,7 @@ static TEXTS: [(&str, &[Row]); 14] = [
         &[
             (Identifier, 0, "\u{e9}\u{301}9"),
             (Number, 6, "1"),
-            (Mark, 7, "."),
+            (Punctuator, 7, "."),
             (Number, 8, "5"),
         ],
     ),
@@ -182,7 +182,7 @@ fn a_text_has_so_many_tokens(rt: HostRuntime) -> Result<(), Fail> {
     Ok(())
 }
 
-/// What comes after 65,536 marks, and the fault of the whole text.
+/// What comes after 65,536 punctuators, and the fault of the whole text.
 static PAST: [(&[u8], LexFault); 2] = [
     (b"$", LexFault::BadByte(65_536)),
     (b";$;", LexFault::TooMany(65_536)),

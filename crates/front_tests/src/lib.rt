@@ -1,4 +1,4 @@
-//! Tests of the front's crates by their public calls: what no clause says, that the calls succeed with ample memory, and
+//! Tests of the front end's crates by their public calls: what no clause says, that the calls succeed with ample memory, and
 //! that the definitions which the clauses cite mean what they should, on small texts and on values chosen by hand.
 //!
 //! - `reading`: the calls that the tests make

@@ -44,16 +44,16 @@ static ACCEPTED: [(&str, usize); 16] = [
     ),
 ];
 
-/// How many definitions some tokens are, and where the text of the last one ends.
-fn read_of(alloc: Global, tokens: &[Token]) -> Result<(usize, usize), SyntaxFault> {
-    let program = program_of(alloc, tokens)?;
+/// How many definitions some tokens of a text of so many bytes are, and the end of the program.
+fn read_of(alloc: Global, tokens: &[Token], end: usize) -> Result<(usize, usize), SyntaxFault> {
+    let program = program_of(alloc, tokens, end)?;
     Ok((program.definitions.as_slice().len(), program.end))
 }
 
 /// The same of a text.
 fn read(alloc: Global, text: &str) -> Result<(usize, usize), Fail> {
     let tokens = tokens_of(alloc, text)?;
-    Ok(read_of(alloc, &tokens)?)
+    Ok(read_of(alloc, &tokens, text.len())?)
 }
 
 #[test]
@@ -68,7 +68,7 @@ fn each_kind_of_item_is_read(rt: HostRuntime) -> Result<(), Fail> {
 /// The fault of a text.
 fn fault(alloc: Global, text: &str) -> Result<Option<SyntaxFault>, Fail> {
     let tokens = tokens_of(alloc, text)?;
-    Ok(read_of(alloc, &tokens).err())
+    Ok(read_of(alloc, &tokens, text.len()).err())
 }
 
 /// Texts that are none, and the number of the token where that is seen.
@@ -100,7 +100,7 @@ fn faults_are_told_by_their_tokens(rt: HostRuntime) -> Result<(), Fail> {
     Ok(())
 }
 
-/// A text whose initialiser stands in so many parentheses.
+/// A text whose initialiser is in so many parentheses.
 fn nested(alloc: Global, depth: u32) -> Result<String, Fail> {
     let mut text = String::new(alloc);
     text.push_str("int x = ")?;
@@ -191,7 +191,7 @@ fn longest(alloc: Global) -> Result<String, Fail> {
 /// How many tokens a text has, and how many definitions.
 fn counts(alloc: Global, text: &str) -> Result<(usize, usize), Fail> {
     let tokens = tokens_of(alloc, text)?;
-    let (definitions, _) = read_of(alloc, &tokens)?;
+    let (definitions, _) = read_of(alloc, &tokens, text.len())?;
     Ok((tokens.len(), definitions))
 }
 

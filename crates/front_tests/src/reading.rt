@@ -1,4 +1,4 @@
-//! The calls of the front's crates, made once for all tests: what they promise is dear to carry along in each caller.
+//! The calls of the front end's crates, made once for all tests: what they promise is dear to carry along in each caller.
 use c_expr_parser::{SyntaxFault, expression};
 use c_lexer::{LexFault, Token, lex};
 use c_parser::parse;
@@ -22,9 +22,9 @@ pub fn expression_of(
     expression(alloc, tokens, 0, depth)
 }
 
-/// The program that some tokens are.
-pub fn program_of(alloc: Global, tokens: &[Token]) -> Result<Program, SyntaxFault> {
-    parse(alloc, tokens)
+/// The program that some tokens are, in a text of so many bytes.
+pub fn program_of(alloc: Global, tokens: &[Token], end: usize) -> Result<Program, SyntaxFault> {
+    parse(alloc, tokens, end)
 }
 
 /// The program with its types checked.
@@ -35,5 +35,5 @@ pub fn typed_of(alloc: Global, program: Program) -> Result<Typed, TypeFault> {
 /// The program that a text is.
 pub fn program_in(alloc: Global, text: &str) -> Result<Program, Fail> {
     let tokens = tokens_of(alloc, text)?;
-    Ok(program_of(alloc, &tokens)?)
+    Ok(program_of(alloc, &tokens, text.len())?)
 }

@@ -1,22 +1,15 @@
-//! The first fault of texts, or that they have none: with ample memory a text is read, and its fault is told where a reader of
+//! The first fault of texts, or that they have none: with ample memory a text is read, and its fault is reported where a reader of
 //! the rules finds it.
 
 use crate::reading::{program_in, typed_of};
-use c_tree::{Def, Program};
-use c_types::{Known, TypeFault, TypeKind};
+use c_tree::Def;
+use c_types::{Known, TypeFault, TypeKind, Typed};
 use std::alloc::{AllocError, Global};
 use std::test::Fail;
 
-/// The tree of a text that the grammar has.
-fn tree(alloc: Global, text: &str) -> Result<Program, Fail> {
-    let mut program = program_in(alloc, text)?;
-    program.end = text.len();
-    Ok(program)
-}
-
 /// The fault of a text.
 fn fault(alloc: Global, text: &str) -> Result<Option<TypeFault>, Fail> {
-    let program = tree(alloc, text)?;
+    let program = program_in(alloc, text)?;
     Ok(typed_of(alloc, program).err())
 }
 
@@ -44,7 +37,7 @@ static CASES: [Case; 13] = [
         kind: TypeKind::BadFormat,
         at: 31,
     },
-    // What a text lacks is told at its end, and a fault of a part hides those of the whole.
+    // What a text lacks is reported at its end, and a fault of a part hides those of the whole.
     Case {
         text: "// none",
         kind: TypeKind::NoMain,
@@ -81,7 +74,7 @@ static CASES: [Case; 13] = [
         kind: TypeKind::OutsideLoop,
         at: 26,
     },
-    // A block hides what is outside, and is forgotten behind its end; a `for` is a block.
+    // A block hides what is outside, and is forgotten after its end; a `for` is a block.
     Case {
         text: "int main(void) { int x; { thrd_t x; x + 1; } }",
         kind: TypeKind::WrongType,
@@ -136,7 +129,7 @@ const EACH_KIND: &str =
 
 /// The end of the tree of a text without a fault.
 fn typed_end(alloc: Global, text: &str) -> Result<usize, Fail> {
-    let program = tree(alloc, text)?;
+    let program = program_in(alloc, text)?;
     let typed = typed_of(alloc, program)?;
     Ok(typed.program().end)
 }
@@ -145,6 +138,37 @@ fn typed_end(alloc: Global, text: &str) -> Result<usize, Fail> {
 fn each_kind_of_definition_is_accepted(rt: HostRuntime) -> Result<(), Fail> {
     let end = typed_end(rt.alloc(), EACH_KIND)?;
     assert_eq!(rt; end, EACH_KIND.len());
+    Ok(())
+}
+
+/// How many names a text without a fault has.
+fn names_in(alloc: Global, text: &str) -> Result<usize, Fail> {
+    let program = program_in(alloc, text)?;
+    let typed = typed_of(alloc, program)?;
+    Ok(typed.names())
+}
+
+#[test]
+fn each_name_is_counted_once(rt: HostRuntime) -> Result<(), Fail> {
+    // `struct t`, `m`, `g`, `a`, `f` and `main`
+    let names = names_in(rt.alloc(), EACH_KIND)?;
+    assert_eq!(rt; names, 6);
+    Ok(())
+}
+
+/// Takes what threads may share.
+fn crosses_threads<T: Send + Sync>(_value: &T) {}
+
+/// A checked text may be sent to a thread and shared by threads.
+fn typed_crosses(typed: &Typed) {
+    crosses_threads(typed)
+}
+
+#[test]
+fn threads_may_share_a_checked_text(rt: HostRuntime) -> Result<(), Fail> {
+    let program = program_in(rt.alloc(), EACH_KIND)?;
+    let typed = typed_of(rt.alloc(), program)?;
+    typed_crosses(&typed);
     Ok(())
 }
 
@@ -289,7 +313,7 @@ fn are_found_in(alloc: Global, definitions: &[Def]) -> Result<bool, Fail> {
 
 /// The same in a text.
 fn are_found_in_text(alloc: Global, text: &str) -> Result<bool, Fail> {
-    let program = tree(alloc, text)?;
+    let program = program_in(alloc, text)?;
     are_found_in(alloc, program.definitions.as_slice())
 }
 

@@ -5,7 +5,7 @@ use Rattle.dsu_report.specs.declared.fault.FaultLine.{FaultLine}
 use Rattle.dsu_report.specs.declared.fault.FaultLine.TheVariants.{Place}
 use Rattle.dsu_report.specs.Places.{line_at, column_at}
 
--- the byte at which a fault is told: a place behind the text counts as its end
+-- the byte at which a fault is reported: a place after the text counts as its end
 abbrev pub told_at : List ℕ → ℕ → ℕ
 told_at text at = min at (length text)
 

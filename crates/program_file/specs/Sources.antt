@@ -11,7 +11,7 @@ use Rattle.program_file.specs.Lines.{line_of}
 abbrev pub text_limit : ℕ
 text_limit = 1024 * 1024
 
--- the file is longer than a text may be, as far as its content is told
+-- the file is longer than a text may be, as far as its content is known
 abbrev pub Exceeds : Option (List ℕ) → Type 0
 Exceeds None = ⊤
 Exceeds (Some content) = text_limit < length content

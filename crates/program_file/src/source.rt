@@ -72,10 +72,10 @@ pub fn source_of<F: Files>(alloc: Global, files: &mut F, file: &str) -> Result<S
     ensures unread { IsErrOf result FaultLine.Unread → Rose (F.faults files.old) (F.faults files.new) }
     ensures too_long { IsErrOf result FaultLine.TooLong → Exceeds (F.content files.old file.now) }
     ensures others { IfErr result (λ line. IsOfSource (F.content files.old file.now) line) }
-    // A text that is told and accepted is read, if the file and memory don't fail.
+    // A text that is known and accepted is read, if the file and memory don't fail.
     ensures complete { (text : List ℕ) (program : Program) → F.content files.old file.now ≡ Some text → length text ≤ TEXT_LIMIT
         → Accepted text program → MatchResult result (λ source. source.typed ≡ program) (λ line. IsShort line) }
-    // And the first fault of a text that is told is answered.
+    // And the first fault of a text that is known is answered.
     ensures first { (text : List ℕ) (what : FaultKind) (at : ℕ) → F.content files.old file.now ≡ Some text → length text ≤ TEXT_LIMIT
         → FirstFault text what at → IsErrOf result (line_of text what at) ⊎ IsErrOf result FaultLine.Unread ⊎ IsErrOf result FaultLine.Memory }
 {

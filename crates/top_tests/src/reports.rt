@@ -178,7 +178,7 @@ fn each_ending_has_its_report(rt: HostRuntime) -> Result<(), Fail> {
 
 const WRONG_COUNT: FaultLine = FaultLine::Place(1, 52, FaultKind::Kind(TypeKind::WrongCount));
 
-/// A sink with room for some bytes takes a front of the line, and counts a fault where it isn't all.
+/// A sink with room for some bytes takes a prefix of the line, and counts a fault where it isn't all.
 #[test]
 fn a_failed_write_leaves_a_front(rt: HostRuntime) -> Result<(), Fail> {
     let line = "d/f.c:1:52: wrong number of arguments\n".as_bytes();

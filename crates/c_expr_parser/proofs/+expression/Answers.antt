@@ -3,14 +3,14 @@ use Rattle.std.specs.Prelude.{codes, pos, option_map, [], None, Some}
 use Rattle.c_ints.specs.declared.kind.Kind.TheVariants.{I32}
 use Rattle.c_ints.specs.Number.{number}
 use Rattle.c_lexer.specs.Bytes.{quote}
-use Rattle.c_lexer.specs.declared.token.TokenKind.TheVariants.{Identifier, Mark, Profile}
+use Rattle.c_lexer.specs.declared.token.TokenKind.TheVariants.{Identifier, Punctuator, LibraryWord}
 use Rattle.c_tree.specs.declared.expr.ExprNode.TheVariants as node
-use Rattle.c_expr_parser.specs.Walk.{operand, listed, parsed, read, reads, Assigned, Chain, Chosen, Postfix, Further, Inside, Target, as_operand, assignment, binary, chains, conditional, conditional_rest, create_call, create_place, free_call, join_call, print_call, word_call, primary, arguments, behind_name, prefixed}
-use Rattle.c_expr_parser.specs.Tables.{is, holds_ahead, only, unquoted, constant_of, library_word, prefix_of}
-use Rattle.c_expr_parser.proofs.Parsing.{next, parsed_then, parsed_after, parsed_return}
-use Rattle.c_expr_parser.proofs.Exits.{Goes, through, swap, hands_on, sinks_on, tail_call}
-use Rattle.c_expr_parser.proofs.Steps.{assigned_none, assigned_some, assigned_deep, chosen_none, chosen_some, chosen_deep, chain_none, chain_some, chain_deep, chains_step, chains_go, further_none, further_some, further_deep}
-use Rattle.c_expr_parser.proofs.Forms.{operand_end, operand_none, operand_some, operand_takes, operand_deep, plan_by, no_plan, number_plan, character_plan, profile_plan, mark_plan, same_first, inside_expr, inside_end, inside_type, inside_no_cast, behind_call, behind_index, behind_none, arguments_none, arguments_some, target_null, target_deep, target_place, lock_goes, create_goes, create_rest_goes, create_last_goes}
+use Rattle.c_expr_parser.specs.Plans.{operand, listed, parsed, read, reads, Assigned, Chain, Chosen, Postfix, Further, Inside, Target, as_operand, assignment, binary, chains, conditional, conditional_rest, create_call, create_place, free_call, join_call, print_call, word_call, primary, arguments, behind_name, prefixed}
+use Rattle.c_expr_parser.specs.Tables.{is, holds_ahead, only, unquoted, constant_of, library_name, prefix_of}
+use Rattle.c_expr_parser.proofs.PlanResults.{next, parsed_then, parsed_after, parsed_return}
+use Rattle.c_expr_parser.proofs.FunctionReturns.{Goes, through, swap, hands_on, sinks_on, tail_call}
+use Rattle.c_expr_parser.proofs.OperandContinuations.{assigned_none, assigned_some, assigned_deep, chosen_none, chosen_some, chosen_deep, chain_none, chain_some, chain_deep, chains_step, chains_go, further_none, further_some, further_deep}
+use Rattle.c_expr_parser.proofs.OperandBeginnings.{operand_end, operand_none, operand_some, operand_takes, operand_deep, plan_by, no_plan, number_plan, character_plan, library_word_plan, punctuator_plan, same_first, inside_expr, inside_end, inside_type, inside_no_cast, behind_call, behind_index, behind_none, arguments_none, arguments_some, target_null, target_deep, target_place, lock_goes, create_goes, create_rest_goes, create_last_goes}
 use Rattle.c_expr_parser.proofs.+expression.Goals as goal
 
 pub climb::assigned-returns-in-None-clause-reads : goal.climb::assigned-returns-in-None-clause-reads
@@ -485,35 +485,35 @@ unary::inside-returns-clause-reads t c =
 
 pub library::library-returns-in_default-word_of-clause-reads : goal.library::library-returns-in_default-word_of-clause-reads
 library::library-returns-in_default-word_of-clause-reads n c casts t ts are kind =
-    let same : c.in-Some.first.now.kind ≡ Profile = ap (λ x. x.kind) (same_first (sym c.in-Some.ensures.cases.0 ∙ are)) ∙ kind in
-    operand_none casts _ _ _ _ c.in-Some.ensures.cases.0 (profile_plan casts c.args.depth c.in-Some.first.now None same (c.in_default-word_of.ensures ∙ ap library_word c.as_str.ensures))
+    let same : c.in-Some.first.now.kind ≡ LibraryWord = ap (λ x. x.kind) (same_first (sym c.in-Some.ensures.cases.0 ∙ are)) ∙ kind in
+    operand_none casts _ _ _ _ c.in-Some.ensures.cases.0 (library_word_plan casts c.args.depth c.in-Some.first.now None same (c.in_default-word_of.ensures ∙ ap library_name c.as_str.ensures))
 
 pub library::library-returns-in_err-shallow-clause-reads : goal.library::library-returns-in_err-shallow-clause-reads
 library::library-returns-in_err-shallow-clause-reads n c casts t ts are kind =
-    let same : c.in-Some.first.now.kind ≡ Profile = ap (λ x. x.kind) (same_first (sym c.in-Some.ensures.cases.0 ∙ are)) ∙ kind in
+    let same : c.in-Some.first.now.kind ≡ LibraryWord = ap (λ x. x.kind) (same_first (sym c.in-Some.ensures.cases.0 ∙ are)) ∙ kind in
     sinks_on _ c.from_residual.result c.in_err-shallow.field-0.0 c.from_residual.ensures.1 c.in_err-shallow.ensures.1
-    (operand_deep casts _ (word_call c.in-Some-word_of.word c.args.depth c.in-Some.first.now.at) _ _ _ c.in-Some.ensures.cases.0 (profile_plan casts c.args.depth c.in-Some.first.now (Some c.in-Some-word_of.word) same (c.in-Some-word_of.ensures ∙ ap library_word c.as_str.ensures)) c.in_err-shallow.ensures.0)
+    (operand_deep casts _ (word_call c.in-Some-word_of.word c.args.depth c.in-Some.first.now.at) _ _ _ c.in-Some.ensures.cases.0 (library_word_plan casts c.args.depth c.in-Some.first.now (Some c.in-Some-word_of.word) same (c.in-Some-word_of.ensures ∙ ap library_name c.as_str.ensures)) c.in_err-shallow.ensures.0)
 
 pub library::library-returns-clause-reads : goal.library::library-returns-clause-reads
 library::library-returns-clause-reads n c casts t ts are kind =
-    let same : c.in-Some.first.now.kind ≡ Profile = ap (λ x. x.kind) (same_first (sym c.in-Some.ensures.cases.0 ∙ are)) ∙ kind in
-    tail_call _ _ (operand_takes casts _ (word_call c.in-Some-word_of.word c.args.depth c.in-Some.first.now.at) _ _ _ c.in-Some.ensures.cases.0 (profile_plan casts c.args.depth c.in-Some.first.now (Some c.in-Some-word_of.word) same (c.in-Some-word_of.ensures ∙ ap library_word c.as_str.ensures)) c.in_ok-shallow.ensures) c.library_call.ensures.reads
+    let same : c.in-Some.first.now.kind ≡ LibraryWord = ap (λ x. x.kind) (same_first (sym c.in-Some.ensures.cases.0 ∙ are)) ∙ kind in
+    tail_call _ _ (operand_takes casts _ (word_call c.in-Some-word_of.word c.args.depth c.in-Some.first.now.at) _ _ _ c.in-Some.ensures.cases.0 (library_word_plan casts c.args.depth c.in-Some.first.now (Some c.in-Some-word_of.word) same (c.in-Some-word_of.ensures ∙ ap library_name c.as_str.ensures)) c.in_ok-shallow.ensures) c.library_call.ensures.reads
 
-pub unary::marked-returns-in_default-prefix_of-clause-reads : goal.unary::marked-returns-in_default-prefix_of-clause-reads
-unary::marked-returns-in_default-prefix_of-clause-reads n c t ts are kind =
-    let same : c.in-Some.first.now.kind ≡ Mark = ap (λ x. x.kind) (same_first (sym c.in-Some.ensures.cases.0 ∙ are)) ∙ kind in
-    operand_none c.args.casts _ _ _ _ c.in-Some.ensures.cases.0 (mark_plan c.args.casts c.args.depth c.in-Some.first.now None same (c.in_default-prefix_of.ensures ∙ ap prefix_of c.as_str.ensures))
+pub unary::begun_by_punctuator-returns-in_default-prefix_of-clause-reads : goal.unary::begun_by_punctuator-returns-in_default-prefix_of-clause-reads
+unary::begun_by_punctuator-returns-in_default-prefix_of-clause-reads n c t ts are kind =
+    let same : c.in-Some.first.now.kind ≡ Punctuator = ap (λ x. x.kind) (same_first (sym c.in-Some.ensures.cases.0 ∙ are)) ∙ kind in
+    operand_none c.args.casts _ _ _ _ c.in-Some.ensures.cases.0 (punctuator_plan c.args.casts c.args.depth c.in-Some.first.now None same (c.in_default-prefix_of.ensures ∙ ap prefix_of c.as_str.ensures))
 
-pub unary::marked-returns-in_err-shallow-clause-reads : goal.unary::marked-returns-in_err-shallow-clause-reads
-unary::marked-returns-in_err-shallow-clause-reads n c t ts are kind =
-    let same : c.in-Some.first.now.kind ≡ Mark = ap (λ x. x.kind) (same_first (sym c.in-Some.ensures.cases.0 ∙ are)) ∙ kind in
+pub unary::begun_by_punctuator-returns-in_err-shallow-clause-reads : goal.unary::begun_by_punctuator-returns-in_err-shallow-clause-reads
+unary::begun_by_punctuator-returns-in_err-shallow-clause-reads n c t ts are kind =
+    let same : c.in-Some.first.now.kind ≡ Punctuator = ap (λ x. x.kind) (same_first (sym c.in-Some.ensures.cases.0 ∙ are)) ∙ kind in
     sinks_on _ c.from_residual.result c.in_err-shallow.field-0.0 c.from_residual.ensures.1 c.in_err-shallow.ensures.1
-    (operand_deep c.args.casts _ (prefixed c.args.casts c.args.depth c.in-Some.first.now.at c.in-Some-prefix_of.form) _ _ _ c.in-Some.ensures.cases.0 (mark_plan c.args.casts c.args.depth c.in-Some.first.now (Some c.in-Some-prefix_of.form) same (c.in-Some-prefix_of.ensures ∙ ap prefix_of c.as_str.ensures)) c.in_err-shallow.ensures.0)
+    (operand_deep c.args.casts _ (prefixed c.args.casts c.args.depth c.in-Some.first.now.at c.in-Some-prefix_of.form) _ _ _ c.in-Some.ensures.cases.0 (punctuator_plan c.args.casts c.args.depth c.in-Some.first.now (Some c.in-Some-prefix_of.form) same (c.in-Some-prefix_of.ensures ∙ ap prefix_of c.as_str.ensures)) c.in_err-shallow.ensures.0)
 
-pub unary::marked-returns-clause-reads : goal.unary::marked-returns-clause-reads
-unary::marked-returns-clause-reads n c t ts are kind =
-    let same : c.in-Some.first.now.kind ≡ Mark = ap (λ x. x.kind) (same_first (sym c.in-Some.ensures.cases.0 ∙ are)) ∙ kind in
-    tail_call _ _ (operand_takes c.args.casts _ (prefixed c.args.casts c.args.depth c.in-Some.first.now.at c.in-Some-prefix_of.form) _ _ _ c.in-Some.ensures.cases.0 (mark_plan c.args.casts c.args.depth c.in-Some.first.now (Some c.in-Some-prefix_of.form) same (c.in-Some-prefix_of.ensures ∙ ap prefix_of c.as_str.ensures)) c.in_ok-shallow.ensures) c.prefixed.ensures.reads
+pub unary::begun_by_punctuator-returns-clause-reads : goal.unary::begun_by_punctuator-returns-clause-reads
+unary::begun_by_punctuator-returns-clause-reads n c t ts are kind =
+    let same : c.in-Some.first.now.kind ≡ Punctuator = ap (λ x. x.kind) (same_first (sym c.in-Some.ensures.cases.0 ∙ are)) ∙ kind in
+    tail_call _ _ (operand_takes c.args.casts _ (prefixed c.args.casts c.args.depth c.in-Some.first.now.at c.in-Some-prefix_of.form) _ _ _ c.in-Some.ensures.cases.0 (punctuator_plan c.args.casts c.args.depth c.in-Some.first.now (Some c.in-Some-prefix_of.form) same (c.in-Some-prefix_of.ensures ∙ ap prefix_of c.as_str.ensures)) c.in_ok-shallow.ensures) c.prefixed.ensures.reads
 
 pub unary::named-returns-in_err-list-clause-reads : goal.unary::named-returns-in_err-list-clause-reads
 unary::named-returns-in_err-list-clause-reads t c =
@@ -527,18 +527,18 @@ unary::named-returns-in_ok-list-clause-reads t c =
 
 pub unary::named-returns-in_err-index-clause-reads : goal.unary::named-returns-in_err-index-clause-reads
 unary::named-returns-in_err-index-clause-reads t c =
-    let e1 : Goes (parsed (behind_name c.args.depth c.args.first.now.at c.args.first.now.text) c.args.tokens.now) _ _ = record { on = ap (λ x. parsed (behind_name c.args.depth c.args.first.now.at x) c.args.tokens.now) (sym c.in_ok-text.ensures.cases) ∙ behind_index _ _ _ _ _ _ c.in-Some-skip.ensures.1 (sym (ap (holds_ahead (is Mark (codes "("))) c.in-Some-skip.ensures.1) ∙ c.in_default.ensures) c.in-Some-skip.ensures.2 (omega arith) } in
+    let e1 : Goes (parsed (behind_name c.args.depth c.args.first.now.at c.args.first.now.text) c.args.tokens.now) _ _ = record { on = ap (λ x. parsed (behind_name c.args.depth c.args.first.now.at x) c.args.tokens.now) (sym c.in_ok-text.ensures.cases) ∙ behind_index _ _ _ _ _ _ c.in-Some-skip.ensures.1 (sym (ap (holds_ahead (is Punctuator (codes "("))) c.in-Some-skip.ensures.1) ∙ c.in_default.ensures) c.in-Some-skip.ensures.2 (omega arith) } in
     hands_on _ c.from_residual-in_err-index.result c.in_err-index.field-0.0 c.from_residual-in_err-index.ensures.1 e1 (rw add-one at c.in_err-index.ensures.reads)
 
 pub unary::named-returns-in_err-rest-clause-reads : goal.unary::named-returns-in_err-rest-clause-reads
 unary::named-returns-in_err-rest-clause-reads t c =
-    let e1 : Goes (parsed (behind_name c.args.depth c.args.first.now.at c.args.first.now.text) c.args.tokens.now) _ _ = record { on = ap (λ x. parsed (behind_name c.args.depth c.args.first.now.at x) c.args.tokens.now) (sym c.in_ok-text.ensures.cases) ∙ behind_index _ _ _ _ _ _ c.in-Some-skip.ensures.1 (sym (ap (holds_ahead (is Mark (codes "("))) c.in-Some-skip.ensures.1) ∙ c.in_default.ensures) c.in-Some-skip.ensures.2 (omega arith) } in
+    let e1 : Goes (parsed (behind_name c.args.depth c.args.first.now.at c.args.first.now.text) c.args.tokens.now) _ _ = record { on = ap (λ x. parsed (behind_name c.args.depth c.args.first.now.at x) c.args.tokens.now) (sym c.in_ok-text.ensures.cases) ∙ behind_index _ _ _ _ _ _ c.in-Some-skip.ensures.1 (sym (ap (holds_ahead (is Punctuator (codes "("))) c.in-Some-skip.ensures.1) ∙ c.in_default.ensures) c.in-Some-skip.ensures.2 (omega arith) } in
     let e2 : Goes (parsed (behind_name c.args.depth c.args.first.now.at c.args.first.now.text) c.args.tokens.now) _ _ = record { on = through e1 (rw add-one at c.in_ok-index.ensures.reads) ∙ parsed_then _ _ _ } in
     hands_on _ c.from_residual-in_err-rest.result c.in_err-rest.field-0.0 c.from_residual-in_err-rest.ensures.1 e2 c.in_err-rest.ensures.reads
 
 pub unary::named-returns-in_ok-rest-clause-reads : goal.unary::named-returns-in_ok-rest-clause-reads
 unary::named-returns-in_ok-rest-clause-reads t c =
-    let e1 : Goes (parsed (behind_name c.args.depth c.args.first.now.at c.args.first.now.text) c.args.tokens.now) _ _ = record { on = ap (λ x. parsed (behind_name c.args.depth c.args.first.now.at x) c.args.tokens.now) (sym c.in_ok-text.ensures.cases) ∙ behind_index _ _ _ _ _ _ c.in-Some-skip.ensures.1 (sym (ap (holds_ahead (is Mark (codes "("))) c.in-Some-skip.ensures.1) ∙ c.in_default.ensures) c.in-Some-skip.ensures.2 (omega arith) } in
+    let e1 : Goes (parsed (behind_name c.args.depth c.args.first.now.at c.args.first.now.text) c.args.tokens.now) _ _ = record { on = ap (λ x. parsed (behind_name c.args.depth c.args.first.now.at x) c.args.tokens.now) (sym c.in_ok-text.ensures.cases) ∙ behind_index _ _ _ _ _ _ c.in-Some-skip.ensures.1 (sym (ap (holds_ahead (is Punctuator (codes "("))) c.in-Some-skip.ensures.1) ∙ c.in_default.ensures) c.in-Some-skip.ensures.2 (omega arith) } in
     let e2 : Goes (parsed (behind_name c.args.depth c.args.first.now.at c.args.first.now.text) c.args.tokens.now) _ _ = record { on = through e1 (rw add-one at c.in_ok-index.ensures.reads) ∙ parsed_then _ _ _ } in
     tail_call _ _ (through e2 c.in_ok-rest.ensures.reads) c.primary-in-Some-skip.ensures.reads
 
@@ -591,7 +591,7 @@ unary::operand-returns-in_ok-shallow-in-Identifier-clause-reads t c =
 
 pub unary::operand-returns-in-Some-constant-clause-reads : goal.unary::operand-returns-in-Some-constant-clause-reads
 unary::operand-returns-in-Some-constant-clause-reads t c =
-    tail_call _ _ (operand_some c.args.casts _ (primary c.args.depth c.in-Some.first.now.at (node.Number c.in-Some-constant.value)) _ _ _ c.in-Some.ensures.cases.0 (number_plan c.args.casts c.args.depth c.in-Some.first.now (Some c.in-Some-constant.value) c.in-Number.is (c.in-Some-constant.ensures ∙ ap constant_of c.as_str.ensures))) (c.plain.ensures.reads _ _ c.in-Some.ensures.cases.0)
+    tail_call _ _ (operand_some c.args.casts _ (primary c.args.depth c.in-Some.first.now.at (node.Number c.in-Some-constant.value)) _ _ _ c.in-Some.ensures.cases.0 (number_plan c.args.casts c.args.depth c.in-Some.first.now (Some c.in-Some-constant.value) c.in-Number.is (c.in-Some-constant.ensures ∙ ap constant_of c.as_str.ensures))) (c.integer_constant.ensures.reads _ _ c.in-Some.ensures.cases.0)
 
 pub unary::operand-returns-in-None-clause-reads : goal.unary::operand-returns-in-None-clause-reads
 unary::operand-returns-in-None-clause-reads t c =
@@ -599,15 +599,15 @@ unary::operand-returns-in-None-clause-reads t c =
 
 pub unary::operand-returns-in-Some-character-clause-reads : goal.unary::operand-returns-in-Some-character-clause-reads
 unary::operand-returns-in-Some-character-clause-reads t c =
-    tail_call _ _ (operand_some c.args.casts _ (primary c.args.depth c.in-Some.first.now.at (node.Character c.in-Some-character.value)) _ _ _ c.in-Some.ensures.cases.0 (character_plan c.args.casts c.args.depth c.in-Some.first.now (Some c.in-Some-character.value) c.in-Character.is (c.in-Some-character.ensures ∙ ap (λ x. option_map (λ b. number I32 (pos b)) (only (unquoted quote x))) c.as_str-in-Character.ensures))) (c.plain-in-Some-character.ensures.reads _ _ c.in-Some.ensures.cases.0)
+    tail_call _ _ (operand_some c.args.casts _ (primary c.args.depth c.in-Some.first.now.at (node.Character c.in-Some-character.value)) _ _ _ c.in-Some.ensures.cases.0 (character_plan c.args.casts c.args.depth c.in-Some.first.now (Some c.in-Some-character.value) c.in-Character.is (c.in-Some-character.ensures ∙ ap (λ x. option_map (λ b. number I32 (pos b)) (only (unquoted quote x))) c.as_str-in-Character.ensures))) (c.character_constant.ensures.reads _ _ c.in-Some.ensures.cases.0)
 
 pub unary::operand-returns-in-None-character-clause-reads : goal.unary::operand-returns-in-None-character-clause-reads
 unary::operand-returns-in-None-character-clause-reads t c =
     operand_none c.args.casts _ _ _ _ c.in-Some.ensures.cases.0 (character_plan c.args.casts c.args.depth c.in-Some.first.now None c.in-Character.is (c.in-None-character.ensures ∙ ap (λ x. option_map (λ b. number I32 (pos b)) (only (unquoted quote x))) c.as_str-in-Character.ensures))
 
-pub unary::operand-returns-in-Profile-clause-reads : goal.unary::operand-returns-in-Profile-clause-reads
-unary::operand-returns-in-Profile-clause-reads t c =
-    c.library.ensures.reads c.args.casts _ _ c.in-Some.ensures.cases.0 c.in-Profile.is
+pub unary::operand-returns-in-LibraryWord-clause-reads : goal.unary::operand-returns-in-LibraryWord-clause-reads
+unary::operand-returns-in-LibraryWord-clause-reads t c =
+    c.library.ensures.reads c.args.casts _ _ c.in-Some.ensures.cases.0 c.in-LibraryWord.is
 
 pub unary::operand-returns-in-Keyword-clause-reads : goal.unary::operand-returns-in-Keyword-clause-reads
 unary::operand-returns-in-Keyword-clause-reads t c =

@@ -1,5 +1,5 @@
 use Rattle.std.proofs.Common.{◌≡◌, ◌≤◌, ◌+◌, ◌*◌, length}
-use Rattle.c_expr_parser.specs.Walk.{Chain, Further, chains, operand, parsed, read, reads}
+use Rattle.c_expr_parser.specs.Plans.{Chain, Further, chains, operand, parsed, read, reads}
 use Rattle.c_expr_parser.proofs.+expression.Given as goal
 
 abbrev pub decreases-climb::assigned : goal.decreases-climb::assigned
@@ -59,8 +59,8 @@ decreases-unary::further l = 8 * length l.tokens.now + 0
 abbrev pub decreases-unary::inside : goal.decreases-unary::inside
 decreases-unary::inside l = 8 * length l.tokens.now + 3
 
-abbrev pub decreases-unary::marked : goal.decreases-unary::marked
-decreases-unary::marked l = 8 * length l.tokens.now + 0
+abbrev pub decreases-unary::begun_by_punctuator : goal.decreases-unary::begun_by_punctuator
+decreases-unary::begun_by_punctuator l = 8 * length l.tokens.now + 0
 
 abbrev pub decreases-unary::named : goal.decreases-unary::named
 decreases-unary::named l = 8 * length l.tokens.now + 0

@@ -2,15 +2,15 @@ use Rattle.std.proofs.Common.{◌≡◌, suc, refl, sym, ap, ◌∙◌, arith, a
 use Rattle.std.specs.Prelude.{codes}
 use Rattle.c_lexer.specs.declared.token.TokenKind.TheVariants.{Keyword}
 use Rattle.c_tree.specs.declared.stmt.StmtNode.TheVariants.{Block, While, DoWhile, For, Transaction}
-use Rattle.c_expr_parser.specs.Walk.{nothing}
+use Rattle.c_expr_parser.specs.Plans.{nothing}
 use Rattle.c_expr_parser.specs.Statements.{stmt}
 use Rattle.c_expr_parser.specs.Tables.{is}
-use Rattle.c_parser.specs.TextWalk.{Give, Want, Statement, Else, Items, Place, Optional, statement, part, as_statement, as_statements, as_place, as_optional, if_else, simple, do_statement, for_statement, transaction, mark, found, text_parsed}
+use Rattle.c_parser.specs.TextPlans.{Give, Want, Statement, Else, Items, Place, Optional, statement, part, as_statement, as_statements, as_place, as_optional, if_else, simple, do_statement, for_statement, transaction, punctuator, found, text_parsed}
 use Rattle.c_parser.specs.Parts.{opened, word_plan, items_then}
-use Rattle.c_parser.proofs.TextParsing.{parsed_give, dead_end}
-use Rattle.c_parser.proofs.TextForms.{sign_none, sign_some, shifted}
-use Rattle.c_parser.proofs.TextOpenings.{opened_reads, opened_deep, evaluate_reads, items_end, items_statement, items_declaration, items_close}
-use Rattle.c_parser.proofs.TextExits.{through, through_of, hands, hands_of, hands_want, sinks_on, tail_call, gives_tail}
+use Rattle.c_parser.proofs.PlanResults.{parsed_give, dead_end}
+use Rattle.c_parser.proofs.SignsByFirstToken.{sign_none, sign_some, shifted}
+use Rattle.c_parser.proofs.PhraseBeginnings.{opened_reads, opened_deep, evaluate_reads, items_end, items_statement, items_declaration, items_close}
+use Rattle.c_parser.proofs.FunctionReturns.{through, through_of, hands, hands_of, hands_want, sinks_on, tail_call, gives_tail}
 use Rattle.c_parser.proofs.+statement.Goals as goal
 
 pub statement::statement-returns-in_default-clause-reads : goal.statement::statement-returns-in_default-clause-reads
@@ -154,22 +154,22 @@ control::for_statement-returns-in_err-before-clause-reads t c =
 pub control::for_statement-returns-in_err-condition-clause-reads : goal.control::for_statement-returns-in_err-condition-clause-reads
 control::for_statement-returns-in_err-condition-clause-reads t c =
     let e1 : text_parsed (for_statement c.args.depth c.args.start) c.args.tokens.now ≡ _ = refl in
-    hands _ c.from_residual-in_err-condition.result c.in_err-condition.field-0.0 c.from_residual-in_err-condition.ensures.1 (through _ _ _ (through_of _ _ _ e1 c.in_ok-rest.ensures.reads) (rw add-one at c.in_ok-before.ensures.reads)) (rw add-one at (c.in_err-condition.ensures.reads (λ x. Want (Optional (suc c.args.depth)) (λ e. mark (codes ")") c.args.depth (Want (Statement (suc c.args.depth)) (λ s. Give (statement (stmt c.args.start (For c.in_ok-before.before x (as_optional e) (as_statement s))))))))))
+    hands _ c.from_residual-in_err-condition.result c.in_err-condition.field-0.0 c.from_residual-in_err-condition.ensures.1 (through _ _ _ (through_of _ _ _ e1 c.in_ok-rest.ensures.reads) (rw add-one at c.in_ok-before.ensures.reads)) (rw add-one at (c.in_err-condition.ensures.reads (λ x. Want (Optional (suc c.args.depth)) (λ e. punctuator (codes ")") c.args.depth (Want (Statement (suc c.args.depth)) (λ s. Give (statement (stmt c.args.start (For c.in_ok-before.before x (as_optional e) (as_statement s))))))))))
 
 pub control::for_statement-returns-in_err-step-clause-reads : goal.control::for_statement-returns-in_err-step-clause-reads
 control::for_statement-returns-in_err-step-clause-reads t c =
     let e1 : text_parsed (for_statement c.args.depth c.args.start) c.args.tokens.now ≡ _ = refl in
-    hands _ c.from_residual-in_err-step.result c.in_err-step.field-0.0 c.from_residual-in_err-step.ensures.1 (through _ _ _ (through_of _ _ _ e1 c.in_ok-rest.ensures.reads) (rw add-one at c.in_ok-before.ensures.reads) ∙ (rw add-one at (c.in_ok-condition.ensures.reads (λ x. Want (Optional (suc c.args.depth)) (λ e. mark (codes ")") c.args.depth (Want (Statement (suc c.args.depth)) (λ s. Give (statement (stmt c.args.start (For c.in_ok-before.before x (as_optional e) (as_statement s))))))))))) (rw add-one at (c.in_err-step.ensures.reads (λ x. Want (Statement (suc c.args.depth)) (λ s. Give (statement (stmt c.args.start (For c.in_ok-before.before c.in_ok-condition.condition x (as_statement s))))))))
+    hands _ c.from_residual-in_err-step.result c.in_err-step.field-0.0 c.from_residual-in_err-step.ensures.1 (through _ _ _ (through_of _ _ _ e1 c.in_ok-rest.ensures.reads) (rw add-one at c.in_ok-before.ensures.reads) ∙ (rw add-one at (c.in_ok-condition.ensures.reads (λ x. Want (Optional (suc c.args.depth)) (λ e. punctuator (codes ")") c.args.depth (Want (Statement (suc c.args.depth)) (λ s. Give (statement (stmt c.args.start (For c.in_ok-before.before x (as_optional e) (as_statement s))))))))))) (rw add-one at (c.in_err-step.ensures.reads (λ x. Want (Statement (suc c.args.depth)) (λ s. Give (statement (stmt c.args.start (For c.in_ok-before.before c.in_ok-condition.condition x (as_statement s))))))))
 
 pub control::for_statement-returns-in_err-body-clause-reads : goal.control::for_statement-returns-in_err-body-clause-reads
 control::for_statement-returns-in_err-body-clause-reads t c =
     let e1 : text_parsed (for_statement c.args.depth c.args.start) c.args.tokens.now ≡ _ = refl in
-    hands_want _ c.from_residual-in_err-body.result c.in_err-body.field-0.0 _ _ _ c.from_residual-in_err-body.ensures.1 (through _ _ _ (through_of _ _ _ e1 c.in_ok-rest.ensures.reads) (rw add-one at c.in_ok-before.ensures.reads) ∙ (rw add-one at (c.in_ok-condition.ensures.reads (λ x. Want (Optional (suc c.args.depth)) (λ e. mark (codes ")") c.args.depth (Want (Statement (suc c.args.depth)) (λ s. Give (statement (stmt c.args.start (For c.in_ok-before.before x (as_optional e) (as_statement s)))))))))) ∙ (rw add-one at (c.in_ok-step.ensures.reads (λ x. Want (Statement (suc c.args.depth)) (λ s. Give (statement (stmt c.args.start (For c.in_ok-before.before c.in_ok-condition.condition x (as_statement s))))))))) c.in_err-body.ensures.reads
+    hands_want _ c.from_residual-in_err-body.result c.in_err-body.field-0.0 _ _ _ c.from_residual-in_err-body.ensures.1 (through _ _ _ (through_of _ _ _ e1 c.in_ok-rest.ensures.reads) (rw add-one at c.in_ok-before.ensures.reads) ∙ (rw add-one at (c.in_ok-condition.ensures.reads (λ x. Want (Optional (suc c.args.depth)) (λ e. punctuator (codes ")") c.args.depth (Want (Statement (suc c.args.depth)) (λ s. Give (statement (stmt c.args.start (For c.in_ok-before.before x (as_optional e) (as_statement s)))))))))) ∙ (rw add-one at (c.in_ok-step.ensures.reads (λ x. Want (Statement (suc c.args.depth)) (λ s. Give (statement (stmt c.args.start (For c.in_ok-before.before c.in_ok-condition.condition x (as_statement s))))))))) c.in_err-body.ensures.reads
 
 pub control::for_statement-returns-clause-reads : goal.control::for_statement-returns-clause-reads
 control::for_statement-returns-clause-reads t c =
     let e1 : text_parsed (for_statement c.args.depth c.args.start) c.args.tokens.now ≡ _ = refl in
-    through _ _ _ (through _ _ _ (through_of _ _ _ e1 c.in_ok-rest.ensures.reads) (rw add-one at c.in_ok-before.ensures.reads) ∙ (rw add-one at (c.in_ok-condition.ensures.reads (λ x. Want (Optional (suc c.args.depth)) (λ e. mark (codes ")") c.args.depth (Want (Statement (suc c.args.depth)) (λ s. Give (statement (stmt c.args.start (For c.in_ok-before.before x (as_optional e) (as_statement s)))))))))) ∙ (rw add-one at (c.in_ok-step.ensures.reads (λ x. Want (Statement (suc c.args.depth)) (λ s. Give (statement (stmt c.args.start (For c.in_ok-before.before c.in_ok-condition.condition x (as_statement s))))))))) c.in_ok-body.ensures.reads ∙ parsed_give _ _ ∙ ap (λ s. found (statement s) c.in_ok-body.rest.now) (sym c.for_made.ensures)
+    through _ _ _ (through _ _ _ (through_of _ _ _ e1 c.in_ok-rest.ensures.reads) (rw add-one at c.in_ok-before.ensures.reads) ∙ (rw add-one at (c.in_ok-condition.ensures.reads (λ x. Want (Optional (suc c.args.depth)) (λ e. punctuator (codes ")") c.args.depth (Want (Statement (suc c.args.depth)) (λ s. Give (statement (stmt c.args.start (For c.in_ok-before.before x (as_optional e) (as_statement s)))))))))) ∙ (rw add-one at (c.in_ok-step.ensures.reads (λ x. Want (Statement (suc c.args.depth)) (λ s. Give (statement (stmt c.args.start (For c.in_ok-before.before c.in_ok-condition.condition x (as_statement s))))))))) c.in_ok-body.ensures.reads ∙ parsed_give _ _ ∙ ap (λ s. found (statement s) c.in_ok-body.rest.now) (sym c.for_made.ensures)
 
 pub block::block-loop-alloc-init : goal.block::block-loop-alloc-init
 block::block-loop-alloc-init t c =

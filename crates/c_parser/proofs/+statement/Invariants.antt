@@ -1,6 +1,6 @@
 use Rattle.std.proofs.Common.{◌≡◌, ◌≤◌, ◌+◌, ◌*◌, ℕ, length, List}
 use Rattle.c_tree.specs.declared.stmt.Stmt.{Stmt}
-use Rattle.c_parser.specs.TextWalk.{TextPlan, block_then, text_parsed}
+use Rattle.c_parser.specs.TextPlans.{TextPlan, block_then, text_parsed}
 use Rattle.c_parser.specs.Parts.{items_then}
 use Rattle.c_parser.proofs.+statement.Given as goal
 

@@ -1,7 +1,7 @@
 use Rattle.std.proofs.Common.{refl, arith, sym, ◌∙◌, ap, Some}
-use Rattle.c_expr_parser.specs.Walk.{Value, named, Return, read}
+use Rattle.c_expr_parser.specs.Plans.{Value, named, Return, read}
 use Rattle.c_expr_parser.specs.Tables.{when_some}
-use Rattle.c_expr_parser.proofs.Parsing.{reads_dead, reads_end, reads_one, reads_deep}
+use Rattle.c_expr_parser.proofs.PlanResults.{reads_dead, reads_end, reads_one, reads_deep}
 use Rattle.c_expr_parser.proofs.cursor.name.Goals as goal
 
 pub returns-then-not-is_kind-clause-reads : goal.returns-then-not-is_kind-clause-reads

@@ -1,7 +1,7 @@
 use Rattle.std.proofs.Common.{refl, arith, sym, ◌∙◌, ap, Some}
-use Rattle.c_expr_parser.specs.Walk.{Return, nothing}
+use Rattle.c_expr_parser.specs.Plans.{Return, nothing}
 use Rattle.c_expr_parser.specs.Tables.{when_some}
-use Rattle.c_expr_parser.proofs.Parsing.{reads_dead, reads_end, reads_one, reads_deep}
+use Rattle.c_expr_parser.proofs.PlanResults.{reads_dead, reads_end, reads_one, reads_deep}
 use Rattle.c_expr_parser.proofs.cursor.take.Goals as goal
 
 pub returns-then-not-is-clause-reads : goal.returns-then-not-is-clause-reads

@@ -1,9 +1,9 @@
 use Rattle.std.proofs.Common.{suc, ◌∙◌, add-one}
-use Rattle.c_expr_parser.specs.Walk.{parsed, as_name, mark, primary, size_of_struct, calloc_call}
+use Rattle.c_expr_parser.specs.Plans.{parsed, as_name, punctuator, primary, size_of_struct, calloc_call}
 use Rattle.std.specs.Prelude.{codes}
 use Rattle.c_tree.specs.declared.expr.ExprNode.TheVariants as node
-use Rattle.c_expr_parser.proofs.Parsing.{parsed_then, parsed_after}
-use Rattle.c_expr_parser.proofs.Exits.{Goes, through, hands_on, tail_call}
+use Rattle.c_expr_parser.proofs.PlanResults.{parsed_then, parsed_after}
+use Rattle.c_expr_parser.proofs.FunctionReturns.{Goes, through, hands_on, tail_call}
 use Rattle.c_expr_parser.proofs.library.calloc_call.Goals as goal
 
 pub returns-in_err-rest-clause-reads : goal.returns-in_err-rest-clause-reads
@@ -29,7 +29,7 @@ returns-in_err-tag-clause-reads c =
     let e1 : Goes (parsed (calloc_call c.args.depth c.args.start) c.args.tokens.now) _ _ = record { on = parsed_then _ _ _ } in
     let e2 : Goes (parsed (calloc_call c.args.depth c.args.start) c.args.tokens.now) _ _ = record { on = through e1 c.in_ok-rest.ensures.reads ∙ parsed_then _ _ _ } in
     let e3 : Goes (parsed (calloc_call c.args.depth c.args.start) c.args.tokens.now) _ _ = record { on = through e2 (rw add-one at c.in_ok-rest-2.ensures.reads) ∙ parsed_then _ _ _ } in
-    let e4 : Goes (parsed (calloc_call c.args.depth c.args.start) c.args.tokens.now) _ _ = record { on = through e3 (rw add-one at c.in_ok-rest-3.ensures.reads) ∙ parsed_after (size_of_struct (suc c.args.depth)) (λ v. mark (codes ")") c.args.depth (primary c.args.depth c.args.start (node.Calloc (as_name v)))) _ } in
+    let e4 : Goes (parsed (calloc_call c.args.depth c.args.start) c.args.tokens.now) _ _ = record { on = through e3 (rw add-one at c.in_ok-rest-3.ensures.reads) ∙ parsed_after (size_of_struct (suc c.args.depth)) (λ v. punctuator (codes ")") c.args.depth (primary c.args.depth c.args.start (node.Calloc (as_name v)))) _ } in
     hands_on _ c.from_residual-in_err-tag.result c.in_err-tag.field-0.0 c.from_residual-in_err-tag.ensures.1 e4 (rw add-one at c.in_err-tag.ensures.reads)
 
 pub returns-in_err-rest-4-clause-reads : goal.returns-in_err-rest-4-clause-reads
@@ -37,7 +37,7 @@ returns-in_err-rest-4-clause-reads c =
     let e1 : Goes (parsed (calloc_call c.args.depth c.args.start) c.args.tokens.now) _ _ = record { on = parsed_then _ _ _ } in
     let e2 : Goes (parsed (calloc_call c.args.depth c.args.start) c.args.tokens.now) _ _ = record { on = through e1 c.in_ok-rest.ensures.reads ∙ parsed_then _ _ _ } in
     let e3 : Goes (parsed (calloc_call c.args.depth c.args.start) c.args.tokens.now) _ _ = record { on = through e2 (rw add-one at c.in_ok-rest-2.ensures.reads) ∙ parsed_then _ _ _ } in
-    let e4 : Goes (parsed (calloc_call c.args.depth c.args.start) c.args.tokens.now) _ _ = record { on = through e3 (rw add-one at c.in_ok-rest-3.ensures.reads) ∙ parsed_after (size_of_struct (suc c.args.depth)) (λ v. mark (codes ")") c.args.depth (primary c.args.depth c.args.start (node.Calloc (as_name v)))) _ } in
+    let e4 : Goes (parsed (calloc_call c.args.depth c.args.start) c.args.tokens.now) _ _ = record { on = through e3 (rw add-one at c.in_ok-rest-3.ensures.reads) ∙ parsed_after (size_of_struct (suc c.args.depth)) (λ v. punctuator (codes ")") c.args.depth (primary c.args.depth c.args.start (node.Calloc (as_name v)))) _ } in
     let e5 : Goes (parsed (calloc_call c.args.depth c.args.start) c.args.tokens.now) _ _ = record { on = through e4 (rw add-one at c.in_ok-tag.ensures.reads) ∙ parsed_then _ _ _ } in
     hands_on _ c.from_residual-in_err-rest-4.result c.in_err-rest-4.field-0.0 c.from_residual-in_err-rest-4.ensures.1 e5 c.in_err-rest-4.ensures.reads
 
@@ -46,6 +46,6 @@ returns-clause-reads c =
     let e1 : Goes (parsed (calloc_call c.args.depth c.args.start) c.args.tokens.now) _ _ = record { on = parsed_then _ _ _ } in
     let e2 : Goes (parsed (calloc_call c.args.depth c.args.start) c.args.tokens.now) _ _ = record { on = through e1 c.in_ok-rest.ensures.reads ∙ parsed_then _ _ _ } in
     let e3 : Goes (parsed (calloc_call c.args.depth c.args.start) c.args.tokens.now) _ _ = record { on = through e2 (rw add-one at c.in_ok-rest-2.ensures.reads) ∙ parsed_then _ _ _ } in
-    let e4 : Goes (parsed (calloc_call c.args.depth c.args.start) c.args.tokens.now) _ _ = record { on = through e3 (rw add-one at c.in_ok-rest-3.ensures.reads) ∙ parsed_after (size_of_struct (suc c.args.depth)) (λ v. mark (codes ")") c.args.depth (primary c.args.depth c.args.start (node.Calloc (as_name v)))) _ } in
+    let e4 : Goes (parsed (calloc_call c.args.depth c.args.start) c.args.tokens.now) _ _ = record { on = through e3 (rw add-one at c.in_ok-rest-3.ensures.reads) ∙ parsed_after (size_of_struct (suc c.args.depth)) (λ v. punctuator (codes ")") c.args.depth (primary c.args.depth c.args.start (node.Calloc (as_name v)))) _ } in
     let e5 : Goes (parsed (calloc_call c.args.depth c.args.start) c.args.tokens.now) _ _ = record { on = through e4 (rw add-one at c.in_ok-tag.ensures.reads) ∙ parsed_then _ _ _ } in
     tail_call _ _ (through e5 c.in_ok-rest-4.ensures.reads) c.primary.ensures.reads

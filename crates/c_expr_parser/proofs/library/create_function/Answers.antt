@@ -1,7 +1,7 @@
 use Rattle.std.proofs.Common.{◌∙◌}
-use Rattle.c_expr_parser.specs.Walk.{parsed, create_function}
-use Rattle.c_expr_parser.proofs.Parsing.{parsed_then, parsed_return}
-use Rattle.c_expr_parser.proofs.Exits.{Goes, through, hands_on}
+use Rattle.c_expr_parser.specs.Plans.{parsed, create_function}
+use Rattle.c_expr_parser.proofs.PlanResults.{parsed_then, parsed_return}
+use Rattle.c_expr_parser.proofs.FunctionReturns.{Goes, through, hands_on}
 use Rattle.c_expr_parser.proofs.library.create_function.Goals as goal
 
 pub returns-in_err-function-clause-reads : goal.returns-in_err-function-clause-reads

@@ -1,7 +1,7 @@
 use Rattle.std.proofs.Common.{◌∙◌, add-one}
-use Rattle.c_expr_parser.specs.Walk.{parsed, init_call}
-use Rattle.c_expr_parser.proofs.Parsing.{parsed_then}
-use Rattle.c_expr_parser.proofs.Exits.{Goes, through, hands_on, tail_call}
+use Rattle.c_expr_parser.specs.Plans.{parsed, init_call}
+use Rattle.c_expr_parser.proofs.PlanResults.{parsed_then}
+use Rattle.c_expr_parser.proofs.FunctionReturns.{Goes, through, hands_on, tail_call}
 use Rattle.c_expr_parser.proofs.library.init_call.Goals as goal
 
 pub returns-in_err-rest-clause-reads : goal.returns-in_err-rest-clause-reads

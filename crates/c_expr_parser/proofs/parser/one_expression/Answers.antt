@@ -1,4 +1,4 @@
-use Rattle.c_expr_parser.proofs.ExactExpression as law
+use Rattle.c_expr_parser.proofs.ExpressionLaws as law
 use Rattle.c_expr_parser.proofs.parser.one_expression.Goals as goal
 
 pub returns : goal.returns

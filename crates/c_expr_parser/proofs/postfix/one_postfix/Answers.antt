@@ -1,7 +1,7 @@
 use Rattle.std.proofs.Common.{sym, ap, ◌∙◌}
-use Rattle.c_expr_parser.specs.Walk.{operand, one_postfix, parsed, read}
-use Rattle.c_expr_parser.proofs.Parsing.{parsed_then, parsed_return}
-use Rattle.c_expr_parser.proofs.Exits.{Goes, through, hands_on}
+use Rattle.c_expr_parser.specs.Plans.{operand, one_postfix, parsed, read}
+use Rattle.c_expr_parser.proofs.PlanResults.{parsed_then, parsed_return}
+use Rattle.c_expr_parser.proofs.FunctionReturns.{Goes, through, hands_on}
 use Rattle.c_expr_parser.proofs.postfix.one_postfix.Goals as goal
 
 pub returns-in_err-field-in-Arrow-clause-reads : goal.returns-in_err-field-in-Arrow-clause-reads

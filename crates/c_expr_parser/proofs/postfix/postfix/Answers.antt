@@ -1,7 +1,7 @@
 use Rattle.std.proofs.Common.{length, arith, ap, ◌∙◌}
-use Rattle.c_expr_parser.specs.Walk.{Postfix, reads}
-use Rattle.c_expr_parser.proofs.Steps.{postfix_some, postfix_none, postfix_deep}
-use Rattle.c_expr_parser.proofs.Exits.{Goes, through, hands_on, sinks_on}
+use Rattle.c_expr_parser.specs.Plans.{Postfix, reads}
+use Rattle.c_expr_parser.proofs.OperandContinuations.{postfix_some, postfix_none, postfix_deep}
+use Rattle.c_expr_parser.proofs.FunctionReturns.{Goes, through, hands_on, sinks_on}
 use Rattle.c_expr_parser.proofs.postfix.postfix.Goals as goal
 
 pub returns-in_err-shallow-clause-reads : goal.returns-in_err-shallow-clause-reads

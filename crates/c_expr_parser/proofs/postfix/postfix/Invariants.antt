@@ -1,5 +1,5 @@
 use Rattle.std.proofs.Common.{◌≡◌, ◌≤◌, length}
-use Rattle.c_expr_parser.specs.Walk.{Postfix, reads}
+use Rattle.c_expr_parser.specs.Plans.{Postfix, reads}
 use Rattle.c_expr_parser.proofs.postfix.postfix.Given as goal
 
 abbrev pub invariant-loop-operator : goal.invariant-loop-operator

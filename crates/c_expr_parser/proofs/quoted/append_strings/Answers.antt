@@ -1,6 +1,6 @@
 use Rattle.std.proofs.Common.{◌≡◌, [], ◌++◌, length, append-nil, sym, ap, ◌∙◌, arith, string_bytes, unwrap_or}
-use Rattle.c_expr_parser.specs.Walk.{MoreStrings, read, quoted, reads}
-use Rattle.c_expr_parser.proofs.LeafStrings.{string_of, some_meant, none_meant, more_strings, no_more_strings, strings_end}
+use Rattle.c_expr_parser.specs.Plans.{MoreStrings, read, quoted, reads}
+use Rattle.c_expr_parser.proofs.StringReading.{string_of, some_meant, none_meant, more_strings, no_more_strings, strings_end}
 use Rattle.c_expr_parser.proofs.quoted.append_strings.Goals as goal
 use Rattle.c_expr_parser.proofs.quoted.append_strings.Goals.{in-Some+in_ok-append_token+then-not-branch, in_default}
 

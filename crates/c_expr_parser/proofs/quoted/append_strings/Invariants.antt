@@ -1,6 +1,6 @@
 use Rattle.std.proofs.Common.{◌≡◌, ◌≤◌, ℕ, length, string_bytes}
 use Rattle.c_expr_parser.specs.Readings.{most_depth}
-use Rattle.c_expr_parser.specs.Walk.{MoreStrings, reads}
+use Rattle.c_expr_parser.specs.Plans.{MoreStrings, reads}
 use Rattle.c_expr_parser.proofs.quoted.append_strings.Given as goal
 
 abbrev pub invariant-loop-token : goal.invariant-loop-token

@@ -1,5 +1,5 @@
 use Rattle.std.proofs.lemmas.Str.{IsUtf8-past_char}
-use Rattle.c_expr_parser.proofs.LeafStrings.{after_escape, after_backslash, after_plain}
+use Rattle.c_expr_parser.proofs.StringReading.{after_escape, after_backslash, after_plain}
 use Rattle.c_expr_parser.proofs.quoted.append_unescaped.Goals as goal
 
 pub loop-c-preserved-then-behind_backslash : goal.loop-c-preserved-then-behind_backslash

@@ -1,7 +1,7 @@
 use Rattle.std.proofs.Common.{◌≡◌, ◌++◌, IsUtf8, string_bytes}
 use Rattle.std.specs.Str.Iter.{chars_rest}
 use Rattle.c_expr_parser.specs.Quoted.{unescaped}
-use Rattle.c_expr_parser.proofs.LeafStrings.{pending}
+use Rattle.c_expr_parser.proofs.StringReading.{pending}
 use Rattle.c_expr_parser.proofs.quoted.append_unescaped.Given as goal
 
 abbrev pub invariant-loop-c : goal.invariant-loop-c

@@ -1,7 +1,7 @@
 use Rattle.std.proofs.Common.{[], ◌++◌, length, refl, sym, ap, ◌∙◌, arith, unwrap_or}
-use Rattle.c_expr_parser.specs.Walk.{MoreStrings, Return, Then, read, quoted, reads}
-use Rattle.c_expr_parser.proofs.Parsing.{reads_dead, reads_deep, reads_end}
-use Rattle.c_expr_parser.proofs.LeafStrings.{string_of, some_meant, none_meant, begins, no_begin, first_string}
+use Rattle.c_expr_parser.specs.Plans.{MoreStrings, Return, Then, read, quoted, reads}
+use Rattle.c_expr_parser.proofs.PlanResults.{reads_dead, reads_deep, reads_end}
+use Rattle.c_expr_parser.proofs.StringReading.{string_of, some_meant, none_meant, begins, no_begin, first_string}
 use Rattle.c_expr_parser.proofs.quoted.strings.Goals as goal
 
 pub returns-in_default-clause-reads : goal.returns-in_default-clause-reads

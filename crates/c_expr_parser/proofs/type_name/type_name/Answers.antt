@@ -1,11 +1,11 @@
 use Rattle.std.proofs.Common.{◌∷◌, [], length, refl, sym, ap, ◌∙◌, arith}
 use Rattle.std.specs.Prelude.{codes}
 use Rattle.std.proofs.lemmas.Result.{err_from_is_err_and}
-use Rattle.c_lexer.specs.declared.token.TokenKind.TheVariants.{Profile}
+use Rattle.c_lexer.specs.declared.token.TokenKind.TheVariants.{LibraryWord}
 use Rattle.c_tree.specs.declared.name.CType.TheVariants.{Thread}
-use Rattle.c_expr_parser.specs.Walk.{Word, Words, Return, Then, typed, nothing}
-use Rattle.c_expr_parser.proofs.Parsing.{parsed_return, reads_deep, reads_end}
-use Rattle.c_expr_parser.proofs.LeafTypes.{goes, stops, begins_word, begins_no_word, longer_means, takes_word, integer_type, handle_type, thread_type}
+use Rattle.c_expr_parser.specs.Plans.{Word, Words, Return, Then, typed, nothing}
+use Rattle.c_expr_parser.proofs.PlanResults.{parsed_return, reads_deep, reads_end}
+use Rattle.c_expr_parser.proofs.TypeReading.{goes, stops, begins_word, begins_no_word, longer_means, takes_word, integer_type, handle_type, thread_type}
 use Rattle.c_expr_parser.proofs.type_name.type_name.Goals as goal
 
 pub returns-in_default-clause-reads : goal.returns-in_default-clause-reads
@@ -45,7 +45,7 @@ returns-in_err-rest-clause-reads c =
       thread_type d c.args.tokens.now t c.in-Some.rest.now c.in-Some.ensures.cases.0
           (begins_no_word t (c.in_default-longer.ensures [] c.none.ensures)) (sym c.is.ensures ∙ c.if-is.false),
     )
-    (stops _ (Word Profile (codes "thrd_t") d) (λ v. Return (typed Thread)) c.args.tokens.now c.in_err-rest.ensures.reads)
+    (stops _ (Word LibraryWord (codes "thrd_t") d) (λ v. Return (typed Thread)) c.args.tokens.now c.in_err-rest.ensures.reads)
 
 pub returns-clause-reads : goal.returns-clause-reads
 returns-clause-reads c =
@@ -53,5 +53,5 @@ returns-clause-reads c =
     let t = c.in-Some.token.now in
     thread_type d c.args.tokens.now t c.in-Some.rest.now c.in-Some.ensures.cases.0
     (begins_no_word t (c.in_default-longer.ensures [] c.none.ensures)) (sym c.is.ensures ∙ c.if-is.false)
-    ∙ goes (Word Profile (codes "thrd_t") d) (λ v. Return (typed Thread)) c.args.tokens.now nothing c.in_ok-rest.rest.now c.in_ok-rest.ensures.reads
+    ∙ goes (Word LibraryWord (codes "thrd_t") d) (λ v. Return (typed Thread)) c.args.tokens.now nothing c.in_ok-rest.rest.now c.in_ok-rest.ensures.reads
     ∙ parsed_return (typed Thread) c.in_ok-rest.rest.now

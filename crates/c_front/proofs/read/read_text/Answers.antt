@@ -1,8 +1,8 @@
 use Rattle.std.proofs.Common.{◌≡◌, ◌∙◌, Ok, Err, List, refl, subst, ap, sym, inl, inr}
 use Rattle.c_lexer.specs.declared.token.Token.{Token}
 use Rattle.c_lexer.specs.Cut.{Lexes}
+use Rattle.c_types.specs.Definitions.{Types}
 use Rattle.c_front.specs.declared.fault.TextFault.TheVariants.{Refused, Memory}
-use Rattle.c_front.specs.Accepted.{ending}
 use Rattle.c_front.specs.Told.{lexical, syntactic, typed_fault}
 use Rattle.c_front.proofs.Layers.{lexical_first, lexical_accepts, lexical_only, in_answer, OnlyTokens, IsExact, syntax_first, syntax_accepts, syntax_only, types_accepts, types_first, types_refuse_none, types_only, types_have_none}
 use Rattle.c_front.proofs.read.read_text.Goals as goal
@@ -33,7 +33,7 @@ pub returns-in-Err-parse-clause-complete : goal.returns-in-Err-parse-clause-comp
 returns-in-Err-parse-clause-complete c program accepted =
     let tokens : c.deref-in-Err-parse.result.now ≡ c.deref.result.now = c.deref-in-Err-parse.ensures.value ∙ sym c.deref.ensures.value in
     let only : OnlyTokens c.args.text.now c.deref.result.now = (λ other lexes. c.in-Ok.ensures.only other lexes ∙ ap (λ ts. Ok ts) (sym c.deref.ensures.value)) in
-    let exact : IsExact c.deref.result.now (Err c.in-Err-parse.fault) = record {
+    let exact : IsExact c.args.text.now c.deref.result.now (Err c.in-Err-parse.fault) = record {
       complete = c.in-Err-parse.ensures.complete;
       stuck = c.in-Err-parse.ensures.stuck;
       deep = c.in-Err-parse.ensures.deep;
@@ -45,7 +45,7 @@ pub returns-in-Err-parse-clause-first : goal.returns-in-Err-parse-clause-first
 returns-in-Err-parse-clause-first c wrong at first =
     let tokens : c.deref-in-Err-parse.result.now ≡ c.deref.result.now = c.deref-in-Err-parse.ensures.value ∙ sym c.deref.ensures.value in
     let only : OnlyTokens c.args.text.now c.deref.result.now = (λ other lexes. c.in-Ok.ensures.only other lexes ∙ ap (λ ts. Ok ts) (sym c.deref.ensures.value)) in
-    let exact : IsExact c.deref.result.now (Err c.in-Err-parse.fault) = record {
+    let exact : IsExact c.args.text.now c.deref.result.now (Err c.in-Err-parse.fault) = record {
       complete = c.in-Err-parse.ensures.complete;
       stuck = c.in-Err-parse.ensures.stuck;
       deep = c.in-Err-parse.ensures.deep;
@@ -54,10 +54,23 @@ returns-in-Err-parse-clause-first c wrong at first =
     (c.of_syntax.ensures ∙ ap (λ ts. syntactic c.args.text.now ts c.in-Err-parse.fault) tokens)
     (syntax_only c.args.text.now c.deref.result.now c.in-Err-parse.fault wrong at only exact first)
 
+pub returns-in-Ok-check-clause-accepted : goal.returns-in-Ok-check-clause-accepted
+returns-in-Ok-check-clause-accepted c =
+    record {
+      is_read = record {
+        tokens = c.deref.result.now;
+        read = c.in-Ok-parse.ensures.sound.read;
+        lexes = subst {A = List Token} (λ ts. Lexes c.args.text.now (Ok ts)) (sym c.deref.ensures.value) c.in-Ok.ensures.cut;
+        reads = c.in-Ok-parse.ensures.sound.reads;
+        ends = c.in-Ok-check.ensures.typed.1 ∙ c.in-Ok-parse.ensures.sound.ends;
+      };
+      types = subst Types (sym c.in-Ok-check.ensures.typed.1) c.in-Ok-check.ensures.typed.0;
+    }
+
 pub returns-in-Ok-check-clause-complete : goal.returns-in-Ok-check-clause-complete
 returns-in-Ok-check-clause-complete c program accepted =
     let only : OnlyTokens c.args.text.now c.deref.result.now = (λ other lexes. c.in-Ok.ensures.only other lexes ∙ ap (λ ts. Ok ts) (sym c.deref.ensures.value)) in
-    let exact : IsExact c.deref.result.now (Ok c.in-Ok-parse.program) = record {
+    let exact : IsExact c.args.text.now c.deref.result.now (Ok c.in-Ok-parse.program) = record {
       complete = c.in-Ok-parse.ensures.complete;
       stuck = c.in-Ok-parse.ensures.stuck;
       deep = c.in-Ok-parse.ensures.deep;
@@ -67,7 +80,7 @@ returns-in-Ok-check-clause-complete c program accepted =
 pub returns-in-Ok-check-clause-first : goal.returns-in-Ok-check-clause-first
 returns-in-Ok-check-clause-first c wrong at first =
     let only : OnlyTokens c.args.text.now c.deref.result.now = (λ other lexes. c.in-Ok.ensures.only other lexes ∙ ap (λ ts. Ok ts) (sym c.deref.ensures.value)) in
-    let exact : IsExact c.deref.result.now (Ok c.in-Ok-parse.program) = record {
+    let exact : IsExact c.args.text.now c.deref.result.now (Ok c.in-Ok-parse.program) = record {
       complete = c.in-Ok-parse.ensures.complete;
       stuck = c.in-Ok-parse.ensures.stuck;
       deep = c.in-Ok-parse.ensures.deep;
@@ -76,20 +89,20 @@ returns-in-Ok-check-clause-first c wrong at first =
 
 pub returns-clause-refused : goal.returns-clause-refused
 returns-clause-refused c wrong at is =
-    types_first c.args.text.now (ending c.args.text.now c.in-Ok-parse.program) c.in-Err-check.fault wrong at
+    types_first c.args.text.now c.in-Ok-parse.program c.in-Err-check.fault wrong at
     (record {
       tokens = c.deref.result.now;
-      read = c.in-Ok-parse.program;
+      read = c.in-Ok-parse.ensures.sound.read;
       lexes = subst {A = List Token} (λ ts. Lexes c.args.text.now (Ok ts)) (sym c.deref.ensures.value) c.in-Ok.ensures.cut;
-      reads = c.in-Ok-parse.ensures.sound;
-      ends = refl;
+      reads = c.in-Ok-parse.ensures.sound.reads;
+      ends = c.in-Ok-parse.ensures.sound.ends;
     })
     c.in-Err-check.ensures.told (sym c.of_types.ensures ∙ cc)
 
 pub returns-clause-complete : goal.returns-clause-complete
 returns-clause-complete c program accepted =
     let only : OnlyTokens c.args.text.now c.deref.result.now = (λ other lexes. c.in-Ok.ensures.only other lexes ∙ ap (λ ts. Ok ts) (sym c.deref.ensures.value)) in
-    let exact : IsExact c.deref.result.now (Ok c.in-Ok-parse.program) = record {
+    let exact : IsExact c.args.text.now c.deref.result.now (Ok c.in-Ok-parse.program) = record {
       complete = c.in-Ok-parse.ensures.complete;
       stuck = c.in-Ok-parse.ensures.stuck;
       deep = c.in-Ok-parse.ensures.deep;
@@ -100,7 +113,7 @@ returns-clause-complete c program accepted =
 pub returns-clause-first : goal.returns-clause-first
 returns-clause-first c wrong at first =
     let only : OnlyTokens c.args.text.now c.deref.result.now = (λ other lexes. c.in-Ok.ensures.only other lexes ∙ ap (λ ts. Ok ts) (sym c.deref.ensures.value)) in
-    let exact : IsExact c.deref.result.now (Ok c.in-Ok-parse.program) = record {
+    let exact : IsExact c.args.text.now c.deref.result.now (Ok c.in-Ok-parse.program) = record {
       complete = c.in-Ok-parse.ensures.complete;
       stuck = c.in-Ok-parse.ensures.stuck;
       deep = c.in-Ok-parse.ensures.deep;

@@ -1,4 +1,4 @@
--- the bytes behind are digits, and the value is theirs as far as it is counted
+-- the bytes after are digits, and the value is theirs as far as it is counted
 use Rattle.std.proofs.Common.{◌≡◌, ◌<◌, ℕ, get_or, min, take, true}
 use Rattle.std.specs.Char.{is_digit}
 use Rattle.std.specs.Str.Parse.{digits_value}

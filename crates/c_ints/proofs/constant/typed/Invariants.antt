@@ -1,4 +1,4 @@
--- the kinds behind don't hold the value, so the first that does is among those that are left
+-- the kinds after don't hold the value, so the first that does is among those that are left
 use Rattle.std.proofs.Common.{◌≡◌, drop, pos, find}
 use Rattle.c_ints.specs.Kind.{holds}
 use Rattle.c_ints.proofs.constant.typed.Given as goal

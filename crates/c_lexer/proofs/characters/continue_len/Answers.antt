@@ -1,8 +1,8 @@
 use Rattle.std.proofs.Common.{ℕ, drop, List, subst, arith, length-drop, add-zero}
 use Rattle.c_lexer.specs.Bytes.{continues_word}
 use Rattle.c_lexer.specs.Units.{consists_of}
-use Rattle.c_lexer.specs.Fronts.{IsLongest, NoMorePasses, Passes}
-use Rattle.c_lexer.proofs.Fronts.{passes_none, passes_more, longest_past, stops_here, none_at_end}
+use Rattle.c_lexer.specs.Prefixes.{IsLongest, NoMorePasses, Passes}
+use Rattle.c_lexer.proofs.LongestPrefixes.{passes_none, passes_more, longest_past, stops_here, none_at_end}
 use Rattle.c_lexer.proofs.Spelling.{nothing_consists}
 use Rattle.c_lexer.proofs.characters.continue_len.Goals as goal
 

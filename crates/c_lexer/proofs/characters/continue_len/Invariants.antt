@@ -1,6 +1,6 @@
 use Rattle.std.proofs.Common.{length, ◌-◌}
 use Rattle.c_lexer.specs.Bytes.{continues_word}
-use Rattle.c_lexer.specs.Fronts.{Passes}
+use Rattle.c_lexer.specs.Prefixes.{Passes}
 use Rattle.c_lexer.specs.Units.{consists_of}
 use Rattle.c_lexer.proofs.characters.continue_len.Given as goal
 

@@ -1,7 +1,7 @@
 use Rattle.std.proofs.Common.{sym, subst}
 use Rattle.c_lexer.specs.Bytes.{starts_word, continues_word}
 use Rattle.c_lexer.specs.Units.{consists_of}
-use Rattle.c_lexer.specs.Fronts.{IsLongest}
+use Rattle.c_lexer.specs.Prefixes.{IsLongest}
 use Rattle.c_lexer.proofs.Spelling.{name_is, no_name, size_within, first_char, other_char, no_char}
 use Rattle.c_lexer.proofs.characters.name_len.Goals as goal
 

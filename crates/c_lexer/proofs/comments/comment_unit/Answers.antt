@@ -1,10 +1,10 @@
 use Rattle.std.proofs.Common.{sym, subst, arith}
 use Rattle.c_lexer.specs.declared.unit.Reading.TheVariants.{Space}
-use Rattle.c_lexer.specs.Fronts.{Passes}
+use Rattle.c_lexer.specs.Prefixes.{Passes}
 use Rattle.c_lexer.specs.Units.{read_comment}
 use Rattle.c_lexer.specs.Cut.{IsUnit}
-use Rattle.c_lexer.proofs.Fronts.{passes_more, unit_past}
-use Rattle.c_lexer.proofs.Forms.{comment_passes, comment_closes}
+use Rattle.c_lexer.proofs.LongestPrefixes.{passes_more, unit_past}
+use Rattle.c_lexer.proofs.UnitsByFirstBytes.{comment_passes, comment_closes}
 use Rattle.c_lexer.proofs.comments.comment_unit.Goals as goal
 
 pub returns-then-closes_comment : goal.returns-then-closes_comment

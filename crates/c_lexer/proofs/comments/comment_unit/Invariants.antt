@@ -1,5 +1,5 @@
 use Rattle.std.proofs.Common.{length, ◌-◌}
-use Rattle.c_lexer.specs.Fronts.{Passes}
+use Rattle.c_lexer.specs.Prefixes.{Passes}
 use Rattle.c_lexer.specs.Units.{read_comment}
 use Rattle.c_lexer.proofs.comments.comment_unit.Given as goal
 

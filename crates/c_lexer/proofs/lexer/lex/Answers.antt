@@ -6,7 +6,7 @@ use Rattle.c_lexer.specs.Bytes.{starts_line}
 use Rattle.c_lexer.specs.Cut.{Lexes, token}
 use Rattle.c_lexer.proofs.Laws.{unit_not_empty}
 use Rattle.c_lexer.proofs.Utf8.{lexeme_utf8}
-use Rattle.c_lexer.proofs.Progress.{Reached, past_space, past_lexeme, ends, faults, too_many, unit_read, same_answer, computed_answer}
+use Rattle.c_lexer.proofs.CutSoFar.{Reached, past_space, past_lexeme, ends, faults, too_many, unit_read, same_answer, computed_answer}
 use Rattle.c_lexer.proofs.lexer.lex.Goals as goal
 use Rattle.c_lexer.proofs.lexer.lex.Goals.{in-Space, in-Lexeme+in_ok-push_token-in-Lexeme}
 

@@ -1,5 +1,5 @@
 use Rattle.std.proofs.Common.{length, ◌-◌}
-use Rattle.c_lexer.proofs.Progress.{Reached}
+use Rattle.c_lexer.proofs.CutSoFar.{Reached}
 use Rattle.c_lexer.proofs.lexer.lex.Given as goal
 
 abbrev pub invariant-loop-at : goal.invariant-loop-at

@@ -1,6 +1,6 @@
 use Rattle.std.proofs.Common.{sym, refl, arith}
 use Rattle.c_lexer.specs.Units.{closes_character}
-use Rattle.c_lexer.proofs.Short.{found_longest, found_none, character_short, no_single_character}
+use Rattle.c_lexer.proofs.LongestOfThree.{found_longest, found_none, character_short, no_single_character}
 use Rattle.c_lexer.proofs.quotes.character_len.Goals as goal
 
 pub returns-then-ends_character : goal.returns-then-ends_character

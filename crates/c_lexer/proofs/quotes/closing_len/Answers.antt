@@ -1,7 +1,7 @@
 use Rattle.std.proofs.Common.{drop, subst, arith, length-drop}
 use Rattle.c_lexer.specs.Units.{closes_string}
-use Rattle.c_lexer.specs.Fronts.{IsOnly, NonePasses, Skips}
-use Rattle.c_lexer.proofs.Fronts.{skips_more, only_past, none_past}
+use Rattle.c_lexer.specs.Prefixes.{IsOnly, NonePasses, Skips}
+use Rattle.c_lexer.proofs.LongestPrefixes.{skips_more, only_past, none_past}
 use Rattle.c_lexer.proofs.Strings.{quote_closes, string_ends}
 use Rattle.c_lexer.proofs.quotes.closing_len.Goals as goal
 

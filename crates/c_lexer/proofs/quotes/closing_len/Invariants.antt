@@ -1,5 +1,5 @@
 use Rattle.std.proofs.Common.{length, ◌-◌}
-use Rattle.c_lexer.specs.Fronts.{Skips}
+use Rattle.c_lexer.specs.Prefixes.{Skips}
 use Rattle.c_lexer.specs.Units.{closes_string}
 use Rattle.c_lexer.proofs.quotes.closing_len.Given as goal
 

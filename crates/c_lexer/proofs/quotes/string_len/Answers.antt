@@ -1,5 +1,5 @@
 use Rattle.std.proofs.Common.{sym, refl}
-use Rattle.c_lexer.proofs.Forms.{string_utf8, string_other}
+use Rattle.c_lexer.proofs.UnitsByFirstBytes.{string_utf8, string_other}
 use Rattle.c_lexer.proofs.quotes.string_len.Goals as goal
 
 pub returns-in-None : goal.returns-in-None

@@ -1,7 +1,7 @@
 use Rattle.std.proofs.Common.{subst}
 use Rattle.c_lexer.specs.Units.{read_comment}
 use Rattle.c_lexer.specs.Cut.{IsUnit}
-use Rattle.c_lexer.proofs.Forms.{comment_is}
+use Rattle.c_lexer.proofs.UnitsByFirstBytes.{comment_is}
 use Rattle.c_lexer.proofs.scan.block_comment_unit.Goals as goal
 
 pub returns : goal.returns

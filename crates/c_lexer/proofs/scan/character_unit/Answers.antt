@@ -1,7 +1,7 @@
 use Rattle.std.proofs.Common.{subst}
-use Rattle.c_lexer.specs.Fronts.{IsLongest, NonePasses}
+use Rattle.c_lexer.specs.Prefixes.{IsLongest, NonePasses}
 use Rattle.c_lexer.specs.Units.{closes_character}
-use Rattle.c_lexer.proofs.Forms.{character_is, no_character}
+use Rattle.c_lexer.proofs.UnitsByFirstBytes.{character_is, no_character}
 use Rattle.c_lexer.proofs.scan.character_unit.Goals as goal
 
 pub returns-in-Some : goal.returns-in-Some

@@ -5,10 +5,10 @@ use Rattle.c_lexer.specs.declared.unit.Fault.TheVariants.{Literal}
 use Rattle.c_lexer.specs.Bytes.{continues_word}
 use Rattle.c_lexer.specs.Numbers.{is_number}
 use Rattle.c_lexer.specs.Units.{reading, consists_of}
-use Rattle.c_lexer.specs.Fronts.{IsLongest}
+use Rattle.c_lexer.specs.Prefixes.{IsLongest}
 use Rattle.c_lexer.specs.Cut.{IsUnit}
 use Rattle.c_lexer.proofs.Utf8.{digits_utf8}
-use Rattle.c_lexer.proofs.Forms.{digits_are, read_digits}
+use Rattle.c_lexer.proofs.UnitsByFirstBytes.{digits_are, read_digits}
 use Rattle.c_lexer.proofs.scan.digits_unit.Goals as goal
 
 pub returns-then-is_number : goal.returns-then-is_number

@@ -1,5 +1,5 @@
 use Rattle.std.proofs.Common.{◌∙◌}
-use Rattle.c_lexer.proofs.Constants.{literal_tells}
+use Rattle.c_lexer.proofs.NumberWords.{literal_tells}
 use Rattle.c_lexer.proofs.scan.has_value.Goals as goal
 
 pub returns : goal.returns

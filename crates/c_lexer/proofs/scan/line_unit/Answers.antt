@@ -1,8 +1,8 @@
 use Rattle.std.proofs.Common.{subst}
 use Rattle.std.specs.List.{list_all}
 use Rattle.c_lexer.specs.Bytes.{stays_in_line}
-use Rattle.c_lexer.specs.Fronts.{IsLongest}
-use Rattle.c_lexer.proofs.Forms.{line_is}
+use Rattle.c_lexer.specs.Prefixes.{IsLongest}
+use Rattle.c_lexer.proofs.UnitsByFirstBytes.{line_is}
 use Rattle.c_lexer.proofs.scan.line_unit.Goals as goal
 
 pub returns : goal.returns

@@ -1,4 +1,4 @@
-use Rattle.c_lexer.proofs.Forms.{name_is, no_name}
+use Rattle.c_lexer.proofs.UnitsByFirstBytes.{name_is, no_name}
 use Rattle.c_lexer.proofs.scan.name_unit.Goals as goal
 
 pub returns-in-Some : goal.returns-in-Some

@@ -1,5 +1,5 @@
 use Rattle.std.proofs.Common.{sym}
-use Rattle.c_lexer.proofs.Forms.{blank_is}
+use Rattle.c_lexer.proofs.UnitsByFirstBytes.{blank_is}
 use Rattle.c_lexer.proofs.scan.plain_unit.Goals as goal
 
 pub returns-then-is_blank : goal.returns-then-is_blank

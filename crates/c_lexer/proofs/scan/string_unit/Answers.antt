@@ -1,6 +1,6 @@
 use Rattle.std.proofs.Common.{subst}
-use Rattle.c_lexer.specs.Fronts.{IsLongest, NonePasses}
-use Rattle.c_lexer.proofs.Forms.{is_string, string_is, no_string}
+use Rattle.c_lexer.specs.Prefixes.{IsLongest, NonePasses}
+use Rattle.c_lexer.proofs.UnitsByFirstBytes.{is_string, string_is, no_string}
 use Rattle.c_lexer.proofs.scan.string_unit.Goals as goal
 
 pub returns-in-Some : goal.returns-in-Some

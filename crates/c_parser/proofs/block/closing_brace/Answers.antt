@@ -1,8 +1,8 @@
 use Rattle.std.proofs.Common.{◌∙◌, refl, sym, ap, arith, Some}
 use Rattle.std.specs.Prelude.{codes}
 use Rattle.c_expr_parser.specs.Tables.{when_some}
-use Rattle.c_parser.specs.TextWalk.{Give, Place, place}
-use Rattle.c_parser.proofs.TextParsing.{takes_first, sinks_first, dead_first, dead_end}
+use Rattle.c_parser.specs.TextPlans.{Give, Place, place}
+use Rattle.c_parser.proofs.PlanResults.{takes_first, sinks_first, dead_first, dead_end}
 use Rattle.c_parser.proofs.block.closing_brace.Goals as goal
 
 pub returns-then-not-is-clause-reads : goal.returns-then-not-is-clause-reads

@@ -1,9 +1,9 @@
 use Rattle.std.proofs.Common.{◌∷◌, ◌++◌, [], refl, sym, ap, ◌∙◌}
 use Rattle.c_expr_parser.specs.Statements.{declares}
-use Rattle.c_parser.specs.TextWalk.{Give, First, statements, declaration_behind, found, text_parsed}
-use Rattle.c_parser.proofs.TextParsing.{parsed_give, dead_end}
-use Rattle.c_parser.proofs.TextOpenings.{first_declaration, first_none, first_deep, first_expression}
-use Rattle.c_parser.proofs.TextExits.{through_of, hands, hands_of, sinks_on}
+use Rattle.c_parser.specs.TextPlans.{Give, First, statements, declaration_behind, found, text_parsed}
+use Rattle.c_parser.proofs.PlanResults.{parsed_give, dead_end}
+use Rattle.c_parser.proofs.PhraseBeginnings.{first_declaration, first_none, first_deep, first_expression}
+use Rattle.c_parser.proofs.FunctionReturns.{through_of, hands, hands_of, sinks_on}
 use Rattle.c_parser.proofs.control.first_part.Goals as goal
 
 pub returns-in_default-clause-reads : goal.returns-in_default-clause-reads

@@ -1,6 +1,6 @@
 use Rattle.std.proofs.Common.{◌∷◌, ◌++◌, [], refl, ap, ◌∙◌, arith, length}
-use Rattle.c_parser.proofs.TextExits.{through_of, hands, hands_of, sinks_on}
-use Rattle.c_parser.proofs.TextLoops.{variable_behind, variables_end, variables_deep, variables_next, variables_shift}
+use Rattle.c_parser.proofs.FunctionReturns.{through_of, hands, hands_of, sinks_on}
+use Rattle.c_parser.proofs.ListLoops.{variable_behind, variables_end, variables_deep, variables_next, variables_shift}
 use Rattle.c_parser.proofs.declaration.declaration.Goals as goal
 
 pub returns-in_err-first-clause-reads : goal.returns-in_err-first-clause-reads

@@ -1,8 +1,8 @@
 use Rattle.std.proofs.Common.{◌≡◌, ◌<◌, ◌++◌, length, List}
 use Rattle.c_tree.specs.declared.stmt.Stmt.{Stmt}
 use Rattle.c_expr_parser.specs.Statements.{declares}
-use Rattle.c_parser.specs.TextWalk.{TextPlan, declaration_behind, text_parsed}
-use Rattle.c_parser.proofs.TextLoops.{more_variables}
+use Rattle.c_parser.specs.TextPlans.{TextPlan, declaration_behind, text_parsed}
+use Rattle.c_parser.proofs.ListLoops.{more_variables}
 use Rattle.c_parser.proofs.declaration.declaration.Given as goal
 
 abbrev pub invariant-loop-behind : goal.invariant-loop-behind

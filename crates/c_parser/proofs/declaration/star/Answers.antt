@@ -1,7 +1,7 @@
 use Rattle.std.proofs.Common.{ap}
-use Rattle.c_expr_parser.specs.Walk.{nothing}
-use Rattle.c_parser.specs.TextWalk.{star_then, text_parsed}
-use Rattle.c_parser.proofs.TextExits.{of_call}
+use Rattle.c_expr_parser.specs.Plans.{nothing}
+use Rattle.c_parser.specs.TextPlans.{star_then, text_parsed}
+use Rattle.c_parser.proofs.FunctionReturns.{of_call}
 use Rattle.c_parser.proofs.declaration.star.Goals as goal
 
 pub returns-in-Handle-clause-reads : goal.returns-in-Handle-clause-reads

@@ -1,9 +1,9 @@
 use Rattle.std.proofs.Common.{◌-◌, refl, ap, ◌∙◌, arith, length}
 use Rattle.c_tree.specs.declared.def.Parameters.TheVariants.{Named}
-use Rattle.c_parser.specs.TextWalk.{Give, made, function_made, prototype_made}
-use Rattle.c_parser.proofs.TextParsing.{parsed_give}
-use Rattle.c_parser.proofs.TextItemForms.{body_end, body_block}
-use Rattle.c_parser.proofs.TextExits.{through_of, hands, hands_of}
+use Rattle.c_parser.specs.TextPlans.{Give, made, function_made, prototype_made}
+use Rattle.c_parser.proofs.PlanResults.{parsed_give}
+use Rattle.c_parser.proofs.ItemContinuations.{body_end, body_block}
+use Rattle.c_parser.proofs.FunctionReturns.{through_of, hands, hands_of}
 use Rattle.c_parser.proofs.function.body.Goals as goal
 
 pub returns-in_err-rest-clause-reads : goal.returns-in_err-rest-clause-reads

@@ -1,10 +1,10 @@
 use Rattle.std.proofs.Common.{◌≡◌, ◌∷◌, ◌-◌, [], refl, ap, ◌∙◌, arith, length}
 use Rattle.c_tree.specs.declared.def.Parameters.TheVariants.{Unnamed}
-use Rattle.c_parser.specs.TextWalk.{function_by, prototype_made, text_parsed}
+use Rattle.c_parser.specs.TextPlans.{function_by, prototype_made, text_parsed}
 use Rattle.c_parser.specs.Parts.{function_plan}
-use Rattle.c_parser.proofs.TextParsing.{parsed_give}
-use Rattle.c_parser.proofs.TextItemForms.{makes_tail}
-use Rattle.c_parser.proofs.TextExits.{through, through_of, hands_of, hands_want}
+use Rattle.c_parser.proofs.PlanResults.{parsed_give}
+use Rattle.c_parser.proofs.ItemContinuations.{makes_tail}
+use Rattle.c_parser.proofs.FunctionReturns.{through, through_of, hands_of, hands_want}
 use Rattle.c_parser.proofs.function.function.Goals as goal
 
 pub returns-in_err-rest-clause-reads : goal.returns-in_err-rest-clause-reads

@@ -1,8 +1,8 @@
 use Rattle.std.proofs.Common.{refl, sym, ap, ◌∙◌, arith}
 use Rattle.std.specs.Prelude.{option_map}
 use Rattle.c_expr_parser.specs.Tables.{when_some, constant_of}
-use Rattle.c_parser.specs.TextWalk.{Give, ArrayLength, numbered}
-use Rattle.c_parser.proofs.TextParsing.{parsed_give, dead_end, dead_first, takes_first, sinks_first}
+use Rattle.c_parser.specs.TextPlans.{Give, ArrayLength, numbered}
+use Rattle.c_parser.proofs.PlanResults.{parsed_give, dead_end, dead_first, takes_first, sinks_first}
 use Rattle.c_parser.proofs.global.array_length.Goals as goal
 
 pub returns-in_default-clause-reads : goal.returns-in_default-clause-reads

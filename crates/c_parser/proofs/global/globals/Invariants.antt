@@ -1,9 +1,9 @@
 use Rattle.std.proofs.Common.{◌≡◌, ◌≤◌, ◌++◌, length, List}
 use Rattle.c_tree.specs.declared.def.DefKind.{DefKind}
 use Rattle.c_expr_parser.specs.Definitions.{defs}
-use Rattle.c_parser.specs.TextWalk.{text_parsed}
+use Rattle.c_parser.specs.TextPlans.{text_parsed}
 use Rattle.c_parser.specs.Parts.{globals_plan}
-use Rattle.c_parser.proofs.TextLoops.{more_globals}
+use Rattle.c_parser.proofs.ListLoops.{more_globals}
 use Rattle.c_parser.proofs.global.globals.Given as goal
 
 abbrev pub invariant-loop-behind : goal.invariant-loop-behind

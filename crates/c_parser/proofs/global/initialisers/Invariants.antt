@@ -1,8 +1,8 @@
 use Rattle.std.proofs.Common.{◌≡◌, ◌<◌, length, List}
 use Rattle.c_tree.specs.declared.expr.Expr.{Expr}
-use Rattle.c_parser.specs.TextWalk.{TextPlan, text_parsed}
+use Rattle.c_parser.specs.TextPlans.{TextPlan, text_parsed}
 use Rattle.c_parser.specs.Parts.{values_then}
-use Rattle.c_parser.proofs.TextLoops.{more_values}
+use Rattle.c_parser.proofs.ListLoops.{more_values}
 use Rattle.c_parser.proofs.global.initialisers.Given as goal
 
 abbrev pub invariant-loop-behind : goal.invariant-loop-behind

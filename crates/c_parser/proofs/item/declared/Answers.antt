@@ -1,10 +1,10 @@
 use Rattle.std.proofs.Common.{◌∷◌, ◌++◌, [], refl, sym, ap, ◌∙◌, arith, length}
 use Rattle.c_tree.specs.declared.def.DefKind.TheVariants as kind
 use Rattle.c_expr_parser.specs.Definitions.{def}
-use Rattle.c_parser.specs.TextWalk.{Give, Declared}
-use Rattle.c_parser.proofs.TextParsing.{parsed_give, dead_end}
-use Rattle.c_parser.proofs.TextItemForms.{declared_void, declared_mutex, declared_type, function_void, makes_tail, makes_plain, makes_added}
-use Rattle.c_parser.proofs.TextExits.{through_of, hands, hands_of}
+use Rattle.c_parser.specs.TextPlans.{Give, Declared}
+use Rattle.c_parser.proofs.PlanResults.{parsed_give, dead_end}
+use Rattle.c_parser.proofs.ItemContinuations.{declared_void, declared_mutex, declared_type, function_void, makes_tail, makes_plain, makes_added}
+use Rattle.c_parser.proofs.FunctionReturns.{through_of, hands, hands_of}
 use Rattle.c_parser.proofs.item.declared.Goals as goal
 
 pub returns-in_default-clause-reads : goal.returns-in_default-clause-reads

@@ -1,8 +1,8 @@
 use Rattle.std.proofs.Common.{◌∷◌, [], refl, sym, ap, ◌∙◌, arith, length}
-use Rattle.c_parser.specs.TextWalk.{Give, Item}
-use Rattle.c_parser.proofs.TextParsing.{dead_end}
-use Rattle.c_parser.proofs.TextItemForms.{item_static, item_struct, item_transformer, item_declared, static_tail, makes_tail, makes_plain}
-use Rattle.c_parser.proofs.TextExits.{through_of, hands, hands_of}
+use Rattle.c_parser.specs.TextPlans.{Give, Item}
+use Rattle.c_parser.proofs.PlanResults.{dead_end}
+use Rattle.c_parser.proofs.ItemContinuations.{item_static, item_struct, item_transformer, item_declared, static_tail, makes_tail, makes_plain}
+use Rattle.c_parser.proofs.FunctionReturns.{through_of, hands, hands_of}
 use Rattle.c_parser.proofs.item.item.Goals as goal
 
 pub returns-in_default-clause-reads : goal.returns-in_default-clause-reads

@@ -1,8 +1,8 @@
 use Rattle.std.proofs.Common.{◌≡◌, Some, refl, sym, ◌∙◌, arith, length}
-use Rattle.c_parser.specs.TextWalk.{typed_item, globals_by, text_parsed}
+use Rattle.c_parser.specs.TextPlans.{typed_item, globals_by, text_parsed}
 use Rattle.c_parser.specs.Parts.{function_plan}
-use Rattle.c_parser.proofs.TextItemForms.{function_some, function_none, hands_then, makes_typed, globals_tail}
-use Rattle.c_parser.proofs.TextExits.{through_of, hands_of}
+use Rattle.c_parser.proofs.ItemContinuations.{function_some, function_none, hands_then, makes_typed, globals_tail}
+use Rattle.c_parser.proofs.FunctionReturns.{through_of, hands_of}
 use Rattle.c_parser.proofs.item.typed.Goals as goal
 
 pub returns-in_err-first-clause-reads : goal.returns-in_err-first-clause-reads

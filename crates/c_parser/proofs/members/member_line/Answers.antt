@@ -1,7 +1,7 @@
 use Rattle.std.proofs.Common.{◌≡◌, ◌++◌, refl}
-use Rattle.c_parser.specs.TextWalk.{text_parsed}
+use Rattle.c_parser.specs.TextPlans.{text_parsed}
 use Rattle.c_parser.specs.Parts.{member_line_then}
-use Rattle.c_parser.proofs.TextExits.{through_of, hands_of, tail_call}
+use Rattle.c_parser.proofs.FunctionReturns.{through_of, hands_of, tail_call}
 use Rattle.c_parser.proofs.members.member_line.Goals as goal
 
 pub returns-in_err-declared-clause-reads : goal.returns-in_err-declared-clause-reads

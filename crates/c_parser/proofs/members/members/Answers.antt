@@ -1,9 +1,9 @@
 use Rattle.std.proofs.Common.{◌++◌, sym, ap, ◌∙◌, arith}
-use Rattle.c_parser.specs.TextWalk.{text_parsed}
+use Rattle.c_parser.specs.TextPlans.{text_parsed}
 use Rattle.c_parser.specs.Parts.{member_line_then}
-use Rattle.c_parser.proofs.TextLoops.{more_members}
-use Rattle.c_parser.proofs.TextLists.{members_next, members_end}
-use Rattle.c_parser.proofs.TextExits.{hands}
+use Rattle.c_parser.proofs.ListLoops.{more_members}
+use Rattle.c_parser.proofs.ListContinuations.{members_next, members_end}
+use Rattle.c_parser.proofs.FunctionReturns.{hands}
 use Rattle.c_parser.proofs.members.members.Goals as goal
 
 pub returns-in_err-first-clause-reads : goal.returns-in_err-first-clause-reads

@@ -1,8 +1,8 @@
 use Rattle.std.proofs.Common.{◌≡◌, ◌<◌, length, List}
 use Rattle.c_tree.specs.declared.def.Binding.{Binding}
-use Rattle.c_parser.specs.TextWalk.{TextPlan, text_parsed}
+use Rattle.c_parser.specs.TextPlans.{TextPlan, text_parsed}
 use Rattle.c_parser.specs.Parts.{members_then}
-use Rattle.c_parser.proofs.TextLoops.{more_members}
+use Rattle.c_parser.proofs.ListLoops.{more_members}
 use Rattle.c_parser.proofs.members.members.Given as goal
 
 abbrev pub invariant-loop-alloc : goal.invariant-loop-alloc

@@ -1,7 +1,7 @@
 use Rattle.std.proofs.Common.{◌≡◌, ◌<◌, length}
-use Rattle.c_parser.specs.TextWalk.{text_parsed}
+use Rattle.c_parser.specs.TextPlans.{text_parsed}
 use Rattle.c_parser.specs.Parts.{named_plan}
-use Rattle.c_parser.proofs.TextLoops.{more_parameters}
+use Rattle.c_parser.proofs.ListLoops.{more_parameters}
 use Rattle.c_parser.proofs.parameters.named.Given as goal
 
 abbrev pub invariant-loop-behind : goal.invariant-loop-behind

@@ -1,9 +1,9 @@
 use Rattle.std.proofs.Common.{sym, ap, ◌∙◌}
 use Rattle.c_tree.specs.declared.def.Parameters.TheVariants.{Named}
-use Rattle.c_parser.specs.TextWalk.{parameters, found}
-use Rattle.c_parser.proofs.TextParsing.{parsed_give}
-use Rattle.c_parser.proofs.TextLists.{list_void, list_deep, list_none, list_type, list_named, list_unnamed}
-use Rattle.c_parser.proofs.TextExits.{through_of, hands_of, sinks_on, tail_call}
+use Rattle.c_parser.specs.TextPlans.{parameters, found}
+use Rattle.c_parser.proofs.PlanResults.{parsed_give}
+use Rattle.c_parser.proofs.ListContinuations.{list_void, list_deep, list_none, list_type, list_named, list_unnamed}
+use Rattle.c_parser.proofs.FunctionReturns.{through_of, hands_of, sinks_on, tail_call}
 use Rattle.c_parser.proofs.parameters.parameters.Goals as goal
 
 pub returns-in_err-shallow-clause-reads : goal.returns-in_err-shallow-clause-reads

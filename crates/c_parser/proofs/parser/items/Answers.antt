@@ -1,6 +1,6 @@
 use Rattle.std.proofs.Common.{sym, subst, ◌∙◌}
-use Rattle.c_parser.specs.TextWalk.{ItemsRead}
-use Rattle.c_parser.proofs.TextAnswers.{items_stop, items_more, some_left, none_left}
+use Rattle.c_parser.specs.TextPlans.{ItemsRead}
+use Rattle.c_parser.proofs.ItemAnswers.{items_stop, items_more, some_left, none_left}
 use Rattle.c_parser.proofs.parser.items.Goals as goal
 
 pub loop-rest-init : goal.loop-rest-init

@@ -1,5 +1,5 @@
 use Rattle.std.proofs.Common.{length}
-use Rattle.c_parser.specs.TextWalk.{ItemsRead}
+use Rattle.c_parser.specs.TextPlans.{ItemsRead}
 use Rattle.c_parser.proofs.parser.items.Given as goal
 
 abbrev pub invariant-loop-rest : goal.invariant-loop-rest

@@ -1,8 +1,8 @@
 use Rattle.std.proofs.Common.{refl, sym, ap, ◌∙◌}
 use Rattle.c_expr_parser.specs.Statements.{stmt}
-use Rattle.c_parser.specs.TextWalk.{Give, returned, statement, found}
-use Rattle.c_parser.proofs.TextParsing.{parsed_give}
-use Rattle.c_parser.proofs.TextExits.{hands}
+use Rattle.c_parser.specs.TextPlans.{Give, returned, statement, found}
+use Rattle.c_parser.proofs.PlanResults.{parsed_give}
+use Rattle.c_parser.proofs.FunctionReturns.{hands}
 use Rattle.c_parser.proofs.simple.return_statement.Goals as goal
 
 pub returns-in_err-value-clause-reads : goal.returns-in_err-value-clause-reads

@@ -1,7 +1,7 @@
 use Rattle.std.proofs.Common.{◌≡◌, refl, sym, ap, ◌∙◌}
-use Rattle.c_parser.specs.TextWalk.{simple, statement, found, text_parsed}
-use Rattle.c_parser.proofs.TextParsing.{parsed_give}
-use Rattle.c_parser.proofs.TextExits.{through_of, hands_of}
+use Rattle.c_parser.specs.TextPlans.{simple, statement, found, text_parsed}
+use Rattle.c_parser.proofs.PlanResults.{parsed_give}
+use Rattle.c_parser.proofs.FunctionReturns.{through_of, hands_of}
 use Rattle.c_parser.proofs.simple.simple.Goals as goal
 
 pub returns-in_err-rest-clause-reads : goal.returns-in_err-rest-clause-reads

@@ -1,6 +1,6 @@
 use Rattle.std.proofs.Common.{◌≡◌, refl}
-use Rattle.c_parser.specs.TextWalk.{update_statement, text_parsed}
-use Rattle.c_parser.proofs.TextExits.{through_of, hands_of, tail_call}
+use Rattle.c_parser.specs.TextPlans.{update_statement, text_parsed}
+use Rattle.c_parser.proofs.FunctionReturns.{through_of, hands_of, tail_call}
 use Rattle.c_parser.proofs.simple.update.Goals as goal
 
 pub returns-in_err-rest-clause-reads : goal.returns-in_err-rest-clause-reads

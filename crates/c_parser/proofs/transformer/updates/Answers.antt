@@ -1,9 +1,9 @@
 use Rattle.std.proofs.Common.{◌∷◌, ◌++◌, sym, ap, ◌∙◌, arith}
-use Rattle.c_parser.specs.TextWalk.{Want, Updates, as_updates, text_parsed}
-use Rattle.c_parser.proofs.TextForms.{shifted}
-use Rattle.c_parser.proofs.TextLoops.{more_updates}
-use Rattle.c_parser.proofs.TextLists.{updates_next, updates_end}
-use Rattle.c_parser.proofs.TextExits.{hands}
+use Rattle.c_parser.specs.TextPlans.{Want, Updates, as_updates, text_parsed}
+use Rattle.c_parser.proofs.SignsByFirstToken.{shifted}
+use Rattle.c_parser.proofs.ListLoops.{more_updates}
+use Rattle.c_parser.proofs.ListContinuations.{updates_next, updates_end}
+use Rattle.c_parser.proofs.FunctionReturns.{hands}
 use Rattle.c_parser.proofs.transformer.updates.Goals as goal
 
 pub loop-alloc-init : goal.loop-alloc-init

@@ -1,8 +1,8 @@
 use Rattle.std.proofs.Common.{◌≡◌, ◌≤◌, length, List}
 use Rattle.c_tree.specs.declared.def.FieldValue.{FieldValue}
-use Rattle.c_parser.specs.TextWalk.{TextPlan, text_parsed}
+use Rattle.c_parser.specs.TextPlans.{TextPlan, text_parsed}
 use Rattle.c_parser.specs.Parts.{updates_then}
-use Rattle.c_parser.proofs.TextLoops.{more_updates}
+use Rattle.c_parser.proofs.ListLoops.{more_updates}
 use Rattle.c_parser.proofs.transformer.updates.Given as goal
 
 abbrev pub invariant-loop-alloc : goal.invariant-loop-alloc

@@ -4,10 +4,10 @@ use Rattle.c_tree.specs.declared.stmt.StmtNode.TheVariants.{For}
 use Rattle.c_types.specs.Faults.{first, sooner}
 use Rattle.c_types.specs.Expressions.{is_condition}
 use Rattle.c_types.specs.Lookup.{Scopes}
-use Rattle.c_types.specs.Statements.{Walked, evaluated, in_block, in_loop, in_order, walk}
+use Rattle.c_types.specs.Statements.{Walked, expression_faults, in_block, in_loop, in_order, walk}
 use Rattle.c_types.specs.Views.{around_seen}
 use Rattle.c_types.proofs.Firsts.{first_append}
-use Rattle.c_types.proofs.Walks.{outside_of_all, faults_along, scopes_along, fault_of_if_else, fault_of_for, sooner_is, turn, walk_of}
+use Rattle.c_types.proofs.StatementsByNode.{outside_of_all, statement_faults_step, statement_scopes_step, fault_of_if_else, fault_of_for, sooner_is, turn, walk_of}
 use Rattle.c_types.proofs.walk.+walk.Goals as goal
 
 pub block-leave-requires : goal.block-leave-requires
@@ -28,8 +28,8 @@ do_loop-returns-clause-fault t c =
     let around = around_seen c.args.around.now c.args.scopes.now in
     sooner_is c.sooner.ensures c.in_ok-of_body.ensures.fault
     (c.in_ok-of_test.ensures
-    ∙ ap (λ scopes. first (evaluated is_condition (around_seen c.args.around.now scopes) c.args.test.now)) c.in_ok-of_body.ensures.scopes)
-    ∙ sym (first_append ((walk c.args.body.now (in_block (in_loop around))).faults) (evaluated is_condition around c.args.test.now))
+    ∙ ap (λ scopes. first (expression_faults is_condition (around_seen c.args.around.now scopes) c.args.test.now)) c.in_ok-of_body.ensures.scopes)
+    ∙ sym (first_append ((walk c.args.body.now (in_block (in_loop around))).faults) (expression_faults is_condition around c.args.test.now))
 
 pub statement-returns-in_ok-of_otherwise-in-IfElse-clause-fault :
     goal.statement-returns-in_ok-of_otherwise-in-IfElse-clause-fault
@@ -80,12 +80,12 @@ statements-loop-stmt-preserved t c =
     let i = c.loop-stmt.stmt-index in
     record {
       faults =
-          faults_along body i c.stmt-item.result around c.statement.new.scopes c.loop-stmt.fault c.sooner-fault.result
+          statement_faults_step body i c.stmt-item.result around c.statement.new.scopes c.loop-stmt.fault c.sooner-fault.result
           c.loop-stmt-test.true c.stmt-item.is c.in_ok-statement.ensures.scopes
           (c.sooner-fault.ensures ∙ ap (sooner c.loop-stmt.fault) c.in_ok-statement.ensures.fault)
           ∙ c.loop-stmt.invariant.faults;
       scopes =
-          scopes_along body i c.stmt-item.result around c.statement.new.scopes
+          statement_scopes_step body i c.stmt-item.result around c.statement.new.scopes
           c.loop-stmt-test.true c.stmt-item.is c.in_ok-statement.ensures.scopes
           ∙ c.loop-stmt.invariant.scopes;
     }

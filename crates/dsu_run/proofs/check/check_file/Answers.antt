@@ -11,9 +11,8 @@ returns-in-Ok-clause-statuses g c = check_status c.tell.result.status c.tell.ens
 
 pub returns-in-Ok-clause-complete : goal.returns-in-Ok-clause-complete
 returns-in-Ok-clause-complete g c text program told fits accepted =
-    let names : c.names_in-names.result ≡ names_of program.definitions =
-    c.names_in-names.ensures
-    ∙ ap (λ (p : Program). names_of p.definitions) (c.program.ensures.tree ∙ c.in-Ok.ensures.complete text program told fits accepted) in
+    let names : c.names-names.result ≡ names_of program.definitions =
+    c.names-names.ensures ∙ ap (λ (p : Program). names_of p.definitions) (c.in-Ok.ensures.complete text program told fits accepted) in
     elim c.tell.ensures.statuses [
       | inl whole ↦ inr (subst {A = ℕ} (λ n. Checked n c.tell.result.status c.tell.result.ending c.tell.result.history.items (g.O.Sink.told c.args.out)
           (g.O.Sink.told c.tell.result.out) (g.E.Sink.told c.args.err.now) (g.E.Sink.told c.tell.new.err)) names (c.tell.ensures.checked whole))

@@ -1,7 +1,7 @@
 use Rattle.std.proofs.Common.{◌≡◌, ◌∙◌, ◌++◌, ◌∷◌, [], length, ap, arith}
-use Rattle.c_expr_parser.proofs.LeafTypes.{longer_means, more_words, no_more_words, words_end}
+use Rattle.c_expr_parser.proofs.TypeReading.{longer_means, more_words, no_more_words, words_end}
 use Rattle.c_tree.specs.declared.name.CType.TheVariants.{Integer}
-use Rattle.c_expr_parser.specs.Walk.{Words, read, typed, reads}
+use Rattle.c_expr_parser.specs.Plans.{Words, read, typed, reads}
 use Rattle.c_expr_parser.proofs.type_name.Words.rest_of_type.Goals as goal
 use Rattle.c_expr_parser.proofs.type_name.Words.rest_of_type.Goals.{in-Some+in_default-longer, in_default}
 

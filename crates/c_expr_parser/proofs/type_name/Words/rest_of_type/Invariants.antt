@@ -1,9 +1,9 @@
 use Rattle.std.proofs.Common.{◌≡◌, ◌≤◌, ℕ, List, length, Some}
 use Rattle.c_expr_parser.specs.Readings.{most_depth}
-use Rattle.c_expr_parser.specs.Seen.{seen}
+use Rattle.c_expr_parser.specs.WordCounts.{seen}
 use Rattle.c_expr_parser.specs.Tables.{kind_of}
 use Rattle.c_expr_parser.specs.TypeNames.{counts}
-use Rattle.c_expr_parser.specs.Walk.{Words, reads}
+use Rattle.c_expr_parser.specs.Plans.{Words, reads}
 use Rattle.c_expr_parser.proofs.type_name.Words.rest_of_type.Given as goal
 
 abbrev pub invariant-loop-token : goal.invariant-loop-token

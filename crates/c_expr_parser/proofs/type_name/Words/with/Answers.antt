@@ -1,5 +1,5 @@
 use Rattle.std.proofs.Common.{sym, ◌∙◌}
-use Rattle.c_expr_parser.proofs.LeafWords.{twice}
+use Rattle.c_expr_parser.proofs.IntegerTypeWords.{twice}
 use Rattle.c_expr_parser.proofs.type_name.Words.with.Goals as goal
 
 pub returns-then-has : goal.returns-then-has
