@@ -1,3 +1,4 @@
 pub mod Meaning
 pub mod Trap
+pub mod CheckIns
 pub mod Skeleton

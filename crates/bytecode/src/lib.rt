@@ -1,4 +1,4 @@
-//! The instructions that texts are compiled to, and the plain types in which a run is told.
+//! The instructions that texts are compiled to, and the plain types in which a run is reported.
 //!
 //! What an instruction does is a definition, `specs/Meaning.antt`, which every machine that runs code
 //! meets. The types carry no behaviour of their own but the trap that an operator's trap becomes.

@@ -7,7 +7,7 @@ use name_sets::NameId;
 pub enum Event {
     /// The thread runs up to its next stop and makes it, or traps on the way.
     Move(u8),
-    /// The thread, which stands at a check-in, passes it.
+    /// The thread, which is at a check-in, passes it.
     CheckIn(u8),
     /// The offer of that number, counted from 1, is opened.
     Offer(u8),

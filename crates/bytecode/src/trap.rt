@@ -2,7 +2,7 @@ ghost use Rattle.std.specs.Prelude.{◌≡◌};
 
 use c_ints::ArithTrap;
 
-/// Why a thread is stopped in the midst of its work. The whole run ends with it.
+/// Why a thread is stopped in the middle of its work. The whole run ends with it.
 #[derive(Clone, Copy, Debug, PartialEq, Eq)]
 pub enum TrapKind {
     /// A signed result that its type can't hold (C11 6.5 paragraph 5).

@@ -4,7 +4,7 @@ use Rattle.std.specs.Ordering.{int_eq}
 use Rattle.c_ints.specs.Number.{value_of}
 use Rattle.c_tree.specs.BareExpr.{Bytes, BareType}
 use Rattle.c_tree.specs.BareDef.{BareBinding, BareDef, Struct, Mutex, Function, Global, Array}
-use Rattle.c_semantics.specs.Names.{name_set, is_among}
+use Rattle.name_sets.specs.NameLists.{name_set, is_among}
 use Rattle.c_semantics.specs.Texts.{definition, names}
 use Rattle.c_semantics.specs.Same.{same_list, same_option, same_type, same_stmts, same_binding}
 

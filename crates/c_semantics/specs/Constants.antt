@@ -85,7 +85,7 @@ elements n = unsigned_abs (value_of n)
 abbrev pub filled : BareType → ℕ → List Value → List Value
 filled type n cells = take n cells ++ replicate (n - length cells) (zero_of type)
 
--- the cells with which a global variable or an array begins (6.7.9): behind its list an array has zeros
+-- the cells with which a global variable or an array begins (6.7.9): after its list an array has zeros
 abbrev pub initial_cells : BareDef → List Value
 initial_cells (Global d) = initial d.declared d.initial ∷ []
 initial_cells (Array type name n values) =

@@ -14,7 +14,7 @@ use Rattle.c_tree.specs.BareExpr.{Bytes, BareType}
 use Rattle.c_semantics.specs.Values.{Value, Number, Started, int_of, zero_of, converted_to, is_true, binary_result, unary_result}
 use Rattle.c_semantics.specs.Resolved.{Expression, Expressions, Place, Statement, Statements, Constant, Read, Unary, Binary, Convert, And, Or, Choice, Assign, Update, Postfix, Call, Print, New, Free, Create, Join, JoinInto, InitMutex, Lock, Unlock, NoExpressions, ExpressionThen, Local, Global, Element, Field, Block, Empty, Evaluate, Declare, If, IfElse, While, DoWhile, For, Break, Continue, Return, UpdatePoint, Transaction, NoStatements, StatementThen}
 use Rattle.c_semantics.specs.Points.{size, size_if, size_all, size_parts, size_read, size_stmt, size_stmts}
-use Rattle.c_semantics.specs.Pieces.{Loop, Piece, Variable, Scopes, Halt, body_at, step_at, back_at, Compute, Arguments, Parts, Get, Set, Again, Tuck, Lift, Apply, Combine, ConvertTo, Drop, Put, Truth, Created, AndThen, OrElse, Choose, Then, ThenElse, Turn, Repeat, Do, Sequence, Close, Cycle, Behind, Edge, Until, At, Stopped, Trapped, Nothing}
+use Rattle.c_semantics.specs.Pieces.{Loop, Piece, Variable, Scopes, Halt, body_at, step_at, back_at, Compute, Arguments, Parts, Get, Set, Dup, Tuck, Swap, Apply, Combine, ConvertTo, Drop, Push, Truth, Created, AndThen, OrElse, Choose, Then, ThenElse, Turn, Repeat, Do, Sequence, Close, LoopTest, AfterBody, BackEdge, Until, At, Stopped, Trapped, Nothing}
 use Rattle.c_semantics.specs.Stops.{Stop}
 use Rattle.c_semantics.specs.Stops as stop
 
@@ -161,23 +161,23 @@ swap k [] scopes = Nothing
 swap k (a ∷ []) scopes = Nothing
 swap k (a ∷ b ∷ values) scopes = k (b ∷ a ∷ values) scopes
 
--- a copy of the newest value under the one behind it
+-- a copy of the newest value under the one after it
 abbrev pub tuck_under : Next → Next
 tuck_under k [] scopes = Nothing
 tuck_under k (a ∷ []) scopes = Nothing
 tuck_under k (a ∷ b ∷ values) scopes = k (a ∷ b ∷ a ∷ values) scopes
 
 -- a copy of a place's part, where it has one
-abbrev pub again : Place → Next → Next
-again p k = if has_part p then copy k else k
+abbrev pub dup : Place → Next → Next
+dup p k = if has_part p then copy k else k
 
 -- a copy of the newest value under the place's part
 abbrev pub tuck : Place → Next → Next
 tuck p k = if has_part p then tuck_under k else copy k
 
 -- the value under the place's part comes up
-abbrev pub lift : Place → Next → Next
-lift p k = if has_part p then swap k else k
+abbrev pub swap_part : Place → Next → Next
+swap_part p k = if has_part p then swap k else k
 
 -- the int 1, by which `x++` and `x--` step
 abbrev pub one : Value
@@ -219,15 +219,15 @@ abbrev mutual
       let m = r + size_read p in
       let w = m + size e in
       let kept = ConvertTo type ∷ Set p w ∷ rest in
-      parts p n (Again p ∷ Get p r ∷ Compute e m ∷ Combine op ∷ kept)
-      (again p (get p r (Compute e m ∷ Combine op ∷ kept)
+      parts p n (Dup p ∷ Get p r ∷ Compute e m ∷ Combine op ∷ kept)
+      (dup p (get p r (Compute e m ∷ Combine op ∷ kept)
       (expression e m (Combine op ∷ kept) (combine op (change (converted_to type) (set p w rest k))))))
   expression (Postfix type op p) n rest k =
       let r = n + size_parts p in
       let w = r + size_read p in
-      let kept = Tuck p ∷ Put one ∷ Combine op ∷ ConvertTo type ∷ Set p w ∷ Drop ∷ rest in
-      parts p n (Again p ∷ Get p r ∷ kept)
-      (again p (get p r kept
+      let kept = Tuck p ∷ Push one ∷ Combine op ∷ ConvertTo type ∷ Set p w ∷ Drop ∷ rest in
+      parts p n (Dup p ∷ Get p r ∷ kept)
+      (dup p (get p r kept
       (tuck p (give one (combine op (change (converted_to type) (set p w (Drop ∷ rest) (drop k))))))))
   expression (Call name arguments) n rest k =
       let m = n + size_all arguments in
@@ -248,14 +248,14 @@ abbrev mutual
       (expression e m (At (stop.Spawn name) s ∷ kept) (stop_at (stop.Spawn name) s kept))
   expression (Join e) n rest k =
       let m = n + size e in
-      let kept = Drop ∷ Put (int_of 0) ∷ rest in
+      let kept = Drop ∷ Push (int_of 0) ∷ rest in
       expression e n (At stop.Join m ∷ kept) (stop_at stop.Join m kept)
   expression (JoinInto e p) n rest k =
       let m = n + size e in
       let j = m + size_parts p in
-      let kept = Set p (j + 1) ∷ Drop ∷ Put (int_of 0) ∷ rest in
-      expression e n (Parts p m ∷ Lift p ∷ At stop.Join j ∷ kept)
-      (parts p m (Lift p ∷ At stop.Join j ∷ kept) (lift p (stop_at stop.Join j kept)))
+      let kept = Set p (j + 1) ∷ Drop ∷ Push (int_of 0) ∷ rest in
+      expression e n (Parts p m ∷ Swap p ∷ At stop.Join j ∷ kept)
+      (parts p m (Swap p ∷ At stop.Join j ∷ kept) (swap_part p (stop_at stop.Join j kept)))
   expression (InitMutex name) n rest k = stop_at (stop.InitMutex name) n rest
   expression (Lock name) n rest k = stop_at (stop.Lock name) n rest
   expression (Unlock name) n rest k = stop_at (stop.Unlock name) n rest
@@ -279,29 +279,29 @@ only next k = record k { on = next }
 abbrev pub closing : Ways → Ways
 closing k = record { on = close_scope k.on; broken = close_scope k.broken; continued = close_scope k.continued }
 
--- the back edge of a loop: behind it the loop goes on from its test
-abbrev pub edge : Loop → List Piece → Next
-edge l rest = stop_at stop.Back (back_at l) (Cycle l ∷ rest)
+-- the back edge of a loop: after it the loop goes on from its test
+abbrev pub back_edge : Loop → List Piece → Next
+back_edge l rest = stop_at stop.Back (back_at l) (LoopTest l ∷ rest)
 
--- what stands behind a loop's body: its step, then the back edge
+-- what comes after a loop's body: its step, then the back edge
 abbrev pub stepped : Loop → Option Expression → List Piece → Next
-stepped l None rest = edge l rest
-stepped l (Some e) rest = expression e (step_at l) (Drop ∷ Edge l ∷ rest) (drop (edge l rest))
+stepped l None rest = back_edge l rest
+stepped l (Some e) rest = expression e (step_at l) (Drop ∷ BackEdge l ∷ rest) (drop (back_edge l rest))
 
--- the ways of a loop's body: a `continue` goes to the step, a `break` behind the loop
+-- the ways of a loop's body: a `continue` goes to the step, a `break` after the loop
 abbrev pub looped : Loop → List Piece → Ways → Ways
 looped l rest k = record { on = stepped l l.step rest; broken = k.on; continued = stepped l l.step rest }
 
 -- a loop from its test on; `body` is what its body means
 abbrev pub tested : Loop → Option Expression → (List Piece → Ways → Next) → List Piece → Ways → Next
-tested l None body rest k = body (Behind l ∷ rest) (looped l rest k)
+tested l None body rest k = body (AfterBody l ∷ rest) (looped l rest k)
 tested l (Some c) body rest k =
-    expression c l.first (Turn l ∷ rest) (choose (body (Behind l ∷ rest) (looped l rest k)) k.on)
+    expression c l.first (Turn l ∷ rest) (choose (body (AfterBody l ∷ rest) (looped l rest k)) k.on)
 
-abbrev pub cycle : Loop → (List Piece → Ways → Next) → List Piece → Ways → Next
-cycle l body rest k = tested l l.test body rest k
+abbrev pub loop_test : Loop → (List Piece → Ways → Next) → List Piece → Ways → Next
+loop_test l body rest k = tested l l.test body rest k
 
--- behind the body of `do`: its condition, and the back edge where it holds
+-- after the body of `do`: its condition, and the back edge where it holds
 abbrev pub repeated : Statement → Expression → ℕ → List Piece → Next
 repeated s c n rest = stop_at stop.Back (n + size_stmt s + size c) (Do (DoWhile s c) n ∷ rest)
 
@@ -309,7 +309,7 @@ abbrev pub until : Statement → Expression → ℕ → List Piece → Ways → 
 until s c n rest k =
     expression c (n + size_stmt s) (Repeat s c n ∷ rest) (choose (repeated s c n rest) k.on)
 
--- a `while` or `for` loop behind its first part
+-- a `while` or `for` loop after its first part
 abbrev pub loop_of : Option Expression → Option Expression → Statement → ℕ → Loop
 loop_of test step body n = record { test = test; step = step; body = body; first = n }
 
@@ -330,15 +330,15 @@ abbrev mutual
       let m = n + size c in
       expression c n (ThenElse s t m ∷ rest)
       (choose (statement s m rest k) (statement t (m + size_stmt s) rest k))
-  statement (While c s) n rest k = cycle (loop_of (Some c) None s n) (statement s (n + size c)) rest k
+  statement (While c s) n rest k = loop_test (loop_of (Some c) None s n) (statement s (n + size c)) rest k
   statement (DoWhile s c) n rest k =
       statement s n (Until s c n ∷ rest)
       (record { on = until s c n rest k; broken = k.on; continued = until s c n rest k })
   statement (For first test step s) n rest k =
       let m = n + size_stmts first in
       let l = loop_of test step s m in
-      open_scope (sequence first n (Cycle l ∷ Close ∷ rest)
-      (only (cycle l (statement s (m + size_if test)) (Close ∷ rest) (closing k)) (closing k)))
+      open_scope (sequence first n (LoopTest l ∷ Close ∷ rest)
+      (only (loop_test l (statement s (m + size_if test)) (Close ∷ rest) (closing k)) (closing k)))
   statement Break n rest k = k.broken
   statement Continue n rest k = k.continued
   statement (Return e) n rest k =
@@ -359,14 +359,14 @@ piece (Arguments es n) rest k = only (expressions es n rest k.on) k
 piece (Parts p n) rest k = only (parts p n rest k.on) k
 piece (Get p n) rest k = only (get p n rest k.on) k
 piece (Set p n) rest k = only (set p n rest k.on) k
-piece (Again p) rest k = only (again p k.on) k
+piece (Dup p) rest k = only (dup p k.on) k
 piece (Tuck p) rest k = only (tuck p k.on) k
-piece (Lift p) rest k = only (lift p k.on) k
+piece (Swap p) rest k = only (swap_part p k.on) k
 piece (Apply op) rest k = only (apply op k.on) k
 piece (Combine op) rest k = only (combine op k.on) k
 piece (ConvertTo type) rest k = only (change (converted_to type) k.on) k
 piece Drop rest k = only (drop k.on) k
-piece (Put v) rest k = only (give v k.on) k
+piece (Push v) rest k = only (give v k.on) k
 piece Truth rest k = only (change as_truth k.on) k
 piece Created rest k = only (change creation k.on) k
 piece (AndThen b m) rest k = only (choose (expression b m (Truth ∷ rest) (change as_truth k.on)) (give (int_of 0) k.on)) k
@@ -374,14 +374,14 @@ piece (OrElse b m) rest k = only (choose (give (int_of 1) k.on) (expression b m 
 piece (Choose a b m) rest k = only (choose (expression a m rest k.on) (expression b (m + size a) rest k.on)) k
 piece (Then s m) rest k = only (choose (statement s m rest k) k.on) k
 piece (ThenElse s t m) rest k = only (choose (statement s m rest k) (statement t (m + size_stmt s) rest k)) k
-piece (Turn l) rest k = only (choose (statement l.body (body_at l) (Behind l ∷ rest) (looped l rest k)) k.on) k
+piece (Turn l) rest k = only (choose (statement l.body (body_at l) (AfterBody l ∷ rest) (looped l rest k)) k.on) k
 piece (Repeat s c n) rest k = only (choose (repeated s c n rest) k.on) k
 piece (Do s n) rest k = only (statement s n rest k) k
 piece (Sequence ss n) rest k = only (sequence ss n rest k) k
 piece Close rest k = closing k
-piece (Cycle l) rest k = only (cycle l (statement l.body (body_at l)) rest k) k
-piece (Behind l) rest k = looped l rest k
-piece (Edge l) rest k = only (edge l rest) k
+piece (LoopTest l) rest k = only (loop_test l (statement l.body (body_at l)) rest k) k
+piece (AfterBody l) rest k = looped l rest k
+piece (BackEdge l) rest k = only (back_edge l rest) k
 piece (Until s c n) rest k = record { on = until s c n rest k; broken = k.on; continued = until s c n rest k }
 piece (At s n) rest k = only (stop_at s n rest) k
 

@@ -1,5 +1,6 @@
 pub mod Names
 pub mod Texts
+pub mod SourceTexts
 pub mod Values
 pub mod Resolved
 pub mod Resolution
@@ -8,8 +9,13 @@ pub mod Stops
 pub mod Pieces
 pub mod Evaluation
 pub mod Skeletons
+pub mod Places
+pub mod Leaving
 pub mod Threads
+pub mod Standing
+pub mod SkeletonLaws
 pub mod Same
 pub mod Changes
+pub mod Store
 pub mod Constants
 pub mod Transformers

@@ -9,7 +9,7 @@ use Rattle.c_semantics.specs.Resolved.{Expression, Expressions, Place, Statement
 use Rattle.c_semantics.specs.Stops.{Stop}
 use Rattle.c_semantics.specs.Points.{size_if, size_stmt}
 
--- a `while` or `for` loop behind its first part, with the number of its first point
+-- a `while` or `for` loop after its first part, with the number of its first point
 pub record Loop : Type 0 where
   pub test : Option Expression
   pub step : Option Expression
@@ -36,19 +36,19 @@ pub data Piece : Type 0 where
   Get : Place → ℕ → Piece
   Set : Place → ℕ → Piece
   -- a copy of the place's parts; a copy of the newest value under them; the newest value under its parts comes up
-  Again : Place → Piece
+  Dup : Place → Piece
   Tuck : Place → Piece
-  Lift : Place → Piece
+  Swap : Place → Piece
   -- operators and conversions of the newest values, a value that is dropped, a value that is put there
   Apply : UnOp → Piece
   Combine : BinOp → Piece
   ConvertTo : BareType → Piece
   Drop : Piece
-  Put : Value → Piece
+  Push : Value → Piece
   -- whether the newest value is true, as an int; what thrd_create gives for the handle that it stored
   Truth : Piece
   Created : Piece
-  -- tests of the newest value: behind the left side of `&&` and `||`, of `?:`, of `if`, of a loop, of `do`
+  -- tests of the newest value: after the left side of `&&` and `||`, of `?:`, of `if`, of a loop, of `do`
   AndThen : Expression → ℕ → Piece
   OrElse : Expression → ℕ → Piece
   Choose : Expression → Expression → ℕ → Piece
@@ -60,10 +60,10 @@ pub data Piece : Type 0 where
   Do : Statement → ℕ → Piece
   Sequence : Statements → ℕ → Piece
   Close : Piece
-  -- a loop from its test on, what stands behind its body, and its back edge; what stands behind the body of `do`
-  Cycle : Loop → Piece
-  Behind : Loop → Piece
-  Edge : Loop → Piece
+  -- a loop from its test on, what comes after its body, and its back edge; what comes after the body of `do`
+  LoopTest : Loop → Piece
+  AfterBody : Loop → Piece
+  BackEdge : Loop → Piece
   Until : Statement → Expression → ℕ → Piece
   -- a stop at the point of that number
   At : Stop → ℕ → Piece
@@ -77,7 +77,7 @@ pub record Variable : Type 0 where
 abbrev pub Scopes : Type 0
 Scopes = List (List Variable)
 
--- how local evaluation ends: before a stop at the point of that number, with the pieces behind it, the values and
+-- how local evaluation ends: before a stop at the point of that number, with the pieces after it, the values and
 -- the scopes; with a trap; or with nothing left to do
 pub data Halt : Type 0 where
   Stopped : Stop → ℕ → List Piece → List Value → Scopes → Halt

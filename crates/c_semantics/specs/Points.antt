@@ -1,9 +1,10 @@
--- The points of a function's tree in order of evaluation: its stops, and the check-ins behind calls, behind the
--- begin and the end of a transaction and behind update points.
+-- The points of a function's tree in order of evaluation: its stops, and the check-ins after calls, after the
+-- begin and the end of a transaction and after update points.
 use Rattle.std.specs.Prelude.{ℕ, suc, List, [], ◌∷◌, ◌++◌, map, length, Option}
 use Rattle.std.specs.Option.{option_map_or}
 use Rattle.bytecode.specs.Skeleton.{PointKind, Point}
 use Rattle.bytecode.specs.Skeleton as kind
+use Rattle.bytecode.specs.CheckIns as check_in
 use Rattle.c_semantics.specs.Names.{struct_name}
 use Rattle.c_semantics.specs.Resolved.{Expression, Expressions, Place, Statement, Statements, Constant, Read, Unary, Binary, Convert, And, Or, Choice, Assign, Update, Postfix, Call, Print, New, Free, Create, Join, JoinInto, InitMutex, Lock, Unlock, NoExpressions, ExpressionThen, Local, Global, Element, Field, Block, Empty, Evaluate, Declare, If, IfElse, While, DoWhile, For, Break, Continue, Return, UpdatePoint, Transaction, NoStatements, StatementThen}
 
@@ -35,7 +36,7 @@ abbrev mutual
   of_expression (Assign p e) = of_parts p ++ of_expression e ++ writes p
   of_expression (Update type op p e) = of_parts p ++ reads p ++ of_expression e ++ writes p
   of_expression (Postfix type op p) = of_parts p ++ reads p ++ writes p
-  of_expression (Call name arguments) = of_expressions arguments ++ kind.Call name ∷ kind.CheckIn ∷ []
+  of_expression (Call name arguments) = of_expressions arguments ++ kind.Call name ∷ kind.CheckIn check_in.Call ∷ []
   of_expression (Print format arguments) = of_expressions arguments ++ kind.Print ∷ []
   of_expression (New tag) = kind.New (struct_name tag) ∷ []
   of_expression (Free tag e) = of_expression e ++ kind.Free (struct_name tag) ∷ []
@@ -84,10 +85,10 @@ abbrev mutual
   of_statement d Break = []
   of_statement d Continue = []
   of_statement d (Return e) = evaluated d e ++ at_depth d kind.Return ∷ []
-  of_statement d UpdatePoint = at_depth d kind.Update ∷ at_depth d kind.CheckIn ∷ []
+  of_statement d UpdatePoint = at_depth d kind.Update ∷ at_depth d (kind.CheckIn check_in.Update) ∷ []
   of_statement d (Transaction ss) =
-      at_depth d kind.Begin ∷ at_depth (suc d) kind.CheckIn ∷ of_statements (suc d) ss
-      ++ at_depth (suc d) kind.End ∷ at_depth d kind.CheckIn ∷ []
+      at_depth d kind.Begin ∷ at_depth (suc d) (kind.CheckIn check_in.Begin) ∷ of_statements (suc d) ss
+      ++ at_depth (suc d) kind.End ∷ at_depth d (kind.CheckIn check_in.End) ∷ []
 
   pub of_statements : ℕ → Statements → List Point
   of_statements d NoStatements = []
@@ -95,7 +96,7 @@ abbrev mutual
 
 -- the points of a function: its entry check-in, those of its body and the closing return
 abbrev pub of_body : Statements → List Point
-of_body body = at_depth 0 kind.CheckIn ∷ of_statements 0 body ++ at_depth 0 kind.Return ∷ []
+of_body body = at_depth 0 (kind.CheckIn check_in.Entry) ∷ of_statements 0 body ++ at_depth 0 kind.Return ∷ []
 
 -- how many points a part of a tree has
 abbrev pub size : Expression → ℕ

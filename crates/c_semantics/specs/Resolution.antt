@@ -165,12 +165,12 @@ abbrev mutual
 abbrev pub tree_of : Definitions → List BareBinding → BareExpr → Expression
 tree_of look locals e = (resolved look locals e).tree
 
--- what is declared behind a statement of a block, the last first
+-- what is declared after a statement of a block, the last first
 abbrev pub declared_by : BareStmt → List BareBinding → List BareBinding
 declared_by (bare_s.Declare d) locals = record { declared = d.declared; name = d.name } ∷ locals
 declared_by _ locals = locals
 
--- and behind several
+-- and after several
 abbrev pub declared_by_all : BareStmts → List BareBinding → List BareBinding
 declared_by_all bare_s.NoStmts locals = locals
 declared_by_all (bare_s.StmtThen s ss) locals = declared_by_all ss (declared_by s locals)

@@ -1,21 +1,34 @@
 -- The skeleton of a function's tree: its points, and between which of them control may go without a point between.
 -- Each condition is taken both ways, also in `&&`, `||` and `?:`.
-use Rattle.std.specs.Prelude.{ℕ, ◌+◌, Bool, true, false, List, [], ◌∷◌, ◌++◌, map, Option, Some, None, count_by, filter_map}
-use Rattle.bytecode.specs.Skeleton.{PointKind, CheckIn, Skeleton, direct_use}
+use Rattle.std.specs.Prelude.{ℕ, ◌+◌, ◌==◌, nat_lt, Bool, List, [], ◌∷◌, ◌++◌, Option, Some, None, count_by, filter_map, if◌then◌else◌}
+use Rattle.std.specs.Option.{is_some}
+use Rattle.bytecode.specs.Skeleton.{PointKind, Skeleton, direct_use, check_in_of, after}
 use Rattle.c_tree.specs.BareExpr.{Bytes}
 use Rattle.c_tree.specs.BareDef.{BareDef}
-use Rattle.c_semantics.specs.Names.{name_set}
+use Rattle.name_sets.specs.NameLists.{name_set}
 use Rattle.c_semantics.specs.Texts.{Definitions}
 use Rattle.c_semantics.specs.Resolved.{Expression, Expressions, Place, Statement, Statements, Constant, Read, Unary, Binary, Convert, And, Or, Choice, Assign, Update, Postfix, Call, Print, New, Free, Create, Join, JoinInto, InitMutex, Lock, Unlock, NoExpressions, ExpressionThen, Local, Global, Element, Field, Block, Empty, Evaluate, Declare, If, IfElse, While, DoWhile, For, Break, Continue, Return, UpdatePoint, Transaction, NoStatements, StatementThen}
 use Rattle.c_semantics.specs.Resolution.{resolved_body}
 use Rattle.c_semantics.specs.Points.{of_body, size, size_if, size_all, size_parts, size_read, size_stmt, size_stmts}
 
--- a part of a tree: the points to which control may go at its beginning, and its own pairs of points
+-- an ordered set of points with one more
+abbrev pub with_point : ℕ → List ℕ → List ℕ
+with_point n [] = n ∷ []
+with_point n (m ∷ ms) =
+    if n == m then m ∷ ms else (if nat_lt n m then n ∷ m ∷ ms else m ∷ with_point n ms)
+
+-- the union of two ordered sets of points
+abbrev pub union : List ℕ → List ℕ → List ℕ
+union [] ms = ms
+union (n ∷ ns) ms = with_point n (union ns ms)
+
+-- a part of a tree: the points to which control may go at its beginning, as an ordered set; and for each of its points
+-- in order those to which control may go from it
 pub record Flow : Type 0 where
   pub first : List ℕ
-  pub next : List (ℕ × ℕ)
+  pub next : List (List ℕ)
 
--- what a part of a tree is, by the points to which control may go behind it
+-- what a part of a tree is, by the points to which control may go after it
 abbrev pub Part : Type 0
 Part = List ℕ → Flow
 
@@ -25,11 +38,11 @@ pass to = record { first = to; next = [] }
 
 -- the point n
 abbrev pub point : ℕ → Part
-point n to = record { first = n ∷ []; next = map (λ m. (n, m)) to }
+point n to = record { first = n ∷ []; next = to ∷ [] }
 
 -- the point n, from which control goes nowhere in the function
 abbrev pub last_point : ℕ → Part
-last_point n to = record { first = n ∷ []; next = [] }
+last_point n to = record { first = n ∷ []; next = [] ∷ [] }
 
 -- one part and then the other
 infixr 20 ◌then_part◌
@@ -44,7 +57,7 @@ abbrev pub either : Part → Part → Part
 either a b to =
     let x = a to in
     let y = b to in
-    record { first = x.first ++ y.first; next = x.next ++ y.next }
+    record { first = union x.first y.first; next = x.next ++ y.next }
 
 -- the read of a place, and its write, at the number n
 abbrev pub access : Place → ℕ → Part
@@ -74,7 +87,7 @@ abbrev mutual
   expression (Postfix type op p) n =
       let r = n + size_parts p in parts p n then_part access p r then_part access p (r + size_read p)
   expression (Call name arguments) n =
-      let m = n + size_all arguments in expressions arguments n then_part point m then_part point (m + 1)
+      let m = n + size_all arguments in expressions arguments n then_part point m then_part point (after m)
   expression (Print format arguments) n = expressions arguments n then_part point (n + size_all arguments)
   expression (New tag) n = point n
   expression (Free tag e) n = expression e n then_part point (n + size e)
@@ -126,31 +139,28 @@ goes to = record { first = to; next = [] }
 
 -- two ways
 abbrev pub both : Flow → Flow → Flow
-both x y = record { first = x.first ++ y.first; next = x.next ++ y.next }
-
--- a flow whose back edge is the point b: from b control goes to its beginning
-abbrev pub around : ℕ → Flow → Flow
-around b f = record { first = f.first; next = f.next ++ map (λ m. (b, m)) f.first }
+both x y = record { first = union x.first y.first; next = x.next ++ y.next }
 
 -- a test before a flow where there is one: where it fails, control goes on
 abbrev pub guarded : Option Expression → ℕ → Flow → List ℕ → Flow
 guarded None n inside on = inside
 guarded (Some c) n inside on = before (expression c n) (both inside (goes on))
 
--- a loop: its test, its body, its step and its back edge b; `body` is what its body is, by where control goes from it
+-- a loop: its test, its body, its step and its back edge b, from which control goes to the loop's beginning; `body` is
+-- what its body is, by where control goes from it
 abbrev pub loop : Option Expression → ℕ → (Targets → Flow) → Part → ℕ → Targets → Flow
 loop test n body step b k =
     let behind = step (b ∷ []) in
     let inside = body (record { on = behind.first; broken = k.on; continued = behind.first }) in
     let whole = guarded test n inside k.on in
-    around b (record { first = whole.first; next = whole.next ++ behind.next })
+    record { first = whole.first; next = whole.next ++ behind.next ++ whole.first ∷ [] }
 
 -- a `do` loop: its body, its condition and its back edge
 abbrev pub do_loop : (Targets → Flow) → Part → ℕ → Targets → Flow
 do_loop body test b k =
-    let behind = test (b ∷ k.on) in
+    let behind = test (union (b ∷ []) k.on) in
     let inside = body (record { on = behind.first; broken = k.on; continued = behind.first }) in
-    around b (record { first = inside.first; next = inside.next ++ behind.next })
+    record { first = inside.first; next = inside.next ++ behind.next ++ inside.first ∷ [] }
 
 -- a statement whose first point is n, and statements in order
 abbrev mutual
@@ -177,12 +187,12 @@ abbrev mutual
   statement Break n k = goes k.broken
   statement Continue n k = goes k.continued
   statement (Return e) n k = (expression e n then_part last_point (n + size e)) []
-  statement UpdatePoint n k = (point n then_part point (n + 1)) k.on
+  statement UpdatePoint n k = (point n then_part point (after n)) k.on
   statement (Transaction ss) n k =
       let e = n + 2 + size_stmts ss in
-      let end = (point e then_part point (e + 1)) k.on in
+      let end = (point e then_part point (after e)) k.on in
       let inside = statements ss (n + 2) (on_to end.first k) in
-      before (point n then_part point (n + 1)) (record { first = inside.first; next = inside.next ++ end.next })
+      before (point n then_part point (after n)) (record { first = inside.first; next = inside.next ++ end.next })
 
   pub statements : Statements → ℕ → Targets → Flow
   statements NoStatements n k = goes k.on
@@ -191,12 +201,12 @@ abbrev mutual
       let f = statement s n (on_to behind.first k) in
       record { first = f.first; next = f.next ++ behind.next }
 
--- the skeleton of a function's body
+-- the skeleton of a function's body: its entry, the body, the closing return
 abbrev pub skeleton : Statements → Skeleton
 skeleton body =
     let last = 1 + size_stmts body in
     let inside = statements body 1 (record { on = last ∷ []; broken = []; continued = [] }) in
-    record { points = of_body body; next = (before (point 0) inside).next }
+    record { points = of_body body; next = inside.first ∷ inside.next ++ [] ∷ [] }
 
 -- the skeleton of a function under the definitions of its text
 abbrev pub skeleton_of : Definitions → Option BareDef → Skeleton
@@ -204,8 +214,7 @@ skeleton_of look definition = skeleton (resolved_body look definition)
 
 -- whether a point is a check-in
 abbrev pub is_check_in_kind : PointKind → Bool
-is_check_in_kind CheckIn = true
-is_check_in_kind _ = false
+is_check_in_kind kind = is_some (check_in_of kind)
 
 -- how many check-ins a skeleton has
 abbrev pub check_ins : Skeleton → ℕ

@@ -8,7 +8,7 @@ use Rattle.c_semantics.specs.Resolution.{resolved_body}
 use Rattle.c_semantics.specs.Points.{size_stmts}
 use Rattle.c_semantics.specs.Values.{Value, zero_of}
 use Rattle.c_semantics.specs.Stops as stop
-use Rattle.c_semantics.specs.Pieces.{Piece, Variable, Scopes, Halt, Sequence, Put, At}
+use Rattle.c_semantics.specs.Pieces.{Piece, Variable, Scopes, Halt, Sequence, Push, At}
 use Rattle.c_semantics.specs.Evaluation.{local}
 
 -- a use of a name: the number of the name's entry that was current at the use
@@ -45,7 +45,7 @@ pub record Thread : Type 0 where
   pub depth : ℕ
   pub uses : Record
 
--- a thread that starts: it stands before an enter, and in no transaction
+-- a thread that starts: it comes before an enter, and in no transaction
 abbrev pub started : ℕ → Enter → Thread
 started serial enter =
     record { serial = serial; frames = []; entering = Some enter; depth = 0; uses = [] }
@@ -58,7 +58,7 @@ bind (p ∷ ps) (v ∷ vs) = record { name = p.name; value = v } ∷ bind ps vs
 
 -- what a function has to evaluate: its body, and the closing return, which gives zero
 abbrev pub body_pieces : Statements → BareType → List Piece
-body_pieces body result = Sequence body 1 ∷ Put (zero_of result) ∷ At stop.Return (1 + size_stmts body) ∷ []
+body_pieces body result = Sequence body 1 ∷ Push (zero_of result) ∷ At stop.Return (1 + size_stmts body) ∷ []
 
 -- the frame of a function that is entered
 abbrev pub entered : Definitions → Bytes → ℕ → List Value → Frame

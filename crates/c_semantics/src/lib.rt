@@ -8,7 +8,13 @@
 //! Read the files of `specs/` in this order: `Names` (the names of structs), `Texts` (definitions by name), `Resolved` and
 //! `Resolution` (trees with names resolved, and how they come from a text), `Values` (values, conversions, operators),
 //! `Points` and `Stops` (where a thread stops, and what it does there), `Pieces` and `Evaluation` (local evaluation),
-//! `Threads` (frames and entering a function), `Skeletons` (a body as its points and the ways between them); then, for
-//! two texts: `Same` and `Changes` (which names a newer text changes), `Constants` (first values) and `Transformers`
-//! (what becomes of old data).
+//! `Threads` (frames and entering a function), `Skeletons` (a body as its points and the ways between them), `Places`
+//! (the places of points in a text), `Leaving` (how transactions are left), `Standing` (where a thread stands, as a point)
+//! and `SkeletonLaws` (what ties evaluation to skeletons; the calls of `laws` carry it); then, for two texts: `Same` and
+//! `Changes` (which names a newer text changes), `Constants` (first values) and `Transformers` (what becomes of old data).
+//! In `proofs/` skeletons and places of small trees are computed.
 #![tactic(auto)]
+
+mod laws;
+
+pub use laws::{each_point_has_ways_and_a_place, frames_go_along_skeletons};

@@ -65,7 +65,7 @@ innermost : look_up (scopes_of (made_of words entries)
     (codes "x") ≡ Some (value.Number (I32 (pos 3)))
 innermost = refl
 
--- the statement stops at the print, with the value and with what is pending behind it
+-- the statement stops at the print, with the value and with what is pending after it
 printed : local (pending (made_of words entries) (Do (record { 0 = 9 }) 0 ∷ []))
     [] (scopes_of (made_of words entries) (Block ∷ Variable x (Number (I32 (pos 0))) ∷ Variable y (Number (I32 (pos 5))) ∷ []))
     ≡ Stopped (stop.Print (codes "%d") 1) 0 (Drop ∷ []) (value.Number (I32 (pos 11)) ∷ [])

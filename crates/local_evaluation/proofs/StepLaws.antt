@@ -2,9 +2,9 @@
 use Rattle.std.proofs.Common.{◌≡◌, ℕ, ◌+◌, ◌<◌, List, [], ◌∷◌, ◌++◌, Option, Some, None, refl, arith}
 use Rattle.c_semantics.specs.Values.{Value}
 use Rattle.c_semantics.specs.Resolved.{Expression, Expressions, Place, Statement, Statements, Constant, Read, Unary, Binary, Convert, And, Or, Choice, Assign, Update, Postfix, Call, Print, New, Free, Create, Join, JoinInto, InitMutex, Lock, Unlock, NoExpressions, ExpressionThen, Local, Global, Element, Field, Block, Empty, Evaluate, Declare, If, IfElse, While, DoWhile, For, Break, Continue, Return, UpdatePoint, Transaction, NoStatements, StatementThen}
-use Rattle.c_semantics.specs.Pieces.{Loop, Piece, Scopes, Compute, Arguments, Parts, Do, Sequence, Cycle, Behind}
+use Rattle.c_semantics.specs.Pieces.{Loop, Piece, Scopes, Compute, Arguments, Parts, Do, Sequence, LoopTest, AfterBody}
 use Rattle.c_semantics.specs.Evaluation.{local}
-use Rattle.local_evaluation.specs.Steps.{expression_pieces, arguments_pieces, place_pieces, statement_pieces, statement_scopes, statements_pieces, cycle_pieces, behind_pieces}
+use Rattle.local_evaluation.specs.Steps.{expression_pieces, arguments_pieces, place_pieces, statement_pieces, statement_scopes, statements_pieces, loop_test_pieces, after_body_pieces}
 use Rattle.local_evaluation.specs.Weights.{of_expression, of_expressions, of_parts, of_option, of_statement, of_statements, weight}
 
 pub expression_law : (e : Expression) (n : ℕ) (rest : List Piece) → local (Compute e n ∷ rest) ≡ local (expression_pieces e n rest)
@@ -46,21 +46,21 @@ statements_law (StatementThen s ss) n rest = refl
 
 loop_turns : (test step : Option Expression) (body : Statement) (n : ℕ) (rest : List Piece)
     → let l : Loop = record { test = test; step = step; body = body; first = n } in
-    local (Cycle l ∷ rest) ≡ local (cycle_pieces l test rest)
+    local (LoopTest l ∷ rest) ≡ local (loop_test_pieces l test rest)
 loop_turns None step body n rest = refl
 loop_turns (Some c) step body n rest = refl
 
 loop_steps : (test step : Option Expression) (body : Statement) (n : ℕ) (rest : List Piece)
     → let l : Loop = record { test = test; step = step; body = body; first = n } in
-    local (Behind l ∷ rest) ≡ local (behind_pieces l step rest)
+    local (AfterBody l ∷ rest) ≡ local (after_body_pieces l step rest)
 loop_steps test None body n rest = refl
 loop_steps test (Some e) body n rest = refl
 
-pub cycle_law : (l : Loop) (rest : List Piece) → local (Cycle l ∷ rest) ≡ local (cycle_pieces l l.test rest)
-cycle_law l rest = loop_turns l.test l.step l.body l.first rest
+pub loop_test_law : (l : Loop) (rest : List Piece) → local (LoopTest l ∷ rest) ≡ local (loop_test_pieces l l.test rest)
+loop_test_law l rest = loop_turns l.test l.step l.body l.first rest
 
-pub behind_law : (l : Loop) (rest : List Piece) → local (Behind l ∷ rest) ≡ local (behind_pieces l l.step rest)
-behind_law l rest = loop_steps l.test l.step l.body l.first rest
+pub after_body_law : (l : Loop) (rest : List Piece) → local (AfterBody l ∷ rest) ≡ local (after_body_pieces l l.step rest)
+after_body_law l rest = loop_steps l.test l.step l.body l.first rest
 
 -- a statement that doesn't jump
 abbrev pub Jumps : Statement → Type 0
@@ -125,15 +125,15 @@ pub statements_fall : (ss : Statements) (n : ℕ) (rest : List Piece) → weight
 statements_fall NoStatements n rest = omega arith
 statements_fall (StatementThen s ss) n rest = omega arith
 
-pub cycle_falls : (l : Loop) (test : Option Expression) (rest : List Piece)
-    → weight (cycle_pieces l test rest) < of_option test + of_statement l.body + of_option l.step + 4 + weight rest
-cycle_falls l None rest = omega arith
-cycle_falls l (Some c) rest = omega arith
+pub loop_test_falls : (l : Loop) (test : Option Expression) (rest : List Piece)
+    → weight (loop_test_pieces l test rest) < of_option test + of_statement l.body + of_option l.step + 4 + weight rest
+loop_test_falls l None rest = omega arith
+loop_test_falls l (Some c) rest = omega arith
 
-pub behind_falls : (l : Loop) (step : Option Expression) (rest : List Piece)
-    → weight (behind_pieces l step rest) < of_option step + 2 + weight rest
-behind_falls l None rest = omega arith
-behind_falls l (Some e) rest = omega arith
+pub after_body_falls : (l : Loop) (step : Option Expression) (rest : List Piece)
+    → weight (after_body_pieces l step rest) < of_option step + 2 + weight rest
+after_body_falls l None rest = omega arith
+after_body_falls l (Some e) rest = omega arith
 
 pub statement_falls : (s : Statement) (n : ℕ) (rest : List Piece) → weight (statement_pieces s n rest) < of_statement s + weight rest
 statement_falls (Block ss) n rest = omega arith

@@ -15,7 +15,7 @@ use Rattle.resolved_tree.specs.Nodes.{Table, word}
 use Rattle.local_evaluation.specs.Values.{seen}
 use Rattle.local_evaluation.specs.Work.{entered, scopes_on, scopes_of}
 
--- the scopes behind the innermost one, and whether there is one
+-- the scopes after the innermost one, and whether there is one
 abbrev pub behind : Scopes → Scopes
 behind [] = []
 behind (vs ∷ scopes) = scopes
@@ -120,7 +120,7 @@ pub look_up_leaves : (t : Table) (ls : List Local) (left : ℕ) (d : Local) (nam
 look_up_leaves t ls left d name some within is =
     sym (ap (λ s. look_up s name) (last_of t ls left d Block some within is))
 
--- what a store comes to with the first locals, and the others behind it
+-- what a store comes to with the first locals, and the others after it
 abbrev pub stored_before : Table → List Local → ℕ → Bytes → Value → Scopes
 stored_before t ls left name value = scopes_on t (drop left ls) (stored name value (scopes_of t (take left ls)))
 
@@ -164,9 +164,9 @@ store_found t ls left d w v new name some within is same =
 
 -- ---- the end of a scope
 
-pub behind_declared : (name : Bytes) (v : Value) (scopes : Scopes) → behind (declared name v scopes) ≡ behind scopes
-behind_declared name v [] = refl
-behind_declared name v (vs ∷ scopes) = refl
+pub after_declared : (name : Bytes) (v : Value) (scopes : Scopes) → behind (declared name v scopes) ≡ behind scopes
+after_declared name v [] = refl
+after_declared name v (vs ∷ scopes) = refl
 
 pub declared_opens : (b : Bool) (name : Bytes) (v : Value) (scopes : Scopes) → is_open b (declared name v scopes) ≡ true
 declared_opens b name v [] = refl

@@ -9,7 +9,7 @@ use Rattle.local_evaluation.specs.declared.piece.Stop.{Stop as StopNode}
 use Rattle.local_evaluation.specs.declared.piece.Stop.TheVariants.{ReadGlobal, WriteGlobal, ReadElement, WriteElement, ReadField, WriteField, New, Free, Print, InitMutex, Lock, Unlock, Spawn, Join, Call, Return, Back, Begin, End, Update}
 use Rattle.local_evaluation.specs.declared.piece.Loop.{Loop as LoopNode}
 use Rattle.local_evaluation.specs.declared.piece.Piece.{Piece as PieceNode}
-use Rattle.local_evaluation.specs.declared.piece.Piece.TheVariants.{Compute, Arguments, Parts, Get, Set, Again, Tuck, Lift, Apply, Combine, ConvertTo, Drop, Put, Truth, Created, AndThen, OrElse, Choose, Then, ThenElse, Turn, Repeat, Do, DoBlock, DoWhile, Sequence, Close, Cycle, Behind, Edge, Until, At}
+use Rattle.local_evaluation.specs.declared.piece.Piece.TheVariants.{Compute, Arguments, Parts, Get, Set, Dup, Tuck, Swap, Apply, Combine, ConvertTo, Drop, Push, Truth, Created, AndThen, OrElse, Choose, Then, ThenElse, Turn, Repeat, Do, DoBlock, DoWhile, Sequence, Close, LoopTest, AfterBody, BackEdge, Until, At}
 use Rattle.resolved_tree.specs.Nodes.{Table, word, expression_at, expression_if, arguments_at, statement_at, statements_at, type_of, place_of}
 use Rattle.local_evaluation.specs.Values.{seen}
 
@@ -52,14 +52,14 @@ piece_of t (Arguments es n) = piece.Arguments (arguments_at t es) n
 piece_of t (Parts p n) = piece.Parts (place_of t p) n
 piece_of t (Get p n) = piece.Get (place_of t p) n
 piece_of t (Set p n) = piece.Set (place_of t p) n
-piece_of t (Again p) = piece.Again (place_of t p)
+piece_of t (Dup p) = piece.Dup (place_of t p)
 piece_of t (Tuck p) = piece.Tuck (place_of t p)
-piece_of t (Lift p) = piece.Lift (place_of t p)
+piece_of t (Swap p) = piece.Swap (place_of t p)
 piece_of t (Apply op) = piece.Apply op
 piece_of t (Combine op) = piece.Combine op
 piece_of t (ConvertTo type) = piece.ConvertTo (type_of t type)
 piece_of t Drop = piece.Drop
-piece_of t (Put v) = piece.Put (seen v)
+piece_of t (Push v) = piece.Push (seen v)
 piece_of t Truth = piece.Truth
 piece_of t Created = piece.Created
 piece_of t (AndThen b m) = piece.AndThen (expression_at t b) m
@@ -74,9 +74,9 @@ piece_of t (DoBlock ss n) = piece.Do (tree.Block (statements_at t ss)) n
 piece_of t (DoWhile s c n) = piece.Do (tree.DoWhile (statement_at t s) (expression_at t c)) n
 piece_of t (Sequence ss n) = piece.Sequence (statements_at t ss) n
 piece_of t Close = piece.Close
-piece_of t (Cycle l) = piece.Cycle (loop_of t l)
-piece_of t (Behind l) = piece.Behind (loop_of t l)
-piece_of t (Edge l) = piece.Edge (loop_of t l)
+piece_of t (LoopTest l) = piece.LoopTest (loop_of t l)
+piece_of t (AfterBody l) = piece.AfterBody (loop_of t l)
+piece_of t (BackEdge l) = piece.BackEdge (loop_of t l)
 piece_of t (Until s c n) = piece.Until (statement_at t s) (expression_at t c) n
 piece_of t (At s n) = piece.At (stop_of t s) n
 

@@ -1,7 +1,7 @@
 -- A weight of what is pending, by which local evaluation ends: a piece weighs more than those of which it is made.
 use Rattle.std.specs.Prelude.{ℕ, ◌+◌, List, [], ◌∷◌, Option, Some, None}
 use Rattle.c_semantics.specs.Resolved.{Expression, Expressions, Place, Statement, Statements, Constant, Read, Unary, Binary, Convert, And, Or, Choice, Assign, Update, Postfix, Call, Print, New, Free, Create, Join, JoinInto, InitMutex, Lock, Unlock, NoExpressions, ExpressionThen, Local, Global, Element, Field, Block, Empty, Evaluate, Declare, If, IfElse, While, DoWhile, For, Break, Continue, Return, UpdatePoint, Transaction, NoStatements, StatementThen}
-use Rattle.c_semantics.specs.Pieces.{Piece, Compute, Arguments, Parts, AndThen, OrElse, Choose, Then, ThenElse, Turn, Do, Sequence, Cycle, Behind, Until}
+use Rattle.c_semantics.specs.Pieces.{Piece, Compute, Arguments, Parts, AndThen, OrElse, Choose, Then, ThenElse, Turn, Do, Sequence, LoopTest, AfterBody, Until}
 
 abbrev mutual
   pub of_expression : Expression → ℕ
@@ -75,8 +75,8 @@ of_piece (ThenElse a b m) = of_statement a + of_statement b + 1
 of_piece (Turn l) = of_statement l.body + of_option l.step + 3
 of_piece (Do s n) = of_statement s
 of_piece (Sequence ss n) = of_statements ss
-of_piece (Cycle l) = of_option l.test + of_statement l.body + of_option l.step + 4
-of_piece (Behind l) = of_option l.step + 2
+of_piece (LoopTest l) = of_option l.test + of_statement l.body + of_option l.step + 4
+of_piece (AfterBody l) = of_option l.step + 2
 of_piece (Until s c n) = of_expression c + 2
 of_piece _ = 1
 

@@ -35,7 +35,7 @@ scopes_on t (l ∷ ls) scopes = scopes_on t ls (entered t l scopes)
 abbrev pub scopes_of : Table → List Local → Scopes
 scopes_of t ls = scopes_on t ls []
 
--- how it goes on behind a piece, with the rest of the pieces: on, or it ends
+-- how it goes on after a piece, with the rest of the pieces: on, or it ends
 abbrev pub went : Table → Option Halt → List Piece → Next
 went t None rest values scopes = local rest values scopes
 went t (Some (At s n)) rest values scopes = Stopped (stop_of t s) n rest values scopes

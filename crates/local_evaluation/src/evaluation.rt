@@ -11,8 +11,8 @@ use crate::work::{Halt, Work};
 use resolved_tree::Trees;
 use std::alloc::AllocError;
 
-/// Evaluates what is pending up to the next stop. At a stop, what stands behind it is pending, and the newest values are
-/// what it takes. After want of memory the work is cut off in its midst and can't be taken up again.
+/// Evaluates what is pending up to the next stop. At a stop, what comes after it is pending, and the newest values are
+/// what it takes. After lack of memory the work is cut off in the middle and can't be taken up again.
 pub fn evaluate(trees: &Trees, work: &mut Work) -> Result<Halt, AllocError>
     ensures { let t = table trees.now in IfOk result (λ halt. local (pending t work.old.pieces.items) (newest work.old.values.items) (scopes_of t work.old.scopes.items)
         ≡ went t (Some halt) (pending t work.new.pieces.items) (newest work.new.values.items) (scopes_of t work.new.scopes.items)) }

@@ -32,7 +32,7 @@ pub(crate) fn leave(
                     return Ok(Some(Halt::Nothing));
                 }
             }
-            Piece::Behind(_) | Piece::Until(_, _, _) => {
+            Piece::AfterBody(_) | Piece::Until(_, _, _) => {
                 if let Jump::Continue = jump {
                     put(pieces, &[piece])?;
                 }

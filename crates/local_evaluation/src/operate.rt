@@ -2,7 +2,7 @@
 ghost use Rattle.std.specs.Prelude.{◌≡◌, List, IfOk, OnOk, map, ◌++◌, ◌+◌, ◌≤◌};
 ghost use Rattle.c_semantics.specs.Pieces.{Piece as SeenPiece, Scopes};
 ghost use Rattle.c_semantics.specs.Values.{converted_to};
-ghost use Rattle.c_semantics.specs.Evaluation.{local, apply, combine, change, as_truth, creation, drop, give, settle, copy, tuck_under, swap, again, tuck, lift, get, set, choose};
+ghost use Rattle.c_semantics.specs.Evaluation.{local, apply, combine, change, as_truth, creation, drop, give, settle, copy, tuck_under, swap, dup, tuck, swap_part, get, set, choose};
 ghost use Rattle.resolved_tree.specs.Nodes.{Table, type_of, place_of};
 ghost use Rattle.local_evaluation.specs.Pieces.{piece_of, pending};
 ghost use Rattle.resolved_tree.specs.Trees.{table};
@@ -127,9 +127,9 @@ pub(crate) fn discard(values: &mut Vec<Value>) -> Option<Halt>
 }
 
 /// A copy of a place's part, where it has one.
-pub(crate) fn again(values: &mut Vec<Value>, place: Place) -> Result<Option<Halt>, AllocError>
+pub(crate) fn dup(values: &mut Vec<Value>, place: Place) -> Result<Option<Halt>, AllocError>
     ensures { IfOk result (λ end. (t : Table) (rest : List SeenPiece) (scopes : Scopes)
-        → again (place_of t place) (local rest) (newest values.old.items) scopes
+        → dup (place_of t place) (local rest) (newest values.old.items) scopes
         ≡ went t end rest (newest values.new.items) scopes) }
 {
     match place {
@@ -164,7 +164,7 @@ pub(crate) fn tuck(values: &mut Vec<Value>, place: Place) -> Result<Option<Halt>
     }
 }
 
-/// A copy of the newest value under the one behind it.
+/// A copy of the newest value under the one after it.
 fn tuck_under(values: &mut Vec<Value>) -> Result<Option<Halt>, AllocError>
     ensures { IfOk result (λ end. (t : Table) (rest : List SeenPiece) (scopes : Scopes)
         → tuck_under (local rest) (newest values.old.items) scopes
@@ -183,9 +183,9 @@ fn tuck_under(values: &mut Vec<Value>) -> Result<Option<Halt>, AllocError>
 }
 
 /// The value under the place's part comes up.
-pub(crate) fn lift(values: &mut Vec<Value>, place: Place) -> Result<Option<Halt>, AllocError>
+pub(crate) fn swap_part(values: &mut Vec<Value>, place: Place) -> Result<Option<Halt>, AllocError>
     ensures { IfOk result (λ end. (t : Table) (rest : List SeenPiece) (scopes : Scopes)
-        → lift (place_of t place) (local rest) (newest values.old.items) scopes
+        → swap_part (place_of t place) (local rest) (newest values.old.items) scopes
         ≡ went t end rest (newest values.new.items) scopes) }
 {
     match place {

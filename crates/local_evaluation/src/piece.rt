@@ -39,7 +39,7 @@ pub enum Stop {
     Update,
 }
 
-/// A `while` or `for` loop behind its first part, with the number of its first point.
+/// A `while` or `for` loop after its first part, with the number of its first point.
 #[derive(Clone, Copy)]
 pub struct Loop {
     pub test: Option<NodeId>,
@@ -62,25 +62,25 @@ pub enum Piece {
     /// The write of such a place; the value stays.
     Set(Place, u32),
     /// A copy of a place's part.
-    Again(Place),
+    Dup(Place),
     /// A copy of the newest value under the part of a place.
     Tuck(Place),
     /// The newest value under the part of a place comes up.
-    Lift(Place),
+    Swap(Place),
     Apply(UnOp),
     Combine(BinOp),
     ConvertTo(ValueType),
     /// The newest value is dropped.
     Drop,
     /// A value is put there.
-    Put(Value),
+    Push(Value),
     /// Whether the newest value is true, as an `int`.
     Truth,
     /// What `thrd_create` gives for the handle that it stored.
     Created,
-    /// The test behind the left side of `&&`, with the right side.
+    /// The test after the left side of `&&`, with the right side.
     AndThen(NodeId, u32),
-    /// The test behind the left side of `||`, with the right side.
+    /// The test after the left side of `||`, with the right side.
     OrElse(NodeId, u32),
     /// The test of `?:`.
     Choose(NodeId, NodeId, u32),
@@ -103,12 +103,12 @@ pub enum Piece {
     /// The end of a scope.
     Close,
     /// A loop from its test on.
-    Cycle(Loop),
-    /// What stands behind the body of a loop.
-    Behind(Loop),
+    LoopTest(Loop),
+    /// What comes after the body of a loop.
+    AfterBody(Loop),
     /// The back edge of a loop.
-    Edge(Loop),
-    /// What stands behind the body of `do` with this body and condition.
+    BackEdge(Loop),
+    /// What comes after the body of `do` with this body and condition.
     Until(NodeId, NodeId, u32),
     /// A stop at the point of that number.
     At(Stop, u32),
@@ -119,7 +119,7 @@ impl Loop {
     pub(crate) fn body_at(&self, trees: &Trees) -> Result<u32, AllocError>
         ensures { IfOk result (λ n. n ≡ body_at (loop_of (table trees.now) self.now)) }
     {
-        trees.behind_if(self.first, self.test)
+        trees.after_if(self.first, self.test)
     }
 
     /// The number of the step's first point.
@@ -127,7 +127,7 @@ impl Loop {
         ensures { IfOk result (λ n. n ≡ step_at (loop_of (table trees.now) self.now)) }
     {
         let body = self.body_at(trees)?;
-        trees.behind_statement(body, self.body)
+        trees.after_statement(body, self.body)
     }
 
     /// The number of the back edge.
@@ -135,6 +135,6 @@ impl Loop {
         ensures { IfOk result (λ n. n ≡ back_at (loop_of (table trees.now) self.now)) }
     {
         let step = self.step_at(trees)?;
-        trees.behind_if(step, self.step)
+        trees.after_if(step, self.step)
     }
 }

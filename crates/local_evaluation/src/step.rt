@@ -1,6 +1,6 @@
 //! One step of local evaluation.
 ghost use Rattle.std.specs.Prelude.{IfOk};
-ghost use Rattle.c_semantics.specs.Pieces.{Compute, Arguments, Parts, AndThen, OrElse, Choose, Then, ThenElse, Turn, Repeat, Do, Sequence, Close, Cycle, Behind, Edge, Until};
+ghost use Rattle.c_semantics.specs.Pieces.{Compute, Arguments, Parts, AndThen, OrElse, Choose, Then, ThenElse, Turn, Repeat, Do, Sequence, Close, LoopTest, AfterBody, BackEdge, Until};
 ghost use Rattle.resolved_tree.specs.Nodes.{Table, place_of, expression_at, arguments_at, statement_at, statements_at, statement_of};
 ghost use Rattle.local_evaluation.specs.Pieces.{piece_of, loop_of};
 ghost use Rattle.resolved_tree.specs.Trees.{table};
@@ -28,14 +28,14 @@ pub(crate) fn step(trees: &Trees, work: &mut Work, piece: Piece) -> Result<Optio
         Piece::Parts(place, n) => evaluate_parts(work, place, n),
         Piece::Get(place, n) => operate::get(trees, work, place, n),
         Piece::Set(place, n) => Ok(operate::set(trees, work, place, n)),
-        Piece::Again(place) => operate::again(&mut work.values, place),
+        Piece::Dup(place) => operate::dup(&mut work.values, place),
         Piece::Tuck(place) => operate::tuck(&mut work.values, place),
-        Piece::Lift(place) => operate::lift(&mut work.values, place),
+        Piece::Swap(place) => operate::swap_part(&mut work.values, place),
         Piece::Apply(op) => operate::apply(&mut work.values, op),
         Piece::Combine(op) => operate::combine(&mut work.values, op),
         Piece::ConvertTo(to) => operate::convert(&mut work.values, to),
         Piece::Drop => Ok(operate::discard(&mut work.values)),
-        Piece::Put(value) => operate::give(&mut work.values, value),
+        Piece::Push(value) => operate::give(&mut work.values, value),
         Piece::Truth => operate::truth(&mut work.values),
         Piece::Created => operate::created(&mut work.values),
         Piece::AndThen(b, n) => and_then(work, b, n),
@@ -50,9 +50,9 @@ pub(crate) fn step(trees: &Trees, work: &mut Work, piece: Piece) -> Result<Optio
         Piece::DoWhile(s, c, n) => statement(trees, work, StatementNode::DoWhile(s, c), n),
         Piece::Sequence(ss, n) => sequence(trees, work, ss, n),
         Piece::Close => Ok(close(work)),
-        Piece::Cycle(l) => cycle(trees, work, l),
-        Piece::Behind(l) => behind(trees, work, l),
-        Piece::Edge(l) => edge(trees, work, l),
+        Piece::LoopTest(l) => loop_test(trees, work, l),
+        Piece::AfterBody(l) => behind(trees, work, l),
+        Piece::BackEdge(l) => back_edge(trees, work, l),
         Piece::Until(s, c, n) => until(trees, work, s, c, n),
         Piece::At(stop, n) => Ok(Some(Halt::At(stop, n))),
     }
@@ -100,24 +100,24 @@ fn sequence(trees: &Trees, work: &mut Work, ss: NodeId, n: u32) -> Result<Option
 }
 
 /// So is a loop from its test on.
-fn cycle(trees: &Trees, work: &mut Work, l: Loop) -> Result<Option<Halt>, AllocError>
+fn loop_test(trees: &Trees, work: &mut Work, l: Loop) -> Result<Option<Halt>, AllocError>
     ensures { let t = table trees.now in
-        IfOk result (λ end. Follows t (Cycle (loop_of t l)) work.old end work.new) }
+        IfOk result (λ end. Follows t (LoopTest (loop_of t l)) work.old end work.new) }
 {
-    unfold::cycle(trees, &mut work.pieces, l)?;
+    unfold::loop_test(trees, &mut work.pieces, l)?;
     Ok(None)
 }
 
-/// So is what stands behind the body of a loop.
+/// So is what comes after the body of a loop.
 fn behind(trees: &Trees, work: &mut Work, l: Loop) -> Result<Option<Halt>, AllocError>
     ensures { let t = table trees.now in
-        IfOk result (λ end. Follows t (Behind (loop_of t l)) work.old end work.new) }
+        IfOk result (λ end. Follows t (AfterBody (loop_of t l)) work.old end work.new) }
 {
     unfold::behind(trees, &mut work.pieces, l)?;
     Ok(None)
 }
 
-/// So is what stands behind the body of `do`.
+/// So is what comes after the body of `do`.
 fn until(
     trees: &Trees,
     work: &mut Work,
@@ -164,32 +164,32 @@ fn close(work: &mut Work) -> Option<Halt>
     }
 }
 
-/// A stop at the back edge of a loop, behind which it goes on from its test.
-fn edge(trees: &Trees, work: &mut Work, l: Loop) -> Result<Option<Halt>, AllocError>
+/// A stop at the back edge of a loop, after which it goes on from its test.
+fn back_edge(trees: &Trees, work: &mut Work, l: Loop) -> Result<Option<Halt>, AllocError>
     ensures { let t = table trees.now in
-        IfOk result (λ end. Follows t (Edge (loop_of t l)) work.old end work.new) }
+        IfOk result (λ end. Follows t (BackEdge (loop_of t l)) work.old end work.new) }
 {
     let at = l.back_at(trees)?;
-    put(&mut work.pieces, &[Piece::Cycle(l)])?;
+    put(&mut work.pieces, &[Piece::LoopTest(l)])?;
     Ok(Some(Halt::At(Stop::Back, at)))
 }
 
-/// The test behind the left side of `&&`.
+/// The test after the left side of `&&`.
 fn and_then(work: &mut Work, b: NodeId, n: u32) -> Result<Option<Halt>, AllocError>
     ensures { (t : Table) →
         IfOk result (λ end. Follows t (AndThen (expression_at t b) n) work.old end work.new) }
 {
     let right = [Piece::Compute(b, n), Piece::Truth];
-    decide(work, &right, &[Piece::Put(Value::Number(Int::I32(0)))])
+    decide(work, &right, &[Piece::Push(Value::Number(Int::I32(0)))])
 }
 
-/// The test behind the left side of `||`.
+/// The test after the left side of `||`.
 fn or_else(work: &mut Work, b: NodeId, n: u32) -> Result<Option<Halt>, AllocError>
     ensures { (t : Table) →
         IfOk result (λ end. Follows t (OrElse (expression_at t b) n) work.old end work.new) }
 {
     let right = [Piece::Compute(b, n), Piece::Truth];
-    decide(work, &[Piece::Put(Value::Number(Int::I32(1)))], &right)
+    decide(work, &[Piece::Push(Value::Number(Int::I32(1)))], &right)
 }
 
 /// The test of `?:`.
@@ -226,7 +226,7 @@ fn then_else(
     ensures { let t = table trees.now in IfOk result (λ end.
         Follows t (ThenElse (statement_at t a) (statement_at t b) n) work.old end work.new) }
 {
-    let second = trees.behind_statement(n, a)?;
+    let second = trees.after_statement(n, a)?;
     decide(work, &[Piece::Do(a, n)], &[Piece::Do(b, second)])
 }
 
@@ -236,10 +236,10 @@ fn turn(trees: &Trees, work: &mut Work, l: Loop) -> Result<Option<Halt>, AllocEr
         IfOk result (λ end. Follows t (Turn (loop_of t l)) work.old end work.new) }
 {
     let body = l.body_at(trees)?;
-    decide(work, &[Piece::Do(l.body, body), Piece::Behind(l)], &[])
+    decide(work, &[Piece::Do(l.body, body), Piece::AfterBody(l)], &[])
 }
 
-/// The test of `do`: where it holds, a stop at the back edge, behind which the `do` begins again.
+/// The test of `do`: where it holds, a stop at the back edge, after which the `do` begins again.
 fn repeat(
     trees: &Trees,
     work: &mut Work,
@@ -256,7 +256,7 @@ fn repeat(
     if !value.is_true() {
         return Ok(None);
     }
-    let condition = trees.behind_statement(n, body)?;
+    let condition = trees.after_statement(n, body)?;
     let at = trees.behind(condition, c)?;
     put(&mut work.pieces, &[Piece::DoWhile(body, c, n)])?;
     Ok(Some(Halt::At(Stop::Back, at)))

@@ -5,7 +5,7 @@ ghost use Rattle.c_semantics.specs.Points.{size_stmt};
 ghost use Rattle.c_semantics.specs.Resolved as tree;
 ghost use Rattle.resolved_tree.specs.Nodes.{Table, word, type_of, expression_if, statements_at, expression_of, arguments_of, statement_of, statements_of, place_of, statement_at, expression_at};
 ghost use Rattle.local_evaluation.specs.Pieces.{pending, piece_of, loop_of};
-ghost use Rattle.local_evaluation.specs.Steps.{expression_pieces, arguments_pieces, place_pieces, statement_pieces, statements_pieces, cycle_pieces, behind_pieces};
+ghost use Rattle.local_evaluation.specs.Steps.{expression_pieces, arguments_pieces, place_pieces, statement_pieces, statements_pieces, loop_test_pieces, after_body_pieces};
 ghost use Rattle.resolved_tree.specs.Trees.{table};
 
 use crate::piece::{Loop, Piece, Stop};
@@ -29,9 +29,9 @@ pub(crate) fn expression(
         ≡ expression_pieces (expression_of t node) n (pending t pieces.old.items)) }
 {
     match node {
-        ExpressionNode::Constant(value) => one(pieces, Piece::Put(Value::Number(value))),
+        ExpressionNode::Constant(value) => one(pieces, Piece::Push(Value::Number(value))),
         ExpressionNode::Read(place) => {
-            let access = trees.behind_parts(n, place)?;
+            let access = trees.after_parts(n, place)?;
             two(pieces, Piece::Parts(place, n), Piece::Get(place, access))
         }
         ExpressionNode::Unary(op, a) => two(pieces, Piece::Compute(a, n), Piece::Apply(op)),
@@ -75,12 +75,12 @@ pub(crate) fn expression(
         ExpressionNode::JoinInto(e, place) => join_into(trees, pieces, (e, place), n),
         ExpressionNode::Call(name, arguments) => {
             let stop = Stop::Call(name, trees.count(arguments)?);
-            let at = trees.behind_arguments(n, arguments)?;
+            let at = trees.after_arguments(n, arguments)?;
             two(pieces, Piece::Arguments(arguments, n), Piece::At(stop, at))
         }
         ExpressionNode::Print(format, arguments) => {
             let stop = Stop::Print(format, trees.count(arguments)?);
-            let at = trees.behind_arguments(n, arguments)?;
+            let at = trees.after_arguments(n, arguments)?;
             two(pieces, Piece::Arguments(arguments, n), Piece::At(stop, at))
         }
         ExpressionNode::Free(tag, e) => {
@@ -120,7 +120,7 @@ fn assign(
     ensures { let t = table trees.now in OnOk result (pending t pieces.new.items
         ≡ expression_pieces (tree.Assign (place_of t place) (expression_at t e)) n (pending t pieces.old.items)) }
 {
-    let value = trees.behind_parts(n, place)?;
+    let value = trees.after_parts(n, place)?;
     let write = trees.behind(value, e)?;
     put(
         pieces,
@@ -144,14 +144,14 @@ fn update(
         (pending t pieces.old.items)) }
 {
     let (declared, op, place, e) = node;
-    let load = trees.behind_parts(n, place)?;
-    let right = trees.behind_read(load, place)?;
+    let load = trees.after_parts(n, place)?;
+    let right = trees.after_read(load, place)?;
     let write = trees.behind(right, e)?;
     put(
         pieces,
         &[
             Piece::Parts(place, n),
-            Piece::Again(place),
+            Piece::Dup(place),
             Piece::Get(place, load),
             Piece::Compute(e, right),
             Piece::Combine(op),
@@ -172,16 +172,16 @@ fn postfix(
         ≡ expression_pieces (tree.Postfix (type_of t node.0) node.1 (place_of t node.2)) n (pending t pieces.old.items)) }
 {
     let (declared, op, place) = node;
-    let read = trees.behind_parts(n, place)?;
-    let write = trees.behind_read(read, place)?;
+    let read = trees.after_parts(n, place)?;
+    let write = trees.after_read(read, place)?;
     put(
         pieces,
         &[
             Piece::Parts(place, n),
-            Piece::Again(place),
+            Piece::Dup(place),
             Piece::Get(place, read),
             Piece::Tuck(place),
-            Piece::Put(Value::Number(Int::I32(1))),
+            Piece::Push(Value::Number(Int::I32(1))),
             Piece::Combine(op),
             Piece::ConvertTo(declared),
             Piece::Set(place, write),
@@ -202,7 +202,7 @@ fn create(
         (pending t pieces.old.items)) }
 {
     let (place, function, e) = node;
-    let argument = trees.behind_parts(n, place)?;
+    let argument = trees.after_parts(n, place)?;
     let start = trees.behind(argument, e)?;
     let write = sum(start, 1)?;
     put(
@@ -229,7 +229,7 @@ fn join(trees: &Trees, pieces: &mut Vec<Piece>, e: NodeId, n: u32) -> Result<(),
             Piece::Compute(e, n),
             Piece::At(Stop::Join, at),
             Piece::Drop,
-            Piece::Put(Value::truth(false)),
+            Piece::Push(Value::truth(false)),
         ],
     )
 }
@@ -246,18 +246,18 @@ fn join_into(
 {
     let (e, place) = node;
     let parts = trees.behind(n, e)?;
-    let at = trees.behind_parts(parts, place)?;
+    let at = trees.after_parts(parts, place)?;
     let write = sum(at, 1)?;
     put(
         pieces,
         &[
             Piece::Compute(e, n),
             Piece::Parts(place, parts),
-            Piece::Lift(place),
+            Piece::Swap(place),
             Piece::At(Stop::Join, at),
             Piece::Set(place, write),
             Piece::Drop,
-            Piece::Put(Value::truth(false)),
+            Piece::Push(Value::truth(false)),
         ],
     )
 }
@@ -310,7 +310,7 @@ pub(crate) fn statements(
     match node {
         StatementsNode::None => Ok(()),
         StatementsNode::Then(first, rest) => {
-            let behind = trees.behind_statement(n, first)?;
+            let behind = trees.after_statement(n, first)?;
             put(
                 pieces,
                 &[Piece::Do(first, n), Piece::Sequence(rest, behind)],
@@ -320,37 +320,37 @@ pub(crate) fn statements(
 }
 
 /// A loop from its test on.
-pub(crate) fn cycle(trees: &Trees, pieces: &mut Vec<Piece>, l: Loop) -> Result<(), AllocError>
+pub(crate) fn loop_test(trees: &Trees, pieces: &mut Vec<Piece>, l: Loop) -> Result<(), AllocError>
     ensures { let t = table trees.now in OnOk result (pending t pieces.new.items
-        ≡ cycle_pieces (loop_of t l) (expression_if t l.test) (pending t pieces.old.items)) }
+        ≡ loop_test_pieces (loop_of t l) (expression_if t l.test) (pending t pieces.old.items)) }
 {
     match l.test {
         Some(c) => put(pieces, &[Piece::Compute(c, l.first), Piece::Turn(l)]),
         None => {
             let body = l.body_at(trees)?;
-            put(pieces, &[Piece::Do(l.body, body), Piece::Behind(l)])
+            put(pieces, &[Piece::Do(l.body, body), Piece::AfterBody(l)])
         }
     }
 }
 
-/// What stands behind a loop's body: its step, then the back edge.
+/// What comes after a loop's body: its step, then the back edge.
 pub(crate) fn behind(trees: &Trees, pieces: &mut Vec<Piece>, l: Loop) -> Result<(), AllocError>
     ensures { let t = table trees.now in OnOk result (pending t pieces.new.items
-        ≡ behind_pieces (loop_of t l) (expression_if t l.step) (pending t pieces.old.items)) }
+        ≡ after_body_pieces (loop_of t l) (expression_if t l.step) (pending t pieces.old.items)) }
 {
     match l.step {
-        None => put(pieces, &[Piece::Edge(l)]),
+        None => put(pieces, &[Piece::BackEdge(l)]),
         Some(e) => {
             let step = l.step_at(trees)?;
             put(
                 pieces,
-                &[Piece::Compute(e, step), Piece::Drop, Piece::Edge(l)],
+                &[Piece::Compute(e, step), Piece::Drop, Piece::BackEdge(l)],
             )
         }
     }
 }
 
-/// What stands behind the body of `do`: its condition.
+/// What comes after the body of `do`: its condition.
 pub(crate) fn until(
     trees: &Trees,
     pieces: &mut Vec<Piece>,
@@ -362,7 +362,7 @@ pub(crate) fn until(
         ≡ Compute (expression_at t c) (n + size_stmt (statement_at t body))
         ∷ Repeat (statement_at t body) (expression_at t c) n ∷ pending t pieces.old.items) }
 {
-    let condition = trees.behind_statement(n, body)?;
+    let condition = trees.after_statement(n, body)?;
     put(
         pieces,
         &[Piece::Compute(c, condition), Piece::Repeat(body, c, n)],
@@ -397,10 +397,10 @@ pub(crate) fn statement(
             let body = trees.behind(n, c)?;
             two(pieces, Piece::Compute(c, n), Piece::ThenElse(a, b, body))
         }
-        StatementNode::While(c, s) => one(pieces, Piece::Cycle(while_loop(c, s, n))),
+        StatementNode::While(c, s) => one(pieces, Piece::LoopTest(while_loop(c, s, n))),
         StatementNode::DoWhile(s, c) => two(pieces, Piece::Do(s, n), Piece::Until(s, c, n)),
         StatementNode::For(first, test, step, body) => {
-            let first_point = trees.behind_statements(n, first)?;
+            let first_point = trees.after_statements(n, first)?;
             let l = Loop {
                 test,
                 step,
@@ -409,7 +409,7 @@ pub(crate) fn statement(
             };
             put(
                 pieces,
-                &[Piece::Sequence(first, n), Piece::Cycle(l), Piece::Close],
+                &[Piece::Sequence(first, n), Piece::LoopTest(l), Piece::Close],
             )
         }
         StatementNode::Return(e) => {
@@ -439,7 +439,7 @@ fn transaction(trees: &Trees, pieces: &mut Vec<Piece>, ss: NodeId, n: u32) -> Re
         ≡ statement_pieces (tree.Transaction (statements_at t ss)) n (pending t pieces.old.items)) }
 {
     let body = sum(n, 2)?;
-    let end = trees.behind_statements(body, ss)?;
+    let end = trees.after_statements(body, ss)?;
     put(
         pieces,
         &[

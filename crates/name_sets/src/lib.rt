@@ -1,7 +1,8 @@
 //! Names and sets of names. A [`Names`] is a table of texts, in which each text has one [`NameId`],
 //! its place; contracts see the table as the list of its texts. A [`NameSet`] is a set of such ids in
 //! a fixed row of bits, which takes no memory; contracts see it by its members, and each call promises
-//! exactly what the operation on sets does.
+//! exactly what the operation on sets does. `specs/NameLists.antt` has sets of names as lists of their texts, for definitions
+//! above that have no table.
 //!
 //! - [`id`]: the numbers that stand for names
 //! - [`table`]: the table of texts

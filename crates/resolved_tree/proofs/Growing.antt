@@ -95,7 +95,7 @@ tree_of_node words es s id e l =
     ap (λ i. get_or (grown words [] es) i (expression zero_constant)) n
     ∙ grown_at words [] es id.0 e (expression zero_constant) (from_none words es s) l
 
--- behind the last node there is no tree
+-- after the last node there is no tree
 pub no_tree : (words : List Bytes) (es : List Entry) (id : NodeId) → length es ≤ id.0
     → tree_at (made_of words es) id ≡ expression zero_constant
 no_tree words es id l = past (grown words [] es) id.0 (omega (arith, grown_count words [] es))

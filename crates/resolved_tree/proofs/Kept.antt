@@ -147,7 +147,7 @@ word_kept t u w h g = let below_all = all_below (length t.words) (w.0 ∷ []) h.
 
 -- ---- what a call gives
 
--- what is told of what a call gives, told in other words
+-- what is reported of what a call gives, told in other words
 pub later_as : {A B E : Type 0} (at : Table → A → B) (now : Table) (r : Result A E) (F G : Table → B)
     → IfOk r (λ x. (u : Table) → Grows now u → at u x ≡ F u) → ((u : Table) → Grows now u → F u ≡ G u)
     → IfOk r (λ x. (u : Table) → Grows now u → at u x ≡ G u)
@@ -184,7 +184,7 @@ mapped_once f g xs more x ys i y e l is before here =
     ∙ ap (λ z. map g (take i ys) ++ z ∷ []) here
     ∙ sym (ap (map g) (take_more ys i y l ∙ ap (λ z. take i ys ++ z ∷ []) (sym is)) ∙ map-append g (take i ys) (y ∷ []))
 
--- what holds is told where a call succeeds
+-- what holds is reported where a call succeeds
 pub told_ok : {A E : Type 0} {P : Type 0} (r : Result A E) → P → OnOk r P
 told_ok (Ok x) p = p
 told_ok (Err x) p = tt

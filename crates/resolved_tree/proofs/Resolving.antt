@@ -117,7 +117,7 @@ declared_more xs i s locals inner l is e =
     ap (λ ys. declared_by_all (bare_block (map bare_stmt ys)) locals) (rest_at xs i s l is)
     ∙ ap (declared_by_all (bare_block (map bare_stmt (drop (i + 1) xs)))) (sym e)
 
--- behind the last one
+-- after the last one
 pub sequence_end : (look : Definitions) (type : BareType) (xs : List Stmt) (i : ℕ) (locals : List BareBinding) → length xs ≤ i
     → statements look type locals (bare_block (map bare_stmt (drop i xs))) ≡ NoStatements
 sequence_end look type xs i locals l = ap (λ ys. statements look type locals (bare_block (map bare_stmt ys))) (drop_all i xs l)

@@ -73,7 +73,7 @@ pub enum ExpressionNode {
 #[derive(Clone, Copy)]
 pub enum ArgumentsNode {
     None,
-    /// An argument, and those behind it.
+    /// An argument, and those after it.
     Then(NodeId, NodeId),
 }
 
@@ -104,7 +104,7 @@ pub enum StatementNode {
 #[derive(Clone, Copy)]
 pub enum StatementsNode {
     None,
-    /// A statement, and those behind it.
+    /// A statement, and those after it.
     Then(NodeId, NodeId),
 }
 

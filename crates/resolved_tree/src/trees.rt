@@ -40,7 +40,7 @@ impl Trees {
         }
     }
 
-    /// The word of a name or of a format, which is added if it isn't there. Want of memory changes nothing.
+    /// The word of a name or of a format, which is added if it isn't there. Lack of memory changes nothing.
     pub fn word(&mut self, text: &str) -> Result<Word, AllocError>
         ensures table { OnOk result (table self.new
             ≡ record (table self.old) { words = with_text (table self.old).words text.now }) }
@@ -87,7 +87,7 @@ impl Trees {
         NodeId(self.len())
     }
 
-    /// Adds a tree that is made of a node. Its parts are trees that are there, and its words have texts. Want of memory
+    /// Adds a tree that is made of a node. Its parts are trees that are there, and its words have texts. Lack of memory
     /// changes nothing; it's also told where the tree would have 2^32 points or more.
     pub fn push(&mut self, node: Node) -> Result<NodeId, AllocError>
         requires { IsTrue (is_within (length (table self.old).words)
@@ -218,7 +218,7 @@ impl Trees {
         }
     }
 
-    /// The number of the first point behind an expression whose first point has a number. Want of memory is told where it
+    /// The number of the first point after an expression whose first point has a number. Lack of memory is reported where it
     /// would be 2^32 or more, which no function reaches.
     pub fn behind(&self, n: u32, id: NodeId) -> Result<u32, AllocError>
         ensures { IfOk result (λ m. m ≡ n + size (expression_at (table self.now) id)) }
@@ -226,8 +226,8 @@ impl Trees {
         sum(n, self.expression_points(id))
     }
 
-    /// The same behind an expression that may be absent.
-    pub fn behind_if(&self, n: u32, id: Option<NodeId>) -> Result<u32, AllocError>
+    /// The same after an expression that may be absent.
+    pub fn after_if(&self, n: u32, id: Option<NodeId>) -> Result<u32, AllocError>
         ensures { IfOk result (λ m. m ≡ n + size_if (expression_if (table self.now) id)) }
     {
         match id {
@@ -236,42 +236,42 @@ impl Trees {
         }
     }
 
-    /// The same behind arguments.
-    pub fn behind_arguments(&self, n: u32, id: NodeId) -> Result<u32, AllocError>
+    /// The same after arguments.
+    pub fn after_arguments(&self, n: u32, id: NodeId) -> Result<u32, AllocError>
         ensures { IfOk result (λ m. m ≡ n + size_all (arguments_at (table self.now) id)) }
     {
         sum(n, self.arguments_points(id))
     }
 
-    /// The same behind a statement.
-    pub fn behind_statement(&self, n: u32, id: NodeId) -> Result<u32, AllocError>
+    /// The same after a statement.
+    pub fn after_statement(&self, n: u32, id: NodeId) -> Result<u32, AllocError>
         ensures { IfOk result (λ m. m ≡ n + size_stmt (statement_at (table self.now) id)) }
     {
         sum(n, self.statement_points(id))
     }
 
-    /// The same behind statements.
-    pub fn behind_statements(&self, n: u32, id: NodeId) -> Result<u32, AllocError>
+    /// The same after statements.
+    pub fn after_statements(&self, n: u32, id: NodeId) -> Result<u32, AllocError>
         ensures { IfOk result (λ m. m ≡ n + size_stmts (statements_at (table self.now) id)) }
     {
         sum(n, self.statements_points(id))
     }
 
-    /// The same behind the parts of a place.
-    pub fn behind_parts(&self, n: u32, place: Place) -> Result<u32, AllocError>
+    /// The same after the parts of a place.
+    pub fn after_parts(&self, n: u32, place: Place) -> Result<u32, AllocError>
         ensures { IfOk result (λ m. m ≡ n + size_parts (place_of (table self.now) place)) }
     {
         sum(n, self.parts_points(place))
     }
 
-    /// The same behind the read of a place.
-    pub fn behind_read(&self, n: u32, place: Place) -> Result<u32, AllocError>
+    /// The same after the read of a place.
+    pub fn after_read(&self, n: u32, place: Place) -> Result<u32, AllocError>
         ensures { IfOk result (λ m. m ≡ n + size_read (place_of (table self.now) place)) }
     {
         sum(n, accesses(place) as u32)
     }
 
-    /// How many arguments there are. Want of memory is told where there are 2^64 or more.
+    /// How many arguments there are. Lack of memory is reported where there are 2^64 or more.
     pub fn count(&self, arguments: NodeId) -> Result<usize, AllocError>
         ensures { IfOk result (λ n. n ≡ count (arguments_at (table self.now) arguments)) }
     {
@@ -398,14 +398,14 @@ impl Trees {
     }
 }
 
-/// The sum of two numbers of points, or want of memory where it's too large.
+/// The sum of two numbers of points, or lack of memory where it's too large.
 pub fn sum(a: u32, b: u32) -> Result<u32, AllocError>
     ensures { IfOk result (λ n. n ≡ a + b) }
 {
     a.checked_add(b).ok_or(AllocError)
 }
 
-/// One more, or want of memory where it's too large.
+/// One more, or lack of memory where it's too large.
 pub fn later(n: usize) -> Result<usize, AllocError>
     ensures { IfOk result (λ m. m ≡ n + 1) }
 {

@@ -41,7 +41,7 @@ impl Words {
         self.texts.len()
     }
 
-    /// The word of a text, which is added at the end if the table doesn't have it. Want of memory changes nothing.
+    /// The word of a text, which is added at the end if the table doesn't have it. Lack of memory changes nothing.
     pub fn add(&mut self, text: &str) -> Result<Word, AllocError>
         ensures texts { OnOk result (self.new ≡ with_text self.old text.now) }
         ensures word { IfOk result (λ word. slice_get self.new word.0 ≡ Some text.now) }

@@ -7,7 +7,7 @@ use Rattle.std.proofs.Math.Nat.{le-max_left, le-max_right, le_trans}
 use Rattle.std.proofs.lemmas.Bool.Decides.{nat_tests}
 use Rattle.c_tree.specs.BareExpr.{Bytes}
 use Rattle.c_tree.specs.BareDef.{BareDef}
-use Rattle.c_semantics.specs.Names.{name_set, is_among}
+use Rattle.name_sets.specs.NameLists.{name_set, is_among}
 use Rattle.c_semantics.specs.Texts.{definition, names}
 use Rattle.source_model.specs.Versions.{Entry, Versioned, Table, Disjoint, DisjointFrom, Apart, AllApart, belongs, greatest_of, latest, current, first_entry, first_table, Fate, Stays, New, Gone, fate, extended, followed, next_line, table_names, next_table}
 use Rattle.source_model.proofs.Greatest.{among_greatest, none_below_zero, less_by_one}
@@ -15,7 +15,7 @@ use Rattle.source_model.proofs.Greatest.{among_greatest, none_below_zero, less_b
 suc_below : (k n : ℕ) → k < n → suc k < suc n
 suc_below k n h = omega (arith, h)
 
--- what is in a list with an item behind it is in the list, or is the item
+-- what is in a list with an item after it is in the list, or is the item
 one_further : (x : ℕ) (xs : List ℕ) (y v : ℕ) → Contains xs v ⊎ (v ≡ y) → Contains (x ∷ xs) v ⊎ (v ≡ y)
 one_further x xs y v (inl (j, h, e)) = inl (suc j, suc_below j (length xs) h, e)
 one_further x xs y v (inr e) = inr e
@@ -49,7 +49,7 @@ in_versions n [] h = absurd (no h)
     no e = cc
 in_versions n (v ∷ vs) h = belongs_here n v vs (n == v) refl h (in_versions n vs)
 
--- what an entry belongs to behind the next version
+-- what an entry belongs to after the next version
 in_extended_by : (n v : ℕ) (e : Entry) (b : Bool) → belongs n e ≡ b
     → Contains (if b then record e { versions = e.versions ++ suc n ∷ [] } else e).versions v
     → Contains e.versions v ⊎ ((v ≡ suc n) × Contains e.versions n)
@@ -172,11 +172,11 @@ good_line : (n : ℕ) (o : Option Versioned) → ApartLine o → LatestAt n o �
 good_line n None a l = tt
 good_line n (Some v) a l = (a, all_below n v.entries l)
 
--- a line found in two tables one behind the other
-find_behind : (n : ℕ) (name : Bytes) (xs ys : Table) → GoodLine n (line_of xs name) → GoodLine n (line_of ys name)
+-- a line found in two tables one after the other
+find_after : (n : ℕ) (name : Bytes) (xs ys : Table) → GoodLine n (line_of xs name) → GoodLine n (line_of ys name)
     → GoodLine n (line_of (xs ++ ys) name)
-find_behind n name [] ys good other = other
-find_behind n name (x ∷ xs) ys good other = by (bytes_eq name x.name) good (find_behind n name xs ys)
+find_after n name [] ys good other = other
+find_after n name (x ∷ xs) ys good other = by (bytes_eq name x.name) good (find_after n name xs ys)
   where
     by : (b : Bool) → GoodLine n (cond b (Some x) (line_of xs name))
         → (GoodLine n (line_of xs name) → GoodLine n (line_of ys name) → GoodLine n (line_of (xs ++ ys) name))
@@ -209,7 +209,7 @@ next_apart n p q name (v ∷ vs) good = by (bytes_eq name v.name) good (next_apa
 pub next_table_apart : (p q : List BareDef) (table : Table) → AllApart table → AllApart (next_table (current table) p q table)
 next_table_apart p q table apart name =
     apart_line _ (next_apart (current table) p q name _
-    (find_behind (current table) name table _
+    (find_after (current table) name table _
     (good_line (current table) (line_of table name) (line_apart (line_of table name) (apart name)) (latest_line table name))
     (no_entries (current table) name (filter (λ z. not (is_among (table_names table) z)) (name_set (names q))))))
 

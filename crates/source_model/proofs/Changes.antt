@@ -4,6 +4,7 @@ use Rattle.std.specs.Prelude.{codes, map}
 use Rattle.c_ints.specs.declared.kind.Kind.{Kind}
 use Rattle.c_ints.specs.declared.kind.Kind.TheVariants.{I32, I64}
 use Rattle.c_ints.specs.Number.{number}
+use Rattle.bytecode.specs.CheckIns.{Entry}
 use Rattle.bytecode.specs.Skeleton.{Skeleton, CheckIn, Print, Back, Return}
 use Rattle.c_tree.specs.BareExpr.{Integer}
 use Rattle.c_tree.specs.BareDef.{BareDef}
@@ -12,8 +13,8 @@ use Rattle.c_semantics.specs.Values.{Value, Number, int_of}
 use Rattle.c_semantics.specs.Changes.{changed, interface, added}
 use Rattle.c_semantics.specs.Transformers.{transformed, transformed_global}
 use Rattle.c_semantics.specs.Skeletons.{skeleton_of, direct_uses, check_ins}
-use Rattle.source_model.specs.Texts.{Text}
-use Rattle.source_model.specs.Store.{Body, store}
+use Rattle.c_semantics.specs.SourceTexts.{Text}
+use Rattle.c_semantics.specs.Store.{Body, store}
 use Rattle.source_model.proofs.Texts.{text_with, counting, calling, calling_2, connection, connection_2, connection_3, other_kind_of}
 use Rattle.source_model.proofs.CornerTexts.{global_of, transforming, old_and, array_g, wider_struct, narrow_struct, array_of_two, array_of_three}
 
@@ -24,13 +25,13 @@ skeleton_in text name = skeleton_of (definition text) (definition text name)
 -- an endless `for`: nothing leads to the closing return
 endless : skeleton_in counting (codes "main") ≡ record {
   points =
-      record { kind = CheckIn; depth = 0 } ∷ record { kind = Print; depth = 0 } ∷ record { kind = Back; depth = 0 }
+      record { kind = CheckIn Entry; depth = 0 } ∷ record { kind = Print; depth = 0 } ∷ record { kind = Back; depth = 0 }
       ∷ record { kind = Return; depth = 0 } ∷ [];
-  next = (0, 1) ∷ (1, 2) ∷ (2, 1) ∷ [];
+  next = (1 ∷ []) ∷ (2 ∷ []) ∷ (1 ∷ []) ∷ [] ∷ [];
 }
 endless = refl
 
--- the check-ins of main: its entry, behind the begin, behind three calls, behind the end
+-- the check-ins of main: its entry, after the begin, after three calls, after the end
 six : check_ins (skeleton_in calling (codes "main")) ≡ 6
 six = refl
 

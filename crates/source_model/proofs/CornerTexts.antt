@@ -11,6 +11,7 @@ use Rattle.c_tree.specs.BareStmt.{BareStmt, BareStmts}
 use Rattle.c_tree.specs.BareStmt as s
 use Rattle.c_tree.specs.BareDef.{BareBinding, BareDef}
 use Rattle.c_tree.specs.BareDef as d
+use Rattle.source_model.proofs.Texts.{calling}
 
 -- statements in order
 abbrev pub in_order : List BareStmt → BareStmts
@@ -52,6 +53,11 @@ of_int name body =
 -- int f(void) { return n; }
 abbrev giving : Bytes → ℕ → BareDef
 giving name n = d.Function (Some (Integer I32)) name [] (in_order (returned (int n)))
+
+-- the definitions after the first two
+abbrev after_two : List BareDef → List BareDef
+after_two (a ∷ b ∷ more) = more
+after_two more = []
 
 -- thrd_create(&t, f, 0); and thrd_join(t, NULL);
 abbrev created : Bytes → Bytes → BareStmt
@@ -156,11 +162,18 @@ joining_itself =
 -- int g(void) { return 1; }
 -- int h(void) { return 2; }
 -- int main(void) { dsu_tx { g(); dsu_tx { h(); } g(); } dsu_tx { h(); } return 0; }
-abbrev pub nesting : List BareDef
-nesting =
-    giving (codes "g") 1 ∷ giving (codes "h") 2
+abbrev pub nesting_giving : ℕ → List BareDef
+nesting_giving n =
+    giving (codes "g") n ∷ giving (codes "h") 2
     ∷ main (s.Transaction (in_order (called (codes "g") ∷ s.Transaction (in_order (called (codes "h") ∷ []))
     ∷ called (codes "g") ∷ [])) ∷ s.Transaction (in_order (called (codes "h") ∷ [])) ∷ returned (int 0)) ∷ []
+
+abbrev pub nesting : List BareDef
+nesting = nesting_giving 1
+
+-- the same with another g
+abbrev pub nesting_2 : List BareDef
+nesting_2 = nesting_giving 3
 
 -- int a[2];
 -- int main(void) {
@@ -215,6 +228,27 @@ coming_back =
     ∷ s.Evaluate (e.Assign (e.Arrow (variable (codes "p")) (codes "v")) (int 7))
     ∷ s.Evaluate (e.Assign (variable (codes "g")) (int 6)) ∷ s.Update
     ∷ shown (e.Arrow (variable (codes "p")) (codes "v")) (variable (codes "g")) ∷ returned (int 0)) ∷ []
+
+-- int g(void) { return 1; }
+-- int main(void) { g(); g(); return 0; }
+abbrev pub stepping : List BareDef
+stepping = giving (codes "g") 1 ∷ main (called (codes "g") ∷ called (codes "g") ∷ returned (int 0)) ∷ []
+
+-- int g(void) { return 2; }
+-- int main(void) { g(); return 0; }
+abbrev pub stepping_2 : List BareDef
+stepping_2 = giving (codes "g") 2 ∷ main (called (codes "g") ∷ returned (int 0)) ∷ []
+
+-- int f(int x) { dsu_tx { dsu_update(); } return x; }
+-- int main(void) { thrd_t t; thrd_create(&t, f, 0); return 0; }
+abbrev pub leaving : List BareDef
+leaving =
+    of_int (codes "f") (s.Transaction (in_order (s.Update ∷ [])) ∷ returned (variable (codes "x")))
+    ∷ main (declare Thread (codes "t") ∷ created (codes "t") (codes "f") ∷ returned (int 0)) ∷ []
+
+-- `calling` with return 2; in g and return 3; in h
+abbrev pub calling_3 : List BareDef
+calling_3 = giving (codes "h") 3 ∷ giving (codes "g") 2 ∷ after_two calling
 
 -- a global g of a type, alone and with a transformer
 abbrev pub global_of : BareType → List BareDef

@@ -7,10 +7,11 @@ use Rattle.c_ints.specs.declared.operator.BinOp.TheVariants.{Div, Shl}
 use Rattle.c_tree.specs.BareDef.{BareDef}
 use Rattle.c_semantics.specs.Threads.{Use}
 use Rattle.c_semantics.specs.Changes.{changed, interface}
+use Rattle.source_model.specs.Spans.{Span, spans}
 use Rattle.source_model.specs.Runs.{SourceMove, Move, Install, State, Finished, Trapped, Stuck, source_run}
 use Rattle.source_model.proofs.Runs.{seen, alone, seen_at_the_end, with_objects}
 use Rattle.source_model.proofs.Texts.{connection, connection_2}
-use Rattle.source_model.proofs.CornerTexts.{operating, null_handle, freeing_twice, locking_twice, unlocking, initialising, handing_over, unlocking_anothers, joining_none, joining_twice, joining_itself, nesting, ordering, calling_deep, nothing_else, coming_back, array_of_two, array_of_two_unsigned, array_of_three}
+use Rattle.source_model.proofs.CornerTexts.{operating, null_handle, freeing_twice, locking_twice, unlocking, initialising, handing_over, unlocking_anothers, joining_none, joining_twice, joining_itself, nesting, nesting_2, ordering, calling_deep, nothing_else, coming_back, array_of_two, array_of_two_unsigned, array_of_three}
 
 -- a run that printed nothing and came to that state
 abbrev silent : List BareDef → List SourceMove → State → Type 0
@@ -70,6 +71,20 @@ nested : option_map (λ r. r.closed) (source_run (nesting ∷ []) (with_objects 
     ∷ record { slot = 0; uses = use_of (codes "h") ∷ [] } ∷ [])
 nested = refl
 
+-- where g is replaced between its two calls, the transaction used both: the record isn't consistent, and shares no version
+abbrev nested_spans : List SourceMove → Option (List Span)
+nested_spans moves = option_map (λ r. spans r.world) (source_run (nesting ∷ nesting_2 ∷ []) (with_objects 4096) moves)
+
+split : nested_spans (alone 5 ++ Install 1 ∷ alone 9) ≡ Some (record { slot = 0; first = 0; last = 0 } ∷ [])
+split = refl
+
+-- before its first call, or after its last one, it isn't split
+whole : nested_spans (alone 2 ++ Install 1 ∷ alone 12) ≡ Some (record { slot = 0; first = 2; last = 2 } ∷ [])
+whole = refl
+
+whole_too : nested_spans (alone 14 ++ Install 1 ∷ []) ≡ Some (record { slot = 0; first = 1; last = 1 } ∷ [])
+whole_too = refl
+
 -- a place before its value, the read of `x += ..` before its right side, arguments from left to right
 ordered : seen_at_the_end 30 ordering 4096 ≡ record { output = codes "0 2\n2 2\n"; state = Finished (pos 0) }
 unfolding digits
@@ -80,7 +95,7 @@ depth : seen_at_the_end 2000 calling_deep 4096 ≡ record { output = codes "ok\n
 depth = refl
 
 -- main of version 1 still uses a struct whose layout version 2 changed: the read of the global is right, the write of
--- the field behind it is a misuse, and nothing moves any more
+-- the field after it is a misuse, and nothing moves any more
 abbrev misused_by : List SourceMove → Option Bool
 misused_by moves = option_map (λ r. r.misused) (source_run (connection ∷ connection_2 ∷ []) (with_objects 4096) (alone 3 ++ Install 1 ∷ moves))
 

@@ -9,15 +9,17 @@ use Rattle.std.proofs.lemmas.Option.{same_Some}
 use Rattle.bytecode.specs.declared.run.Event.{Event}
 use Rattle.bytecode.specs.declared.run.Event.TheVariants.{Move, CheckIn, Offer, Decide, Withdraw}
 use Rattle.c_tree.specs.BareExpr.{Bytes}
+use Rattle.c_tree.specs.BareDef.{BareDef}
 use Rattle.con_freeness.specs.Verdicts.{Verdict, Admitted, Refused}
 use Rattle.source_model.specs.declared.patch.NotPatch.{NotPatch}
 use Rattle.source_model.specs.Worlds.{World}
 use Rattle.source_model.specs.Moves.{move}
 use Rattle.source_model.specs.Runs.{SourceMove, install, run}
 use Rattle.source_model.specs.Answers.{Answer, Installed, RefusedFor, NoPatch, Withdrawn, NotOffered}
-use Rattle.source_model.specs.Guards.{Guard, Setup, Rules, Answered, Seat, first_guard, has_ended, seat_of, moved, checked_in, offer_at, can_open, is_open, decide, decided, decided_by, answered, installed_over}
+use Rattle.source_model.specs.Guards.{Guard, Setup, Rules, Answered, Seat, first_guard, has_ended, bodies_of, seat_of, moved, checked_in, offer_at, can_open, is_open, decide, decided, decided_by, answered, installed_over}
 use Rattle.source_model.specs.Guards as guard
-use Rattle.source_model.specs.Journals.{happens, play, guard_behind, guard_if, answer_of, install_of, move_by, moves}
+use Rattle.source_model.specs.Patches.{last_definitions}
+use Rattle.source_model.specs.Journals.{happens, play, guard_after, guard_if, answer_of, install_of, move_by, moves}
 use Rattle.source_model.specs.JournalLaws.{texts_of, JournalIsARun}
 
 -- a guard that is there satisfies P
@@ -55,10 +57,10 @@ still setup e g after same answers none o = record {
   orderly = o;
 }
 
--- a search goes on behind what it doesn't find
-find_behind : (k : ℕ) (xs ys : List Answered) → Fresh k xs → find (λ a. a.offer == k) (xs ++ ys) ≡ find (λ a. a.offer == k) ys
-find_behind k [] ys fresh = refl
-find_behind k (x ∷ xs) ys fresh = by (x.offer == k) fresh (find_behind k xs ys)
+-- a search goes on after what it doesn't find
+find_after : (k : ℕ) (xs ys : List Answered) → Fresh k xs → find (λ a. a.offer == k) (xs ++ ys) ≡ find (λ a. a.offer == k) ys
+find_after k [] ys fresh = refl
+find_after k (x ∷ xs) ys fresh = by (x.offer == k) fresh (find_after k xs ys)
   where
     by : (b : Bool) → cond b (Some x) (find (λ a. a.offer == k) xs) ≡ None
         → (Fresh k xs → find (λ a. a.offer == k) (xs ++ ys) ≡ find (λ a. a.offer == k) ys)
@@ -80,14 +82,14 @@ found : (k : ℕ) (a : Answer) (xs more : List Answered) → Fresh k xs
     → answer_of ((xs ++ record { offer = k; answer = a } ∷ []) ++ more) k ≡ a
 found k a xs more fresh =
     ap (λ l. answer_of l k) (append_assoc xs (record { offer = k; answer = a } ∷ []) more)
-    ∙ ap (λ o. option_map_or (λ x. x.answer) o NotOffered) (find_behind k xs (record { offer = k; answer = a } ∷ more) fresh)
+    ∙ ap (λ o. option_map_or (λ x. x.answer) o NotOffered) (find_after k xs (record { offer = k; answer = a } ∷ more) fresh)
     ∙ ap (λ b. option_map_or (λ x. x.answer) (cond b (Some (record { offer = k; answer = a })) (find (λ x. x.offer == k) more)) NotOffered) (same_number k)
 
 -- closing the open offer keeps the order
 closes : (g : Guard) (k : ℕ) (a : Answer) → Orderly g → g.open_offer ≡ Some k → Orderly (answered k a g)
 closes g k a o is = record {
   above = λ m lt.
-      find_behind m g.answers (record { offer = k; answer = a } ∷ []) (o.above m lt)
+      find_after m g.answers (record { offer = k; answer = a } ∷ []) (o.above m lt)
       ∙ ap (λ b. cond b (Some (record { offer = k; answer = a })) None) (other_number k g.greatest (o.within k is) m lt);
   at_open = λ m none. absurd (nothing_open m none);
   within = λ m none. absurd (nothing_open m none);
@@ -153,18 +155,18 @@ by_verdict rules setup k o names g Admitted at order is = installs rules setup k
 by_verdict rules setup k o names g (Refused r) at order is =
     closed_still setup (Decide k) k (RefusedFor r) g order is (λ given e. ap (install_of k) e)
 
-by_patch : (rules : Rules) (setup : Setup) (k : ℕ) (o : guard.Offer) (g : Guard) (cause : Option NotPatch)
+by_patch : (rules : Rules) (setup : Setup) (k : ℕ) (p : List BareDef) (o : guard.Offer) (g : Guard) (cause : Option NotPatch)
     → offer_at setup k ≡ Some o → Orderly g → g.open_offer ≡ Some k
-    → AllOf (Does setup (Decide k) g) (decided rules g k o.text cause)
-by_patch rules setup k o g (Some cause) at order is =
+    → AllOf (Does setup (Decide k) g) (decided rules g k p o.text cause)
+by_patch rules setup k p o g (Some cause) at order is =
     closed_still setup (Decide k) k (NoPatch cause) g order is (λ given e. ap (install_of k) e)
-by_patch rules setup k o g None at order is = by_verdict rules setup k o _ g _ at order is
+by_patch rules setup k p o g None at order is = by_verdict rules setup k o _ g _ at order is
 
 by_offer : (rules : Rules) (setup : Setup) (k : ℕ) (o : Option guard.Offer) (g : Guard)
     → offer_at setup k ≡ o → Orderly g → g.open_offer ≡ Some k
     → AllOf (Does setup (Decide k) g) (decide rules g k o)
 by_offer rules setup k None g at order is = tt
-by_offer rules setup k (Some o) g at order is = by_patch rules setup k o g _ at order is
+by_offer rules setup k (Some o) g at order is = by_patch rules setup k (last_definitions g.versions) o g _ at order is
 
 -- what a test that holds says
 left_of : (a b : Bool) → (a && b) ≡ true → a ≡ true
@@ -238,8 +240,8 @@ event_does rules setup (Move t) g o =
     unless setup (Move t) g (has_ended g || (seat_of g t).at_check_in) (option_map (moved g t) (move g.world t))
     (moves_by setup t g (move g.world t) refl o)
 event_does rules setup (CheckIn t) g o =
-    where_test setup (CheckIn t) g (checked_in g t) (not (has_ended g) && (seat_of g t).at_check_in && is_none g.open_offer)
-    (λ h. still setup (CheckIn t) g (checked_in g t) refl refl (λ given. refl)
+    where_test setup (CheckIn t) g (checked_in (bodies_of g) g t) (not (has_ended g) && (seat_of g t).at_check_in && is_none g.open_offer)
+    (λ h. still setup (CheckIn t) g (checked_in (bodies_of g) g t) refl refl (λ given. refl)
     (record { above = o.above; at_open = o.at_open; within = o.within }))
 event_does rules setup (Offer k) g o =
     where_test setup (Offer k) g (record g { open_offer = Some k; greatest = k }) (not (has_ended g) && can_open setup g k)
@@ -300,5 +302,5 @@ of_outcome P o g e p = subst (AllOf P) e p
 
 pub journal_is_a_run : JournalIsARun
 journal_is_a_run rules setup events g legal =
-    (of_outcome (DoAll setup events (first_guard setup)) (guard_behind rules setup events) g legal
+    (of_outcome (DoAll setup events (first_guard setup)) (guard_after rules setup events) g legal
     (all_do rules setup events (first_guard setup) (first_orderly setup))).runs

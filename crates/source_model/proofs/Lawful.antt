@@ -1,11 +1,12 @@
 -- The laws of the source machine.
 use Rattle.std.proofs.Common.{◌≡◌, ℕ, Bool, true, false, ◌||◌, List, [], ◌∷◌, ◌++◌, Option, Some, None, refl, sym, ◌∙◌, ap, subst}
-use Rattle.std.specs.Prelude.{IsTrue, if◌then◌else◌}
+use Rattle.std.specs.Prelude.{IsTrue, ◌||◌, if◌then◌else◌}
 use Rattle.std.specs.Option.{option_and_then}
 use Rattle.std.proofs.lemmas.List.{append-nil, append_assoc}
 use Rattle.c_tree.specs.BareDef.{BareDef}
 use Rattle.source_model.specs.Worlds.{World, Limits, in_slot, is_over}
 use Rattle.source_model.specs.Moves.{move, move_of}
+use Rattle.source_model.specs.Waits.{must_wait}
 use Rattle.source_model.specs.Installs.{installed}
 use Rattle.source_model.specs.Runs.{SourceMove, Move, Install, install, step, run, start}
 use Rattle.source_model.specs.Laws.{TwoParts, MarkedStands, InstallKeepsThreads, InstallKeepsOutput, OthersStay, Grows, OutputGrows, EntriesApart}
@@ -44,7 +45,8 @@ install_marked w (Some q) marked = first_way (is_over w) None (Some (installed q
 
 pub marked_stands : MarkedStands
 marked_stands texts (Move t) w marked =
-    first_way (is_over w) None (move_of w t (in_slot w t)) (left_holds w.misused _ marked)
+    first_way (is_over w || must_wait w t) None (move_of w t (in_slot w t))
+    (left_holds (is_over w) _ (left_holds w.misused _ marked))
 marked_stands texts (Install k) w marked = install_marked w _ marked
 
 pub install_keeps_threads : InstallKeepsThreads
@@ -79,7 +81,7 @@ step_grows : (texts : List (List BareDef)) (m : SourceMove) (w : World) → AllO
 step_grows texts (Move t) w = keeps_grow t w (move w t) (move_keeps w t)
 step_grows texts (Install k) w = install_grows w _
 
--- what holds of each outcome of a second step holds behind both
+-- what holds of each outcome of a second step holds after both
 further : (w mid : World) (o : Option World) → Grows w mid → AllOf (Grows mid) o → AllOf (Grows w) o
 further w mid None g h = tt
 further w mid (Some after) g h = grows_twice w mid after g h

@@ -13,4 +13,13 @@ mod Lawful
 mod Waiters
 mod Journaled
 mod Pieces
+mod Older
+mod Coming
 mod Journals
+mod Events
+mod Seats
+mod Offers
+mod Soloing
+mod Counted
+mod Consistent
+pub mod Stuck

@@ -1,6 +1,6 @@
 -- What a move leaves as it was.
 use Rattle.std.proofs.Common.{◌≡◌, ℕ, zero, suc, Bool, true, false, List, [], ◌∷◌, ◌++◌, Option, Some, None, refl, sym, ◌∙◌, ap, subst}
-use Rattle.std.specs.Prelude.{◌≢◌, ◌==◌, length, position, slice_get, slice_index_or, slice_set, unwrap_or, unsigned_abs, if◌then◌else◌}
+use Rattle.std.specs.Prelude.{◌||◌, ◌≢◌, ◌==◌, length, position, slice_get, slice_index_or, slice_set, unwrap_or, unsigned_abs, if◌then◌else◌}
 use Rattle.std.proofs.lemmas.List.{get_or-set_other, length-set, append-nil}
 use Rattle.std.proofs.lemmas.List.Quantifiers.{position-Some}
 use Rattle.bytecode.specs.declared.trap.TrapKind.{TrapKind}
@@ -14,10 +14,12 @@ use Rattle.c_semantics.specs.Threads.{Frame, Enter, Thread}
 use Rattle.source_model.specs.Worlds.{World, Object, Slot, Live, Over, Closed, in_slot, with_slot, with_thread, is_over, cells_of, with_cells, live_objects, released}
 use Rattle.source_model.specs.Worlds as world
 use Rattle.source_model.specs.Uses.{using, use_at, is_right, recorded, marked}
-use Rattle.source_model.specs.Moves.{Standing, on_live, on_object, read_element, write_element, read_field, write_field, allocate, release, initialise, lock, unlock, start_in, spawn, join_slot, join, finish_thread, return_to, return, begin_at, end_at, write_global, print, call, perform, with_use, behind, enter, enter_with, in_frames, thread_move, move_of, move, goes_on, traps, is_free, in_bounds, new_object, must_wait, frame_count, frame_of}
+use Rattle.source_model.specs.Waits.{must_wait}
+use Rattle.source_model.specs.Moves.{Standing, on_live, on_object, read_element, write_element, read_field, write_field, allocate, release, initialise, lock, unlock, start_in, spawn, join_slot, join, finish_thread, return_to, return, begin_at, end_at, write_global, print, call, perform, with_use, behind, enter, enter_with, in_frames, thread_move, move_of, move, goes_on, traps, is_free, in_bounds, new_object, frame_count, frame_of}
+use Rattle.source_model.specs.Runs.{is_live}
 use Rattle.source_model.specs.Laws.{Grows}
 
--- records are closed behind those that were
+-- records are closed after those that were
 abbrev pub Closes : List Closed → List Closed → Type 0
 Closes before after = (more : List Closed) × (after ≡ before ++ more)
 
@@ -29,6 +31,7 @@ pub record Keeps (t : ℕ) (w after : World) : Type 0 where
   pub closes : Closes w.closed after.closed
   pub count : length after.slots ≡ length w.slots
   pub others : (k : ℕ) (th : Thread) → k ≢ t → in_slot w k ≡ Live th → in_slot after k ≡ Live th
+  pub main : is_live (in_slot w 0) ≡ true → is_live (in_slot after 0) ≡ true
 
 -- a world that is there satisfies P
 abbrev pub AllOf : (World → Type 0) → Option World → Type 0
@@ -43,22 +46,33 @@ none_closed before after e = ([], e ∙ sym (append-nil before))
 quiet : (w after : World) → after.output ≡ w.output → Grows w after
 quiet w after e = ([], e ∙ sym (append-nil w.output))
 
+-- main's slot has a live thread where what is put there is one
+none_is_live : is_live world.Free ≡ true → ⊥
+none_is_live h = cc
+
+set_main : (slots : List Slot) (t : ℕ) (s : Slot) → (t ≡ 0 → is_live s ≡ true) → is_live (slice_index_or slots 0 world.Free) ≡ true
+    → is_live (slice_index_or (slice_set slots t s) 0 world.Free) ≡ true
+set_main [] t s lives h = absurd (none_is_live h)
+set_main (x ∷ slots) zero s lives h = lives refl
+set_main (x ∷ slots) (suc t) s lives h = h
+
 -- only slot t is another
 abbrev one_slot : (t : ℕ) (w after : World) (s : Slot) → after.slots ≡ slice_set w.slots t s → Grows w after
-    → after.table ≡ w.table → Closes w.closed after.closed → Keeps t w after
-one_slot t w after s e g d c = record {
+    → after.table ≡ w.table → Closes w.closed after.closed → (t ≡ 0 → is_live s ≡ true) → Keeps t w after
+one_slot t w after s e g d c lives = record {
   grows = g;
   same_table = d;
   closes = c;
   count = ap length e ∙ length-set w.slots t s;
   others = λ k th other is.
       ap (λ slots. slice_index_or slots k world.Free) e ∙ get_or-set_other w.slots t k s world.Free other ∙ is;
+  main = λ h. ap (λ slots. is_live (slice_index_or slots 0 world.Free)) e ∙ set_main w.slots t s lives h;
 }
 
 -- and nothing more is printed
 one_slot_quiet : (t : ℕ) (w after : World) (s : Slot) → after.slots ≡ slice_set w.slots t s → after.output ≡ w.output
-    → after.table ≡ w.table → Closes w.closed after.closed → Keeps t w after
-one_slot_quiet t w after s e o d c = one_slot t w after s e (quiet w after o) d c
+    → after.table ≡ w.table → Closes w.closed after.closed → (t ≡ 0 → is_live s ≡ true) → Keeps t w after
+one_slot_quiet t w after s e o d c lives = one_slot t w after s e (quiet w after o) d c lives
 
 -- no slot is another
 no_slot : (t : ℕ) (w after : World) → after.slots ≡ w.slots → after.output ≡ w.output → after.table ≡ w.table
@@ -69,6 +83,7 @@ no_slot t w after e o d c = record {
   closes = none_closed w.closed after.closed c;
   count = ap length e;
   others = λ k th other is. ap (λ slots. slice_index_or slots k world.Free) e ∙ is;
+  main = λ h. ap (λ slots. is_live (slice_index_or slots 0 world.Free)) e ∙ h;
 }
 
 -- one of two outcomes
@@ -86,7 +101,7 @@ in_place : (t : ℕ) (w mid : World) (th : Thread) → mid.slots ≡ w.slots →
     → mid.table ≡ w.table → mid.closed ≡ w.closed → Keeps t w (with_slot t (Live th) mid)
 in_place t w mid th e g d c =
     one_slot t w (with_slot t (Live th) mid) (Live th) (ap (λ slots. slice_set slots t (Live th)) e) g d
-    (none_closed w.closed mid.closed c)
+    (none_closed w.closed mid.closed c) (λ zeroth. refl)
 
 goes : (s : Standing) (w : World) (values : List Value) → w.slots ≡ s.world.slots → Grows s.world w
     → w.table ≡ s.world.table → w.closed ≡ s.world.closed → Kept s (goes_on s w values)
@@ -102,7 +117,7 @@ goes_quiet : (s : Standing) (w : World) (values : List Value) → w.slots ≡ s.
 goes_quiet s w values e o d c = goes s w values e (quiet s.world w o) d c
 
 trapped : (s : Standing) (kind : TrapKind) → Kept s (traps s kind)
-trapped s kind = one_slot_quiet s.slot s.world _ _ refl refl refl (none_closed _ _ refl)
+trapped s kind = one_slot_quiet s.slot s.world _ _ refl refl refl (none_closed _ _ refl) (λ zeroth. refl)
 
 write_global_keeps : (s : Standing) (name : Bytes) (values : List Value) → Kept s (write_global s name values)
 write_global_keeps s name [] = tt
@@ -182,8 +197,9 @@ unlock_keeps s name values (Some slot) =
 
 -- two slots are another, of which no live thread was in the second
 two_slots : (t u : ℕ) (w after : World) (a b : Slot) → after.slots ≡ slice_set (slice_set w.slots u b) t a → after.output ≡ w.output
-    → after.table ≡ w.table → after.closed ≡ w.closed → ((th : Thread) → in_slot w u ≡ Live th → ⊥) → Keeps t w after
-two_slots t u w after a b e o d c empty = record {
+    → after.table ≡ w.table → after.closed ≡ w.closed → (t ≡ 0 → is_live a ≡ true) → ((th : Thread) → in_slot w u ≡ Live th → ⊥)
+    → Keeps t w after
+two_slots t u w after a b e o d c lives empty = record {
   grows = quiet w after o;
   same_table = d;
   closes = none_closed w.closed after.closed c;
@@ -193,7 +209,16 @@ two_slots t u w after a b e o d c empty = record {
       ∙ get_or-set_other (slice_set w.slots u b) t k a world.Free other
       ∙ get_or-set_other w.slots u k b world.Free (λ same. empty th (subst (λ n. in_slot w n ≡ Live th) same is))
       ∙ is;
+  main = λ h.
+      ap (λ slots. is_live (slice_index_or slots 0 world.Free)) e
+      ∙ set_main (slice_set w.slots u b) t a lives
+      (set_main w.slots u b (λ zeroth. absurd (empty_or_live (in_slot w u) empty (ap (λ n. is_live (in_slot w n)) zeroth ∙ h))) h);
 }
+  where
+    empty_or_live : (x : Slot) → ((th : Thread) → x ≡ Live th → ⊥) → is_live x ≡ true → ⊥
+    empty_or_live (Live th) none h = none th refl
+    empty_or_live world.Free none h = none_is_live h
+    empty_or_live (Over serial result) none h = none_is_live h
 
 -- a slot that is free has no live thread
 free_is_empty : (x : Slot) (th : Thread) → is_free x ≡ true → x ≡ Live th → ⊥
@@ -206,7 +231,7 @@ start_keeps : (s : Standing) (enter : Enter) (values : List Value) (place : Opti
     → Kept s (start_in s enter values place)
 start_keeps s enter values None e = goes_same s _
 start_keeps s enter values (Some t) e =
-    two_slots s.slot t s.world _ _ _ refl refl refl refl
+    two_slots s.slot t s.world _ _ _ refl refl refl refl (λ zeroth. refl)
     (λ th is. free_is_empty _ th (position-Some is_free s.world.slots t world.Free e).1 is)
 
 spawn_keeps : (s : Standing) (name : Bytes) (values : List Value) → Kept s (spawn s name values)
@@ -220,12 +245,11 @@ over_is_empty x n v th over is = cc
 join_slot_keeps : (s : Standing) (ref : ThreadRef) (values : List Value) (x : Slot) → in_slot s.world ref.slot ≡ x
     → Kept s (join_slot s ref values x)
 join_slot_keeps s ref values world.Free e = trapped s NotJoined
-join_slot_keeps s ref values (Live th) e =
-    either_way s.slot s.world (th.serial == ref.serial) None (traps s NotJoined) tt (trapped s NotJoined)
+join_slot_keeps s ref values (Live th) e = trapped s NotJoined
 join_slot_keeps s ref values (Over serial result) e =
     either_way s.slot s.world (serial == ref.serial)
     (goes_on s (with_slot ref.slot world.Free s.world) (result ∷ values)) (traps s NotJoined)
-    (two_slots s.slot ref.slot s.world _ _ _ refl refl refl refl (λ th is. over_is_empty _ serial result th e is))
+    (two_slots s.slot ref.slot s.world _ _ _ refl refl refl refl (λ zeroth. refl) (λ th is. over_is_empty _ serial result th e is))
     (trapped s NotJoined)
 
 join_keeps : (s : Standing) (values : List Value) → Kept s (join s values)
@@ -235,32 +259,36 @@ join_keeps s [] = tt
 join_keeps s (Number i ∷ values) = tt
 join_keeps s (Reference r ∷ values) = tt
 
-finish_keeps : (s : Standing) (v : Value) (n : ℕ) → Kept s (finish_thread s v n)
-finish_keeps s v zero = no_slot s.slot s.world _ refl refl refl refl
-finish_keeps s v (suc n) = one_slot_quiet s.slot s.world _ _ refl refl refl (none_closed _ _ refl)
+not_main : (t n : ℕ) → t ≡ suc n → t ≡ 0 → ⊥
+not_main t n e f = cc
+
+finish_keeps : (s : Standing) (v : Value) (n : ℕ) → s.slot ≡ n → Kept s (finish_thread s v n)
+finish_keeps s v zero e = no_slot s.slot s.world _ refl refl refl refl
+finish_keeps s v (suc n) e =
+    one_slot_quiet s.slot s.world _ _ refl refl refl (none_closed _ _ refl) (λ zeroth. absurd (not_main s.slot n e zeroth))
 
 return_to_keeps : (s : Standing) (v : Value) (below : List Frame) → Kept s (return_to s v below)
-return_to_keeps s v [] = finish_keeps s v s.slot
-return_to_keeps s v (f ∷ fs) = one_slot_quiet s.slot s.world _ _ refl refl refl (none_closed _ _ refl)
+return_to_keeps s v [] = finish_keeps s v s.slot refl
+return_to_keeps s v (f ∷ fs) = one_slot_quiet s.slot s.world _ _ refl refl refl (none_closed _ _ refl) (λ zeroth. refl)
 
 return_keeps : (s : Standing) (values : List Value) → Kept s (return s values)
 return_keeps s [] = tt
 return_keeps s (v ∷ values) = return_to_keeps s v s.below
 
 begin_keeps : (s : Standing) (depth : ℕ) (th : Thread) → Kept s (begin_at s depth th)
-begin_keeps s zero th = one_slot_quiet s.slot s.world _ _ refl refl refl (none_closed _ _ refl)
-begin_keeps s (suc depth) th = one_slot_quiet s.slot s.world _ _ refl refl refl (none_closed _ _ refl)
+begin_keeps s zero th = one_slot_quiet s.slot s.world _ _ refl refl refl (none_closed _ _ refl) (λ zeroth. refl)
+begin_keeps s (suc depth) th = one_slot_quiet s.slot s.world _ _ refl refl refl (none_closed _ _ refl) (λ zeroth. refl)
 
 end_keeps : (s : Standing) (depth : ℕ) (th : Thread) → Kept s (end_at s depth th)
 end_keeps s zero th = tt
-end_keeps s (suc zero) th = one_slot_quiet s.slot s.world _ _ refl refl refl (_, refl)
-end_keeps s (suc (suc depth)) th = one_slot_quiet s.slot s.world _ _ refl refl refl (none_closed _ _ refl)
+end_keeps s (suc zero) th = one_slot_quiet s.slot s.world _ _ refl refl refl (_, refl) (λ zeroth. refl)
+end_keeps s (suc (suc depth)) th = one_slot_quiet s.slot s.world _ _ refl refl refl (none_closed _ _ refl) (λ zeroth. refl)
 
 print_keeps : (s : Standing) (format : Bytes) (n : ℕ) (values : List Value) → Kept s (print s format n values)
 print_keeps s format n values = goes s _ _ refl (_, refl) refl refl
 
 call_keeps : (s : Standing) (name : Bytes) (n : ℕ) (values : List Value) → Kept s (call s name n values)
-call_keeps s name n values = one_slot_quiet s.slot s.world _ _ refl refl refl (none_closed _ _ refl)
+call_keeps s name n values = one_slot_quiet s.slot s.world _ _ refl refl refl (none_closed _ _ refl) (λ zeroth. refl)
 
 perform_keeps : (x : Stop) (s : Standing) (values : List Value) → Kept s (perform x s values)
 perform_keeps (ReadGlobal name) s values = goes_same s _
@@ -300,24 +328,25 @@ with_use_keeps x w t th f below (Some name) =
     (λ user. perform x (record { world = w; slot = t; thread = user; frame = f; below = below }) f.values)
     (λ user. perform_keeps x (record { world = w; slot = t; thread = user; frame = f; below = below }) f.values)
 
-behind_keeps : (w : World) (t : ℕ) (th : Thread) (f : Frame) (below : List Frame) (h : Halt)
+after_keeps : (w : World) (t : ℕ) (th : Thread) (f : Frame) (below : List Frame) (h : Halt)
     → AllOf (Keeps t w) (behind w t th f below h)
-behind_keeps w t th f below (Stopped x n rest values scopes) =
+after_keeps w t th f below (Stopped x n rest values scopes) =
     let g : Frame = record f { standing = n; pieces = rest; values = values; scopes = scopes } in
-    either_way t w (must_wait x w t) None (with_use x w t th g below (use_at x)) tt (with_use_keeps x w t th g below (use_at x))
-behind_keeps w t th f below (Trapped kind) = no_slot t w _ refl refl refl refl
-behind_keeps w t th f below Nothing = tt
+    with_use_keeps x w t th g below (use_at x)
+after_keeps w t th f below (Trapped kind) = no_slot t w _ refl refl refl refl
+after_keeps w t th f below Nothing = tt
 
 enter_with_keeps : (w : World) (t : ℕ) (e : Enter) (th : Thread) → AllOf (Keeps t w) (enter_with w t e th)
 enter_with_keeps w t e th =
     either_way t w (length th.frames == frame_count)
     (Some (record (with_thread t th w) { finish = Some (world.Trapped Depth t) }))
     (Some (with_thread t (record th { frames = frame_of w e ∷ th.frames; entering = None }) w))
-    (one_slot_quiet t w _ _ refl refl refl (none_closed _ _ refl)) (one_slot_quiet t w _ _ refl refl refl (none_closed _ _ refl))
+    (one_slot_quiet t w _ _ refl refl refl (none_closed _ _ refl) (λ zeroth. refl))
+    (one_slot_quiet t w _ _ refl refl refl (none_closed _ _ refl) (λ zeroth. refl))
 
 frames_keep : (w : World) (t : ℕ) (th : Thread) (fs : List Frame) → AllOf (Keeps t w) (in_frames w t th fs)
 frames_keep w t th [] = tt
-frames_keep w t th (f ∷ below) = behind_keeps w t th f below _
+frames_keep w t th (f ∷ below) = after_keeps w t th f below _
 
 thread_keeps : (w : World) (t : ℕ) (th : Thread) (e : Option Enter) → AllOf (Keeps t w) (thread_move w t th e)
 thread_keeps w t th None = frames_keep w t th th.frames
@@ -330,7 +359,7 @@ slot_keeps w t (Over serial result) = tt
 
 pub move_keeps : (w : World) (t : ℕ) → AllOf (Keeps t w) (move w t)
 move_keeps w t =
-    either_way t w (is_over w) None (move_of w t (in_slot w t)) tt (slot_keeps w t (in_slot w t))
+    either_way t w (is_over w || must_wait w t) None (move_of w t (in_slot w t)) tt (slot_keeps w t (in_slot w t))
 
 -- what holds of the outcome holds of the world that it is
 pub of_outcome : (P : World → Type 0) (o : Option World) (after : World) → o ≡ Some after → AllOf P o → P after

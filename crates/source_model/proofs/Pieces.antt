@@ -2,7 +2,8 @@
 use Rattle.std.proofs.Common.{refl}
 use Rattle.c_semantics.specs.Pieces.{Halt, Stopped, Trapped, Nothing}
 use Rattle.c_semantics.specs.Evaluation.{local}
-use Rattle.source_model.specs.EvaluationLaws.{Ends, at_a_stop, with_a_trap, with_nothing, AlwaysEnds, Makes, ExpressionsInOrder, Accesses, PlacesStop, Does, StatementsAsPieces}
+use Rattle.source_model.specs.EvaluationLaws.{Ends, at_a_stop, with_a_trap, with_nothing, AlwaysEnds, Makes, ExpressionsInOrder, Accesses, PlacesStop, Does, StatementsAsPieces, DeclarationsBegin, TestsChoose}
+use Rattle.source_model.specs.EvaluationLaws.{PartsOfPlaces, ValuesChange}
 use Rattle.source_model.specs.EvaluationLaws as laws
 
 ends : (h : Halt) → Ends h
@@ -51,3 +52,15 @@ statements_as_pieces n s made_of ps (laws.do_while a c) = refl
 statements_as_pieces n s made_of ps (laws.return e) = refl
 statements_as_pieces n s made_of ps laws.update = refl
 statements_as_pieces n s made_of ps (laws.transaction ss) = refl
+
+pub values_change : ValuesChange
+values_change un op type a b values scopes ps = (refl, refl, refl, refl, refl, refl, refl)
+
+pub parts_of_places : PartsOfPlaces
+parts_of_places name tag e n a b values scopes ps = (refl, refl, refl, refl, refl, refl, refl, refl, refl, refl)
+
+pub declarations_begin : DeclarationsBegin
+declarations_begin type name e n ps = (refl, refl)
+
+pub tests_choose : TestsChoose
+tests_choose a b s t n v values scopes ps = (refl, refl, refl, refl, refl, refl, refl)

@@ -57,7 +57,7 @@ one_after_the_other : seen (locking ∷ []) 4096 (alone 6 ++ replicate 6 (Move 1
     ≡ Some (record { output = codes "done\n"; state = Finished (pos 0) })
 one_after_the_other = refl
 
--- g is replaced behind the first print, in the midst of the transaction
+-- g is replaced after the first print, in the middle of the transaction
 replaced : seen (calling ∷ calling_2 ∷ []) 4096 (alone 3 ++ Install 1 ∷ alone 16)
     ≡ Some (record { output = codes "start\n2\n2\n"; state = Finished (pos 0) })
 unfolding digits
@@ -84,7 +84,7 @@ shares = refl
 shares_1 : spans_of (calling ∷ calling_2 ∷ []) (alone 19) ≡ Some (record { slot = 0; first = 1; last = 1 } ∷ [])
 shares_1 = refl
 
--- behind its begin a record has no entry yet, and shares all versions
+-- after its begin a record has no entry yet, and shares all versions
 shares_all : spans_of (calling ∷ calling_2 ∷ []) (alone 2 ++ Install 1 ∷ []) ≡ Some (record { slot = 0; first = 1; last = 2 } ∷ [])
 shares_all = refl
 

@@ -3,7 +3,7 @@ use Rattle.std.proofs.Common.{◌≡◌, Bool, true, false, List, [], ◌∷◌,
 use Rattle.std.specs.Prelude.{◌&&◌, ◌||◌, not, cond, filter, map, bytes_eq}
 use Rattle.c_tree.specs.BareExpr.{Bytes}
 use Rattle.c_tree.specs.BareDef.{BareBinding, BareDef, Struct, Forward, Mutex, Function, Prototype, Global, Array, TransformStruct, TransformGlobal}
-use Rattle.c_semantics.specs.Names.{is_among, name_set}
+use Rattle.name_sets.specs.NameLists.{is_among, name_set}
 use Rattle.c_semantics.specs.Texts.{definition, names}
 use Rattle.c_semantics.specs.Same.{same_type, same_binding, same_list}
 use Rattle.c_semantics.specs.Changes.{agree, same_definition, same_interface}

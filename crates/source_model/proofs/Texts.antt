@@ -10,7 +10,7 @@ use Rattle.c_tree.specs.BareExpr as e
 use Rattle.c_tree.specs.BareStmt as s
 use Rattle.c_tree.specs.BareDef.{BareBinding, BareDef}
 use Rattle.c_tree.specs.BareDef as d
-use Rattle.source_model.specs.Texts.{Tokens, Text}
+use Rattle.c_semantics.specs.SourceTexts.{Tokens, Text}
 
 -- a text with these definitions and numbers of tokens; its tree is of no account where no transformer has a fault
 abbrev pub text_with : List BareDef → List Tokens → Text

@@ -4,7 +4,7 @@ use Rattle.c_tree.specs.BareExpr.{Bytes}
 use Rattle.c_tree.specs.BareDef.{BareDef}
 use Rattle.c_tree.specs.BareStmt.{BareStmts}
 use Rattle.c_semantics.specs.Same.{same_stmts}
-use Rattle.c_semantics.specs.Names.{is_among}
+use Rattle.name_sets.specs.NameLists.{is_among}
 use Rattle.c_semantics.specs.Changes.{changed, interface, same_definition, same_interface}
 
 -- equal definitions have equal interfaces

@@ -1,5 +1,5 @@
--- What is kept beside the source machine while its moves, check-ins and offers are made, and when each event can happen.
--- The rows of check-ins and the admission test over them are parameters here.
+-- What is kept beside the source machine while its moves, check-ins and offers are made, and what each of these changes.
+-- The row of a mark is a parameter here, and so is whether a transformer fits.
 use Rattle.std.specs.Prelude.{ℕ, zero, suc, ◌-◌, ◌==◌, nat_lt, nat_le, Bool, true, false, ◌&&◌, ◌||◌, List, [], ◌∷◌, ◌++◌, map, length, replicate, count_by, slice_get, slice_index_or, slice_set, Option, Some, None, option_map, codes, if◌then◌else◌}
 use Rattle.std.specs.Option.{is_some, is_none, option_map_or}
 use Rattle.c_tree.specs.BareExpr.{Bytes}
@@ -8,25 +8,21 @@ use Rattle.c_semantics.specs.Changes.{changed, interface}
 use Rattle.c_semantics.specs.Stops.{Stop, Return, Begin, End, Update}
 use Rattle.c_semantics.specs.Pieces.{Halt, Stopped}
 use Rattle.c_semantics.specs.Threads.{Frame, Enter, next_of}
+use Rattle.c_semantics.specs.Standing.{stands_at}
 use Rattle.con_freeness.specs.Verdicts.{Verdict, Admitted, Refused}
+use Rattle.con_freeness.specs.Rows.{Names, Row, InForce, empty_row, meets, verdict}
 use Rattle.source_model.specs.declared.patch.NotPatch.{NotPatch}
-use Rattle.source_model.specs.Worlds.{World, Slot, Free, Live, Over, Limits, in_slot, first_world}
+use Rattle.source_model.specs.Worlds.{World, Slot, Free, Live, Over, Limits, in_slot, alive_in, first_world}
 use Rattle.source_model.specs.Runs.{install, is_live}
-use Rattle.source_model.specs.Texts.{Text}
-use Rattle.source_model.specs.Store.{Body, store, generation_by, body_in, check_in_number}
+use Rattle.c_semantics.specs.SourceTexts.{Text}
+use Rattle.c_semantics.specs.Store.{Body, Mark, Start, CheckInOf, store, generation_by, body_in, check_in_number}
 use Rattle.source_model.specs.Answers.{Answer, Installed, RefusedFor, NoPatch}
 use Rattle.source_model.specs.Patches.{last_definitions, not_patch}
 
--- where the row in force of a slot comes from: no live thread is there; the start of a function; a check-in of a body,
--- by its function, its generation and its number
-pub data Mark : Type 0 where
-  NoThread : Mark
-  Start : Bytes → Mark
-  CheckInOf : Bytes → ℕ → ℕ → Mark
-
--- what is kept of a slot: the mark of its row in force, whether its thread is at a check-in, and whether it is pinned
+-- what is kept of a slot: the mark of its row in force, if a thread lives there, whether its thread is at a check-in, and
+-- whether it is pinned
 pub record Seat : Type 0 where
-  pub mark : Mark
+  pub mark : Option Mark
   pub at_check_in : Bool
   pub pinned : Bool
 
@@ -57,21 +53,19 @@ pub record Setup : Type 0 where
   pub offers : List Offer
   pub limits : Limits
 
--- the admission test, over the texts of the versions so far: whether the rows of the marks admit a patch with that
--- changed set and that interface set, where some threads are pinned; whether the prior set of a mark's row meets a
--- changed set; and the place of the first transformer of a text that doesn't fit, where the text follows some definitions
+-- what is given from elsewhere: the row of a mark over the bodies of the versions so far, and the place of the first
+-- transformer of a text that doesn't fit, where the text follows some definitions
 pub record Rules : Type 0 where
-  pub verdict : List Text → List Mark → List Bool → List Bytes → List Bytes → Verdict
-  pub meets_prior : List Text → Mark → List Bytes → Bool
+  pub row : List Body → Mark → Row
   pub wrong : List BareDef → Text → Option ℕ
 
--- a slot without a thread
+-- a slot without a live thread
 abbrev pub empty_seat : Seat
-empty_seat = record { mark = NoThread; at_check_in = false; pinned = false }
+empty_seat = record { mark = None; at_check_in = false; pinned = false }
 
 -- a thread that was started: the row of its function's start is in force
 abbrev pub started_seat : Bytes → Seat
-started_seat function = record { mark = Start function; at_check_in = false; pinned = false }
+started_seat function = record { mark = Some (Start function); at_check_in = false; pinned = false }
 
 -- the start of a run
 abbrev pub first_guard : Setup → Guard
@@ -88,6 +82,10 @@ first_guard s = record {
 -- the run has ended with the return of main or a trap
 abbrev pub has_ended : Guard → Bool
 has_ended g = is_some g.world.finish
+
+-- the bodies of the versions so far
+abbrev pub bodies_of : Guard → List Body
+bodies_of g = store g.versions
 
 -- the seat of a slot
 abbrev pub seat_of : Guard → ℕ → Seat
@@ -135,8 +133,8 @@ entering_function (Some e) = e.function
 abbrev pub moved_seat : Bool → Slot → Seat → Seat
 moved_seat leads_there after s = record s { at_check_in = leads_there; pinned = s.pinned && in_transaction after }
 
--- the seat of a slot behind a move, by what was in it before and is in it after: empty without a live thread, that of
--- a start where a thread was started in it, changed where its thread moved
+-- the seat of a slot after a move, by what was alive in it before and is after: empty without a live thread, that of a
+-- start where a thread was started in it, changed where its thread moved
 abbrev pub seat_after : Bool → Bool → Slot → Slot → Seat → Seat
 seat_after moved leads_there before (Live th) s =
     if is_live before
@@ -144,40 +142,35 @@ seat_after moved leads_there before (Live th) s =
     else started_seat (entering_function th.entering)
 seat_after moved leads_there before after s = empty_seat
 
--- the seats behind the move of slot t
+-- the seats after the move of slot t
 abbrev pub seats_from : ℕ → ℕ → Bool → World → World → List Seat → List Seat
 seats_from n t leads_there before after [] = []
 seats_from n t leads_there before after (s ∷ ss) =
-    seat_after (n == t) leads_there (in_slot before n) (in_slot after n) s ∷ seats_from (suc n) t leads_there before after ss
+    seat_after (n == t) leads_there (alive_in before n) (alive_in after n) s ∷ seats_from (suc n) t leads_there before after ss
 
 abbrev pub moved : Guard → ℕ → World → Guard
 moved g t w = record g { world = w; seats = seats_from 0 t (move_leads (in_slot g.world t)) g.world w g.seats }
-
--- the point of the check-in at which a frame stands: its entry, or the one behind its last stop
-abbrev pub check_in_point : ℕ → ℕ
-check_in_point zero = 0
-check_in_point (suc n) = suc (suc n)
 
 -- the mark of a frame's check-in; its body is the one in force in the frame's version
 abbrev pub mark_in : List Body → Frame → Mark
 mark_in bodies f =
     let generation = generation_by f.function f.version bodies in
     CheckInOf f.function generation
-    (option_map_or (λ b. check_in_number b (check_in_point f.standing)) (body_in bodies f.function generation) 0)
+    (option_map_or (λ b. check_in_number b (stands_at b.skeleton None f)) (body_in bodies f.function generation) 0)
 
-abbrev pub mark_of_frames : List Body → List Frame → Mark
-mark_of_frames bodies [] = NoThread
-mark_of_frames bodies (f ∷ fs) = mark_in bodies f
+abbrev pub mark_of_frames : List Body → List Frame → Option Mark
+mark_of_frames bodies [] = None
+mark_of_frames bodies (f ∷ fs) = Some (mark_in bodies f)
 
-abbrev pub mark_of : List Body → Slot → Mark
+abbrev pub mark_of : List Body → Slot → Option Mark
 mark_of bodies (Live th) = mark_of_frames bodies th.frames
-mark_of bodies Free = NoThread
-mark_of bodies (Over serial result) = NoThread
+mark_of bodies Free = None
+mark_of bodies (Over serial result) = None
 
--- a check-in passed
-abbrev pub checked_in : Guard → ℕ → Guard
-checked_in g t =
-    let s = record (seat_of g t) { mark = mark_of (store g.versions) (in_slot g.world t); at_check_in = false } in
+-- a check-in passed, over the bodies so far
+abbrev pub checked_in : List Body → Guard → ℕ → Guard
+checked_in bodies g t =
+    let s = record (seat_of g t) { mark = mark_of bodies (alive_in g.world t); at_check_in = false } in
     record g { seats = slice_set g.seats t s }
 
 -- how many lines the program has written
@@ -207,43 +200,53 @@ abbrev pub answered : ℕ → Answer → Guard → Guard
 answered k a g =
     record g { open_offer = None; closed = suc g.closed; answers = g.answers ++ record { offer = k; answer = a } ∷ [] }
 
--- the seats with the pins that an install sets, over the rows before it: a thread in a transaction whose row's prior
--- set meets the changed set is pinned
-abbrev pub pinned_seat : Rules → List Text → List Bytes → Slot → Seat → Seat
-pinned_seat rules versions names s seat =
-    record seat { pinned = seat.pinned || (in_transaction s && rules.meets_prior versions seat.mark names) }
+-- the row of a mark over the bodies so far; a slot without a live thread has the row of three empty sets
+abbrev pub row_in_force : Rules → List Body → Option Mark → Row
+row_in_force rules bodies mark = option_map_or (rules.row bodies) mark empty_row
 
-abbrev pub pinned_from : Rules → List Text → List Bytes → World → ℕ → List Seat → List Seat
-pinned_from rules versions names w n [] = []
-pinned_from rules versions names w n (s ∷ ss) =
-    pinned_seat rules versions names (in_slot w n) s ∷ pinned_from rules versions names w (suc n) ss
+-- a slot as the admission test sees it
+abbrev pub in_force : Rules → List Body → Seat → InForce
+in_force rules bodies s = record { row = row_in_force rules bodies s.mark; pinned = s.pinned }
+
+-- the seats with the pins that an install sets, over the rows before it: a thread in a transaction whose row's prior set
+-- meets the changed set is pinned
+abbrev pub pinned_seat : Rules → List Body → Names → Slot → Seat → Seat
+pinned_seat rules bodies changed s seat =
+    record seat {
+      pinned = seat.pinned || (in_transaction s && meets changed (row_in_force rules bodies seat.mark).prior);
+    }
+
+abbrev pub pinned_from : Rules → List Body → Names → World → ℕ → List Seat → List Seat
+pinned_from rules bodies changed w n [] = []
+pinned_from rules bodies changed w n (s ∷ ss) =
+    pinned_seat rules bodies changed (alive_in w n) s ∷ pinned_from rules bodies changed w (suc n) ss
 
 -- a patch that is admitted: it is installed, and the pins are set
-abbrev pub installed_over : Rules → Guard → ℕ → Text → List Bytes → World → Guard
-installed_over rules g k q names w =
+abbrev pub installed_over : Rules → Guard → ℕ → Text → Names → World → Guard
+installed_over rules g k q changed w =
     answered k (Installed (suc (length g.versions)))
     (record g {
       world = w;
-      seats = pinned_from rules g.versions names g.world 0 g.seats;
+      seats = pinned_from rules (bodies_of g) changed g.world 0 g.seats;
       versions = g.versions ++ q ∷ [];
     })
 
--- by the verdict
-abbrev pub decided_by : Rules → Guard → ℕ → Text → List Bytes → Verdict → Option Guard
-decided_by rules g k q names (Refused r) = Some (answered k (RefusedFor r) g)
-decided_by rules g k q names Admitted =
-    option_map (installed_over rules g k q names) (install g.world (Some q.definitions))
+-- by the verdict; where a definition was misused nothing is installed, so there the decision on an admitted patch can't
+-- happen
+abbrev pub decided_by : Rules → Guard → ℕ → Text → Names → Verdict → Option Guard
+decided_by rules g k q changed (Refused r) = Some (answered k (RefusedFor r) g)
+decided_by rules g k q changed Admitted =
+    option_map (installed_over rules g k q changed) (install g.world (Some q.definitions))
 
--- by whether the text is a patch
-abbrev pub decided : Rules → Guard → ℕ → Text → Option NotPatch → Option Guard
-decided rules g k q (Some cause) = Some (answered k (NoPatch cause) g)
-decided rules g k q None =
-    let p = last_definitions g.versions in
-    let names = changed p q.definitions in
-    decided_by rules g k q names
-    (rules.verdict g.versions (map (λ s. s.mark) g.seats) (map (λ s. s.pinned) g.seats) names (interface p q.definitions))
+-- by whether the text is a patch for the text p that is in force
+abbrev pub decided : Rules → Guard → ℕ → List BareDef → Text → Option NotPatch → Option Guard
+decided rules g k p q (Some cause) = Some (answered k (NoPatch cause) g)
+decided rules g k p q None =
+    decided_by rules g k q (changed p q.definitions)
+    (verdict (map (in_force rules (bodies_of g)) g.seats) (changed p q.definitions) (interface p q.definitions))
 
 -- an offer decided
 abbrev pub decide : Rules → Guard → ℕ → Option Offer → Option Guard
 decide rules g k None = None
-decide rules g k (Some o) = decided rules g k o.text (not_patch rules.wrong g.versions o.text)
+decide rules g k (Some o) =
+    decided rules g k (last_definitions g.versions) o.text (not_patch rules.wrong (bodies_of g) g.versions o.text)

@@ -1,5 +1,5 @@
 -- The moves of a thread: its local evaluation and one stop.
-use Rattle.std.specs.Prelude.{ℕ, zero, suc, ◌==◌, Bool, true, false, ◌&&◌, not, ℤ, pos, List, [], ◌∷◌, ◌++◌, length, take, drop, reverse, position, slice_get, slice_set, Option, Some, None, unwrap_or, unsigned_abs, int_lt, int_le, if◌then◌else◌}
+use Rattle.std.specs.Prelude.{ℕ, zero, suc, ◌==◌, Bool, true, false, ◌&&◌, ◌||◌, ℤ, pos, List, [], ◌∷◌, ◌++◌, length, take, drop, reverse, position, slice_get, slice_set, Option, Some, None, unwrap_or, unsigned_abs, int_lt, int_le, if◌then◌else◌}
 use Rattle.bytecode.specs.declared.trap.TrapKind.{TrapKind}
 use Rattle.bytecode.specs.declared.trap.TrapKind.TheVariants.{Null, Stale, Index, Depth, Relock, Unlock as NotHeld, MutexHeld, Join as NotJoined}
 use Rattle.c_ints.specs.Number.{value_of}
@@ -17,6 +17,7 @@ use Rattle.source_model.specs.Versions.{current}
 use Rattle.source_model.specs.Worlds.{World, Object, Slot, Live, Over, Finish, Finished, Trapped, now, is_over, in_slot, with_slot, with_thread, cells_of, with_cells, holder_of, with_holder, released, live_objects}
 use Rattle.source_model.specs.Worlds as world
 use Rattle.source_model.specs.Uses.{use_at, using}
+use Rattle.source_model.specs.Waits.{must_wait}
 use Rattle.source_model.specs.Printing.{printed}
 
 -- a thread at a stop that it makes: the world, its slot, the thread, its innermost frame and the frames below it
@@ -31,7 +32,7 @@ pub record Standing : Type 0 where
 abbrev pub frame_count : ℕ
 frame_count = 256
 
--- the thread behind its stop, with these values
+-- the thread after its stop, with these values
 abbrev pub gone_on : Standing → List Value → Thread
 gone_on s values = record s.thread { frames = record s.frame { values = values } ∷ s.below }
 
@@ -120,8 +121,7 @@ abbrev pub initialise : Standing → List Value → Option ℕ → Option World
 initialise s values None = goes_on s s.world (int_of 0 ∷ values)
 initialise s values (Some slot) = traps s MutexHeld
 
--- a lock is made only where no other slot holds the mutex (`must_wait`): a free one is taken, and one that the thread
--- holds traps
+-- a lock that isn't waited for: a free mutex is taken, and one that the thread holds traps
 abbrev pub lock : Standing → Bytes → List Value → Option ℕ → Option World
 lock s name values None = goes_on s (with_holder name s.slot s.world) (int_of 0 ∷ values)
 lock s name values (Some slot) = traps s Relock
@@ -152,10 +152,10 @@ spawn s name (v ∷ values) =
     (position is_free s.world.slots)
 spawn s name _ = None
 
--- the join of a thread: one that lives is waited for; one that has ended gives its result, and its slot is free again
+-- the join of a thread that isn't waited for: one that has ended gives its result, and its slot is free again
 abbrev pub join_slot : Standing → ThreadRef → List Value → Slot → Option World
 join_slot s ref values world.Free = traps s NotJoined
-join_slot s ref values (Live th) = if th.serial == ref.serial then None else traps s NotJoined
+join_slot s ref values (Live th) = traps s NotJoined
 join_slot s ref values (Over serial result) =
     if serial == ref.serial then goes_on s (with_slot ref.slot world.Free s.world) (result ∷ values) else traps s NotJoined
 
@@ -230,15 +230,6 @@ perform Begin s values = begin_at s s.thread.depth (gone_on s values)
 perform End s values = end_at s s.thread.depth (gone_on s values)
 perform Update s values = goes_on s s.world values
 
--- whether a stop must wait: the lock of a mutex that another slot holds (a join waits by what `join` says)
-abbrev pub is_others : ℕ → Option ℕ → Bool
-is_others slot None = false
-is_others slot (Some holder) = not (holder == slot)
-
-abbrev pub must_wait : Stop → World → ℕ → Bool
-must_wait (Lock name) w slot = is_others slot (holder_of w name)
-must_wait _ w slot = false
-
 -- a stop with its use, which is made on behalf of the frame's version
 abbrev pub with_use : Stop → World → ℕ → Thread → Frame → List Frame → Option Bytes → Option World
 with_use s w t th f below None =
@@ -248,9 +239,9 @@ with_use s w t th f below (Some name) =
     (λ user. perform s (record { world = w; slot = t; thread = user; frame = f; below = below }) f.values)
 
 abbrev pub stop_made : Stop → World → ℕ → Thread → Frame → List Frame → Option World
-stop_made s w t th f below = if must_wait s w t then None else with_use s w t th f below (use_at s)
+stop_made s w t th f below = with_use s w t th f below (use_at s)
 
--- behind the local evaluation of the innermost frame: the stop, or the trap
+-- after the local evaluation of the innermost frame: the stop, or the trap
 abbrev pub behind : World → ℕ → Thread → Frame → List Frame → Halt → Option World
 behind w t th f below (Stopped s n rest values scopes) =
     stop_made s w t th (record f { standing = n; pieces = rest; values = values; scopes = scopes }) below
@@ -285,6 +276,6 @@ move_of w t (Live th) = thread_move w t th th.entering
 move_of w t world.Free = None
 move_of w t (Over serial result) = None
 
--- the move of the thread in slot t; none where it can't move
+-- the move of the thread in slot t; none where it can't move, since the run is over, it waits or it has nothing to do
 abbrev pub move : World → ℕ → Option World
-move w t = if is_over w then None else move_of w t (in_slot w t)
+move w t = if is_over w || must_wait w t then None else move_of w t (in_slot w t)

@@ -1,14 +1,14 @@
 -- Which texts aren't patches of the versions so far.
-use Rattle.std.specs.Prelude.{ℕ, ◌==◌, nat_le, nat_lt, Bool, false, not, ◌||◌, List, [], ◌∷◌, ◌++◌, find, flat_map, length, Option, Some, None, option_map, if◌then◌else◌}
+use Rattle.std.specs.Prelude.{ℕ, suc, ◌==◌, nat_le, nat_lt, Bool, false, not, ◌||◌, List, [], ◌∷◌, ◌++◌, find, flat_map, length, Option, Some, None, option_map, if◌then◌else◌}
 use Rattle.std.specs.Option.{option_or}
 use Rattle.c_tree.specs.BareExpr.{Bytes}
 use Rattle.c_tree.specs.BareDef.{BareDef, Mutex, Function, Global, Array}
-use Rattle.c_semantics.specs.Names.{name_set}
+use Rattle.name_sets.specs.NameLists.{name_set}
 use Rattle.c_semantics.specs.Texts.{definition, names}
 use Rattle.source_model.specs.declared.patch.NotPatch.{NotPatch}
 use Rattle.source_model.specs.declared.patch.NotPatch.TheVariants.{Versions, Names, Kind, Transform, StoreFull}
-use Rattle.source_model.specs.Texts.{Text}
-use Rattle.source_model.specs.Store.{Body, store, all_check_ins, all_tokens}
+use Rattle.c_semantics.specs.SourceTexts.{Text}
+use Rattle.c_semantics.specs.Store.{Body, brought_bodies, all_check_ins, all_tokens}
 
 -- the limits
 abbrev pub version_limit : ℕ
@@ -49,10 +49,6 @@ other_kind p q = find (λ z. other_sort (definition p z) (definition q z)) (name
 abbrev pub all_names : List Text → List Bytes
 all_names texts = name_set (flat_map (λ t. names t.definitions) texts)
 
--- the bodies of the versions so far, and of a text that would follow them
-abbrev pub larger_store : List Text → Text → List Body
-larger_store versions q = store (versions ++ q ∷ [])
-
 abbrev pub is_full : List Body → Bool
 is_full bodies = nat_lt check_in_limit (all_check_ins bodies) || nat_lt token_limit (all_tokens bodies)
 
@@ -60,13 +56,14 @@ is_full bodies = nat_lt check_in_limit (all_check_ins bodies) || nat_lt token_li
 abbrev pub cause_if : Bool → NotPatch → Option NotPatch
 cause_if test cause = if test then Some cause else None
 
--- the first cause for which a text isn't a patch, where there is one. The place of its first transformer that doesn't
--- fit its old and new definitions is told by `wrong`
-abbrev pub not_patch : (List BareDef → Text → Option ℕ) → List Text → Text → Option NotPatch
-not_patch wrong versions q =
+-- the first cause for which a text isn't a patch, where there is one, over the bodies so far. The place of its first
+-- transformer that doesn't fit its old and new definitions is that of `wrong`
+abbrev pub not_patch : (List BareDef → Text → Option ℕ) → List Body → List Text → Text → Option NotPatch
+not_patch wrong bodies versions q =
     let p = last_definitions versions in
-    option_or (cause_if (nat_le version_limit (length versions)) Versions)
+    let n = length versions in
+    option_or (cause_if (nat_le version_limit n) Versions)
     (option_or (cause_if (nat_lt name_limit (length (all_names (versions ++ q ∷ [])))) Names)
     (option_or (option_map Kind (other_kind p q.definitions))
     (option_or (option_map Transform (wrong p q))
-    (cause_if (is_full (larger_store versions q)) StoreFull))))
+    (cause_if (is_full (bodies ++ brought_bodies (suc n) p q)) StoreFull))))

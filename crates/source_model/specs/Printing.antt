@@ -21,7 +21,7 @@ abbrev pub shown : List Value → List ℕ
 shown (Number n ∷ vs) = signed_decimal (value_of n)
 shown _ = []
 
--- the arguments behind the first
+-- the arguments after the first
 abbrev pub others : List Value → List Value
 others [] = []
 others (v ∷ vs) = vs

@@ -5,7 +5,7 @@ use Rattle.std.specs.List.{list_any, range_with_len}
 use Rattle.bytecode.specs.declared.trap.TrapKind.{TrapKind}
 use Rattle.c_tree.specs.BareDef.{BareDef}
 use Rattle.c_semantics.specs.Threads.{Record, Thread}
-use Rattle.source_model.specs.Worlds.{World, Slot, Live, Free, Over, Finish, Closed, Limits, is_over, first_world}
+use Rattle.source_model.specs.Worlds.{World, Slot, Live, Free, Over, Finish, Closed, Limits, is_over, alive_in, first_world}
 use Rattle.source_model.specs.Worlds as world
 use Rattle.source_model.specs.Moves.{move}
 use Rattle.source_model.specs.Installs.{installed}
@@ -25,7 +25,7 @@ pub data State : Type 0 where
   Stuck : State
   Going : State
 
--- a text installed, where there is one
+-- a text installed, where there is one; not in a world that is over
 abbrev pub install : World → Option (List BareDef) → Option World
 install w None = None
 install w (Some q) = if is_over w then None else Some (installed q w)
@@ -40,13 +40,17 @@ abbrev pub run : List (List BareDef) → List SourceMove → World → Option Wo
 run texts [] w = Some w
 run texts (m ∷ ms) w = option_and_then (run texts ms) (step texts m w)
 
--- whether a thread lives in a slot
+-- whether a thread is in a slot that hasn't ended
 abbrev pub is_live : Slot → Bool
 is_live Free = false
 is_live (Live th) = true
 is_live (Over serial result) = false
 
--- whether a thread lives
+-- whether a thread lives in slot t; none does once main has returned
+abbrev pub lives : World → ℕ → Bool
+lives w t = is_live (alive_in w t)
+
+-- whether a slot has a thread that hasn't ended
 abbrev pub some_lives : World → Bool
 some_lives w = list_any is_live w.slots
 
@@ -83,7 +87,7 @@ open_of Free = None
 open_of (Live th) = open_of_thread th th.depth
 open_of (Over serial result) = None
 
--- what a run gives: the world behind the moves, what was printed, whether a definition was misused, all records that
+-- what a run gives: the world after the moves, what was printed, whether a definition was misused, all records that
 -- were closed and those that are open, and the state
 pub record Result : Type 0 where
   pub world : World

@@ -1,35 +1,20 @@
 -- The uses of names: when one is a misuse, and the record of a transaction.
 use Rattle.std.specs.Prelude.{◌≡◌, ℕ, zero, suc, Bool, true, [], ◌∷◌, ◌++◌, Contains, All, slice_get, Option, Some, None, unwrap_or, if◌then◌else◌}
+use Rattle.bytecode.specs.Skeleton.{PointKind, Call, direct_use}
 use Rattle.c_tree.specs.BareExpr.{Bytes}
 use Rattle.c_semantics.specs.Changes.{same_interface, agree}
-use Rattle.c_semantics.specs.Stops.{Stop, ReadGlobal, WriteGlobal, ReadElement, WriteElement, ReadField, WriteField, New, Free, Print, InitMutex, Lock, Unlock, Spawn, Join, Call, Return, Back, Begin, End, Update}
-use Rattle.c_semantics.specs.Names.{struct_name}
+use Rattle.c_semantics.specs.Stops.{Stop, kind_of}
 use Rattle.c_semantics.specs.Threads.{Use, Record, Thread}
 use Rattle.source_model.specs.Versions.{Entry, Table, entries_of, entry_in, in_version, current}
 use Rattle.source_model.specs.Worlds.{World}
 
--- the name that a stop uses, if it uses one; a called function is used at its enter, a spawned one at the spawn
+-- the name that the move to a stop uses, if it uses one: a called function is used at its enter, a spawned one at the spawn
+abbrev pub use_at_kind : PointKind → Option Bytes
+use_at_kind (Call name) = None
+use_at_kind kind = direct_use kind
+
 abbrev pub use_at : Stop → Option Bytes
-use_at (ReadGlobal name) = Some name
-use_at (WriteGlobal name) = Some name
-use_at (ReadElement name) = Some name
-use_at (WriteElement name) = Some name
-use_at (ReadField tag field) = Some (struct_name tag)
-use_at (WriteField tag field) = Some (struct_name tag)
-use_at (New tag) = Some (struct_name tag)
-use_at (Free tag) = Some (struct_name tag)
-use_at (InitMutex name) = Some name
-use_at (Lock name) = Some name
-use_at (Unlock name) = Some name
-use_at (Spawn name) = Some name
-use_at (Print format arguments) = None
-use_at Join = None
-use_at (Call name arguments) = None
-use_at Return = None
-use_at Back = None
-use_at Begin = None
-use_at End = None
-use_at Update = None
+use_at s = use_at_kind (kind_of s)
 
 -- a use of a name on behalf of version n is right where the name has a current definition whose interface is the one
 -- that it has in version n

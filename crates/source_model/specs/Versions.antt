@@ -5,7 +5,7 @@ use Rattle.std.specs.Option.{option_map_or}
 use Rattle.std.specs.List.{list_any}
 use Rattle.c_tree.specs.BareExpr.{Bytes}
 use Rattle.c_tree.specs.BareDef.{BareDef}
-use Rattle.c_semantics.specs.Names.{name_set, is_among}
+use Rattle.name_sets.specs.NameLists.{name_set, is_among}
 use Rattle.c_semantics.specs.Texts.{Definitions, definition, names}
 use Rattle.c_semantics.specs.Changes.{changed}
 

@@ -1,11 +1,11 @@
--- What a thread waits for.
-use Rattle.std.specs.Prelude.{◌≡◌, ℕ, ◌==◌, Bool, false, List, [], ◌∷◌, Option, Some, None, if◌then◌else◌}
+-- What a thread waits for. A thread that waits can't move.
+use Rattle.std.specs.Prelude.{ℕ, ◌==◌, Bool, false, List, [], ◌∷◌, Option, Some, None, if◌then◌else◌}
+use Rattle.std.specs.Option.{is_some}
 use Rattle.c_tree.specs.BareExpr.{Bytes}
 use Rattle.c_semantics.specs.Stops.{Stop, Lock, Join}
 use Rattle.c_semantics.specs.Values.{ThreadRef, Value, Started}
 use Rattle.c_semantics.specs.Pieces.{Halt, Stopped}
 use Rattle.c_semantics.specs.Threads.{Frame, Enter, next_of}
-use Rattle.source_model.specs.Moves.{is_others, move}
 use Rattle.source_model.specs.Worlds.{World, Slot, Live, in_slot, holder_of}
 
 -- what is waited for
@@ -23,7 +23,7 @@ is_there named _ = false
 -- the mutex that a lock waits for: another slot holds it
 abbrev pub held_by : Bytes → ℕ → Option ℕ → Option Waiting
 held_by name slot None = None
-held_by name slot (Some holder) = if is_others slot (Some holder) then Some (ForMutex name holder) else None
+held_by name slot (Some holder) = if holder == slot then None else Some (ForMutex name holder)
 
 -- the thread that a join waits for: it lives
 abbrev pub joined : World → List Value → Option Waiting
@@ -36,14 +36,14 @@ at_stop (Lock name) w slot values = held_by name slot (holder_of w name)
 at_stop Join w slot values = joined w values
 at_stop _ w slot values = None
 
--- behind the private work of its innermost frame
-abbrev pub waits_behind : Halt → World → ℕ → Option Waiting
-waits_behind (Stopped s n rest values scopes) w slot = at_stop s w slot values
-waits_behind _ w slot = None
+-- after the private work of its innermost frame
+abbrev pub waits_after : Halt → World → ℕ → Option Waiting
+waits_after (Stopped s n rest values scopes) w slot = at_stop s w slot values
+waits_after _ w slot = None
 
 abbrev pub waits_in_frames : List Frame → World → ℕ → Option Waiting
 waits_in_frames [] w slot = None
-waits_in_frames (f ∷ below) w slot = waits_behind (next_of f) w slot
+waits_in_frames (f ∷ below) w slot = waits_after (next_of f) w slot
 
 -- an enter that is due waits for nothing
 abbrev pub waits_in_thread : Option Enter → List Frame → World → ℕ → Option Waiting
@@ -59,6 +59,6 @@ waits_of _ w slot = None
 abbrev pub waits_for : World → ℕ → Option Waiting
 waits_for w slot = waits_of (in_slot w slot) w slot
 
--- who waits can't move
-abbrev pub WaitersStand : Type 0
-WaitersStand = (w : World) (slot : ℕ) (what : Waiting) → waits_for w slot ≡ Some what → move w slot ≡ None
+-- whether it waits for something
+abbrev pub must_wait : World → ℕ → Bool
+must_wait w slot = is_some (waits_for w slot)

@@ -1,5 +1,5 @@
 -- The state of the source machine.
-use Rattle.std.specs.Prelude.{ℕ, ◌-◌, Bool, false, not, ◌||◌, ℤ, List, [], ◌∷◌, map, filter, filter_map, find, replicate, count_by, Option, Some, None, option_map, bytes_eq, codes, slice_index_or, slice_set, if◌then◌else◌}
+use Rattle.std.specs.Prelude.{ℕ, ◌-◌, Bool, true, false, not, ◌||◌, ℤ, List, [], ◌∷◌, filter, filter_map, find, replicate, count_by, Option, Some, None, option_map, bytes_eq, codes, slice_index_or, slice_set, if◌then◌else◌}
 use Rattle.std.specs.Option.{option_map_or, is_some}
 use Rattle.bytecode.specs.declared.trap.TrapKind.{TrapKind}
 use Rattle.c_tree.specs.BareExpr.{Bytes}
@@ -79,6 +79,16 @@ is_over w = w.misused || is_some w.finish
 -- what is in a slot; nothing is in a slot that isn't there
 abbrev pub in_slot : World → ℕ → Slot
 in_slot w t = slice_index_or w.slots t Free
+
+-- whether main returned, which ends all threads; what is in the slots stays there, with the records that are open
+abbrev pub is_finished : Option Finish → Bool
+is_finished (Some (Finished r)) = true
+is_finished (Some (Trapped kind t)) = false
+is_finished None = false
+
+-- what is in a slot as long as threads live
+abbrev pub alive_in : World → ℕ → Slot
+alive_in w t = if is_finished w.finish then Free else in_slot w t
 
 -- a slot changed
 abbrev pub with_slot : ℕ → Slot → World → World

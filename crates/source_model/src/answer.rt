@@ -10,7 +10,7 @@ pub enum OfferAnswer {
     Refused(Refusal),
     /// It was no patch for the version in force, and nothing changed.
     NotPatch(NotPatch),
-    /// It was closed with nothing changed. A run does so for want of memory alone, and a replay where its journal says so.
+    /// It was closed with nothing changed. A run does so only when out of memory, and a replay where its journal says so.
     Withdrawn,
     /// It was never opened, or was still open when the run ended.
     NotOffered,

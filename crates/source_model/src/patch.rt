@@ -1,6 +1,6 @@
 use dsu_io::Text;
 
-/// Why a text that is offered is no patch. The causes are asked in this order, and the first one is told.
+/// Why a text that is offered is no patch. The causes are asked in this order, and the first one is reported.
 #[derive(Debug, Drop)]
 pub enum NotPatch {
     /// There are as many versions as there may be.

@@ -18,7 +18,7 @@ as_long : (k : ℕ) → length (replicate k world.Free) ≡ length (replicate k 
 as_long zero = refl
 as_long (suc k) = ap suc (as_long k)
 
--- the slots behind the first are free
+-- the slots after the first are free
 free_at : (text : List BareDef) (t : Table) (k n : ℕ)
     → IsSlot text t false (slot_at (replicate k Free) n) (slice_index_or (replicate k world.Free) n world.Free)
 free_at text t zero zero = refl

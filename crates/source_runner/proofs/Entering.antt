@@ -32,7 +32,7 @@ bind_at t (p ∷ ps) (v ∷ vs) zero d l = refl
 bind_at t (p ∷ ps) [] (suc k) d l = ap (bind (drop k (bindings_of t ps))) (sym (drop_none k)) ∙ bind_at t ps [] k d (omega arith)
 bind_at t (p ∷ ps) (v ∷ vs) (suc k) d l = bind_at t ps vs k d (omega arith)
 
--- behind the last parameter there is none
+-- after the last parameter there is none
 pub bound_none : (t : Table) (ls more : List Local) (ps : List Binding) (vs : List Value) → more ≡ ls ++ Block ∷ []
     → scopes_of t more ≡ bind (drop (length ps) (bindings_of t ps)) (drop (length ps) vs) ∷ scopes_of t ls
 bound_none t ls more ps vs e =
@@ -57,7 +57,7 @@ bound_more t ls more ps vs left d v below e some within is before =
     ∙ ap (λ n. (variable t p vs (left - 1) ∷ bind (drop n (bindings_of t ps)) (drop n vs)) ∷ below) next
     ∙ sym (ap (λ xs. xs ∷ below) (bind_at t ps vs (left - 1) d (omega arith)))
 
--- what follows from what is told of a success
+-- what follows from what is reported of a success
 pub ok_as : {A E : Type 0} {P Q : Type 0} (r : Result A E) → OnOk r P → (P → Q) → OnOk r Q
 ok_as (Ok x) p f = f p
 ok_as (Err e) p f = tt

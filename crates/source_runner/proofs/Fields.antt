@@ -19,7 +19,7 @@ use Rattle.local_evaluation.specs.declared.value.Value.TheVariants.{Number, Refe
 use Rattle.source_runner.specs.declared.store.Field.{Field}
 use Rattle.source_runner.specs.declared.store.Object.{Object}
 use Rattle.source_runner.specs.declared.store.Store.{Store}
-use Rattle.source_runner.specs.declared.perform.Did.TheVariants.{On, Trap, Nothing}
+use Rattle.source_runner.specs.declared.shared_stops.Did.TheVariants.{On, Trap, Nothing}
 use Rattle.resolved_tree.specs.Nodes.{Table, word}
 use Rattle.local_evaluation.specs.Values.{seen, seen_object}
 use Rattle.source_runner.specs.Stores.{Performs, standing_with, with_store, field_of, fields_of, object_of, objects_of}

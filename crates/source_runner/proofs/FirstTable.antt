@@ -11,7 +11,7 @@ use Rattle.c_ints.specs.declared.kind.Kind.TheVariants.{I8, U8, I16, U16, I32, U
 use Rattle.c_ints.specs.Number.{value_of}
 use Rattle.c_tree.specs.BareExpr.{Bytes, BareType, Integer, Handle, Thread}
 use Rattle.c_tree.specs.BareDef.{BareBinding, BareDef, Struct, Forward, Mutex, Function, Prototype, Global, Array, TransformStruct, TransformGlobal}
-use Rattle.c_semantics.specs.Names.{with_name, name_set, is_among, precedes}
+use Rattle.name_sets.specs.NameLists.{with_name, name_set, is_among, precedes}
 use Rattle.c_semantics.specs.Texts.{defined, definition, names}
 use Rattle.c_semantics.specs.Same.{same_kind, same_type, same_binding, same_list, same_option}
 use Rattle.c_semantics.specs.Changes.{same_interface, agree}

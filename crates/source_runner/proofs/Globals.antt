@@ -20,7 +20,7 @@ use Rattle.c_semantics.specs.Transformers.{first_cell}
 use Rattle.local_evaluation.specs.declared.value.Value.{Value}
 use Rattle.local_evaluation.specs.declared.value.Value.TheVariants.{Number as NumberIs, Reference, Started}
 use Rattle.source_runner.specs.declared.store.Store.{Store}
-use Rattle.source_runner.specs.declared.perform.Did.TheVariants.{On, Trap, Nothing}
+use Rattle.source_runner.specs.declared.shared_stops.Did.TheVariants.{On, Trap, Nothing}
 use Rattle.source_runner.specs.declared.store.Cells.{Cells}
 use Rattle.resolved_tree.specs.Nodes.{Table, word}
 use Rattle.local_evaluation.specs.Values.{seen}

@@ -10,7 +10,7 @@ use Rattle.source_model.specs.Moves.{initialise, lock, unlock, goes_on, traps}
 use Rattle.local_evaluation.specs.declared.value.Value.{Value}
 use Rattle.source_runner.specs.declared.store.Store.{Store}
 use Rattle.source_runner.specs.declared.store.Held.{Held}
-use Rattle.source_runner.specs.declared.perform.Did.TheVariants.{On, Trap}
+use Rattle.source_runner.specs.declared.shared_stops.Did.TheVariants.{On, Trap}
 use Rattle.resolved_tree.specs.Nodes.{Table}
 use Rattle.local_evaluation.specs.Work.{newest}
 use Rattle.source_runner.specs.Stores.{Performs, standing_with, with_store, holders_of, held_of}

@@ -15,72 +15,58 @@ use Rattle.source_runner.specs.declared.thread.Thread.{Thread}
 use Rattle.source_runner.specs.declared.thread.Frame.{Frame}
 use Rattle.source_runner.specs.declared.thread.Slot.{Slot}
 use Rattle.source_runner.specs.declared.thread.Slot.TheVariants.{Free, Live, Over}
-use Rattle.source_runner.specs.declared.moves.Joined.{Joined}
-use Rattle.source_runner.specs.declared.moves.Joined.TheVariants.{Result, Waits, None as NoThread}
 use Rattle.source_runner.specs.declared.machine.Machine.{Machine}
 use Rattle.resolved_tree.specs.Nodes.{Table}
 use Rattle.source_runner.specs.Programs.{table_of}
-use Rattle.source_runner.specs.Joins.{asked, of_slot}
+use Rattle.source_runner.specs.Joins.{result_in, result_of}
 use Rattle.local_evaluation.specs.Values.{seen, seen_thread}
 use Rattle.local_evaluation.specs.Work.{newest}
 use Rattle.source_runner.specs.Machines.{IsSlot, StandsBut, slot_at, standing_at}
 use Rattle.source_runner.proofs.Spawns.{nat_dec}
 
--- what the definitions make of what the slot says
-abbrev pub joins : Joined → Standing → ℕ → List Seen → Option World
-joins (Result v) s place values = goes_on s (with_slot place world.Free s.world) (seen v ∷ values)
-joins Waits s place values = None
-joins NoThread s place values = traps s NotJoined
+-- what the definitions make of the result that was found, if one was
+abbrev pub joins : Option Value → Standing → ℕ → List Seen → Option World
+joins (Some v) s place values = goes_on s (with_slot place world.Free s.world) (seen v ∷ values)
+joins None s place values = traps s NotJoined
 
-by_serial : (a : Joined) (s : Standing) (place : ℕ) (values : List Seen) (b : Bool)
-    → (if b then joins a s place values else traps s NotJoined) ≡ joins (if b then a else NoThread) s place values
-by_serial a s place values true = refl
-by_serial a s place values false = refl
+by_serial : (v : Value) (s : Standing) (place : ℕ) (values : List Seen) (b : Bool)
+    → (if b then joins (Some v) s place values else traps s NotJoined) ≡ joins (if b then Some v else None) s place values
+by_serial v s place values true = refl
+by_serial v s place values false = refl
 
 -- a slot
-pub joins_slot : (text : List BareDef) (t : Table) (over : Bool) (x : Slot) (o : world.Slot) (s : Standing) (named : ThreadRef) (values : List Seen)
-    → IsSlot text t over x o → join_slot s (seen_thread named) values o ≡ joins (of_slot x named.serial) s named.slot values
+joins_slot : (text : List BareDef) (t : Table) (over : Bool) (x : Slot) (o : world.Slot) (s : Standing) (named : ThreadRef) (values : List Seen)
+    → IsSlot text t over x o → join_slot s (seen_thread named) values o ≡ joins (result_in x named.serial) s named.slot values
 joins_slot text t over Free o s named values is = ap (join_slot s (seen_thread named) values) is
 joins_slot text t over (Over ended v) o s named values is =
-    ap (join_slot s (seen_thread named) values) is ∙ by_serial (Result v) s named.slot values (ended == named.serial)
-joins_slot text t over (Live th n) o s named values (m, is, th_is) =
-    ap (join_slot s (seen_thread named) values) is
-    ∙ ap (λ k. if k == named.serial then None else traps s NotJoined) th_is.serial
-    ∙ by_serial Waits s named.slot values (th.serial == named.serial)
+    ap (join_slot s (seen_thread named) values) is ∙ by_serial v s named.slot values (ended == named.serial)
+joins_slot text t over (Live th n) o s named values (m, is, h) = ap (join_slot s (seen_thread named) values) is
 
--- what was asked
-pub joins_asked : (m : Machine) (slot : ℕ) (w : World) (before user : SeenThread) (th : Thread) (f : Frame) (point : ℕ) (named : ThreadRef) (values : List Seen)
-    → StandsBut m slot w before → before.serial ≡ th.serial
+-- the slot of a named thread
+joins_named : (m : Machine) (slot : ℕ) (w : World) (before user : SeenThread) (th : Thread) (f : Frame) (point : ℕ) (named : ThreadRef) (values : List Seen)
+    → StandsBut m slot w before
     → join_slot (standing_at (table_of m.program) w slot th f point user) (seen_thread named) values (in_slot w named.slot)
-    ≡ joins (asked m.slots.items slot th.serial named) (standing_at (table_of m.program) w slot th f point user) named.slot values
-joins_asked m slot w before user th f point named values h same = by (nat_dec named.slot slot)
+    ≡ joins (result_of m.slots.items slot named) (standing_at (table_of m.program) w slot th f point user) named.slot values
+joins_named m slot w before user th f point named values h = by (nat_dec named.slot slot)
   where
     s : Standing
     s = standing_at (table_of m.program) w slot th f point user
 
-    own : Joined
-    own = if th.serial == named.serial then Waits else NoThread
+    other : Option Value
+    other = result_in (slot_at m.slots.items named.slot) named.serial
 
-    other : Joined
-    other = of_slot (slot_at m.slots.items named.slot) named.serial
-
-    is_same : named.slot ≡ slot → (named.slot == slot) ≡ true
-    is_same e = eq-eqb named.slot slot e
-
-    is_other : (named.slot ≡ slot → ⊥) → (named.slot == slot) ≡ false
-    is_other e = ne_eqb named.slot slot e
+    answer : Bool → Option World
+    answer b = joins (if b then None else other) s named.slot values
 
     by : (named.slot ≡ slot) ⊎ (named.slot ≡ slot → ⊥)
-        → join_slot s (seen_thread named) values (in_slot w named.slot) ≡ joins (asked m.slots.items slot th.serial named) s named.slot values
+        → join_slot s (seen_thread named) values (in_slot w named.slot) ≡ joins (result_of m.slots.items slot named) s named.slot values
     by (inl e) =
         ap (λ k. join_slot s (seen_thread named) values (in_slot w k)) e
         ∙ ap (join_slot s (seen_thread named) values) h.own
-        ∙ ap (λ k. if k == named.serial then None else traps s NotJoined) same
-        ∙ by_serial Waits s named.slot values (th.serial == named.serial)
-        ∙ ap (λ b. joins (if b then own else other) s named.slot values) (sym (is_same e))
+        ∙ ap answer (sym (eq-eqb named.slot slot e))
     by (inr apart) =
         joins_slot _ _ _ (slot_at m.slots.items named.slot) (in_slot w named.slot) s named values (h.others named.slot apart)
-        ∙ ap (λ b. joins (if b then own else other) s named.slot values) (sym (is_other apart))
+        ∙ ap answer (sym (ne_eqb named.slot slot apart))
 
 -- the result in place of the handle
 pub taken_result : (s : Standing) (place : ℕ) (v : Value) (rest after : List Seen) → after ≡ seen v ∷ rest
@@ -88,32 +74,28 @@ pub taken_result : (s : Standing) (place : ℕ) (v : Value) (rest after : List S
 taken_result s place v rest after e = ap (goes_on s (with_slot place world.Free s.world)) (sym e)
 
 -- a result is another thread's
-pub result_apart : (ss items : List Slot) (slot own : ℕ) (named : ThreadRef) (a : Joined) (v : Value) → a ≡ asked ss slot own named → a ≡ Result v
+pub result_apart : (ss : List Slot) (slot : ℕ) (named : ThreadRef) (a : Option Value) (v : Value) → a ≡ result_of ss slot named → a ≡ Some v
     → named.slot ≡ slot → ⊥
-result_apart ss items slot own named a v at is e = no (own == named.serial) (sym own_answer ∙ sym at ∙ is)
+result_apart ss slot named a v at is e = no (ap answer (sym (eq-eqb named.slot slot e)) ∙ sym at ∙ is)
   where
-    answer : Bool → Joined
-    answer b = if b then (if own == named.serial then Waits else NoThread) else of_slot (slot_at ss named.slot) named.serial
+    answer : Bool → Option Value
+    answer b = if b then None else result_in (slot_at ss named.slot) named.serial
 
-    own_answer : asked ss slot own named ≡ (if own == named.serial then Waits else NoThread)
-    own_answer = ap answer (eq-eqb named.slot slot e)
+    no : None ≡ Some v → ⊥
+    no z = cc
 
-    no : (b : Bool) → (if b then Waits else NoThread) ≡ Result v → ⊥
-    no true z = cc
-    no false z = cc
-
--- what the slots say of a slice
-pub asked_of : (ss items : List Slot) (slot own : ℕ) (named : ThreadRef) (a b : Joined) → ss ≡ items → a ≡ asked ss slot own named → a ≡ b
-    → asked items slot own named ≡ b
-asked_of ss items slot own named a b e at is = ap (λ xs. asked xs slot own named) (sym e) ∙ sym at ∙ is
+-- the result that was found in a slice of the slots
+pub found_in : (ss items : List Slot) (slot : ℕ) (named : ThreadRef) (a b : Option Value) → ss ≡ items → a ≡ result_of ss slot named → a ≡ b
+    → result_of items slot named ≡ b
+found_in ss items slot named a b e at is = ap (λ xs. result_of xs slot named) (sym e) ∙ sym at ∙ is
 
 -- the join as it was answered
 pub join_as : (m : Machine) (slot : ℕ) (w : World) (before user : SeenThread) (th : Thread) (f : Frame) (point : ℕ) (named : ThreadRef) (values : List Seen)
-    (a : Joined) → StandsBut m slot w before → before.serial ≡ th.serial → asked m.slots.items slot th.serial named ≡ a
+    (a : Option Value) → StandsBut m slot w before → result_of m.slots.items slot named ≡ a
     → join_slot (standing_at (table_of m.program) w slot th f point user) (seen_thread named) values (in_slot w named.slot)
     ≡ joins a (standing_at (table_of m.program) w slot th f point user) named.slot values
-join_as m slot w before user th f point named values a h same is =
-    joins_asked m slot w before user th f point named values h same
+join_as m slot w before user th f point named values a h is =
+    joins_named m slot w before user th f point named values h
     ∙ ap (λ x. joins x (standing_at (table_of m.program) w slot th f point user) named.slot values) is
 
 -- the newest value is a handle

@@ -1,5 +1,5 @@
+pub mod AfterMoves
 mod Beginning
-pub mod Behind
 mod Calls
 mod Defining
 mod Entering
@@ -17,6 +17,7 @@ mod Newest
 mod Performing
 mod Printing
 mod Ready
+mod Reported
 mod Running
 mod Seen
 mod Slots
@@ -25,6 +26,5 @@ mod Stopping
 mod Stored
 mod Taken
 mod Taking
-mod Told
 mod Transactions
 mod Waiting

@@ -8,8 +8,8 @@ use Rattle.source_model.specs.Worlds.{World, now}
 use Rattle.source_model.specs.Moves.{Standing, goes_on, perform}
 use Rattle.local_evaluation.specs.declared.value.Value.{Value}
 use Rattle.source_runner.specs.declared.store.Store.{Store}
-use Rattle.source_runner.specs.declared.perform.Did.{Did}
-use Rattle.source_runner.specs.declared.perform.Did.TheVariants.{On}
+use Rattle.source_runner.specs.declared.shared_stops.Did.{Did}
+use Rattle.source_runner.specs.declared.shared_stops.Did.TheVariants.{On}
 use Rattle.resolved_tree.specs.Nodes.{Table}
 use Rattle.local_evaluation.specs.Work.{newest}
 use Rattle.source_runner.specs.Stores.{Performs, standing_with, with_store}

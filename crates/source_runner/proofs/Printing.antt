@@ -9,7 +9,7 @@ use Rattle.source_model.specs.Moves.{arguments_of}
 use Rattle.source_model.specs.Printing.{printed}
 use Rattle.local_evaluation.specs.declared.value.Value.{Value}
 use Rattle.source_runner.specs.declared.store.Store.{Store}
-use Rattle.source_runner.specs.declared.perform.Did.TheVariants.{On}
+use Rattle.source_runner.specs.declared.shared_stops.Did.TheVariants.{On}
 use Rattle.resolved_tree.specs.Nodes.{Table}
 use Rattle.source_runner.specs.Stores.{Performs, with_store}
 use Rattle.local_evaluation.specs.Work.{newest}

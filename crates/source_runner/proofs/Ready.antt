@@ -1,4 +1,4 @@
--- A thread that stands behind a stop, with its private work done.
+-- A thread that comes after a stop, with its private work done.
 use Rattle.std.proofs.Common.{◌≡◌, Bool, List, Some, refl, subst}
 use Rattle.c_tree.specs.BareDef.{BareDef}
 use Rattle.c_semantics.specs.Threads.{Thread as SeenThread}

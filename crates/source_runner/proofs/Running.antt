@@ -21,7 +21,7 @@ use Rattle.source_runner.specs.Listed.{closed_span, span_of, spans_from, spans_o
 use Rattle.source_runner.specs.Machines.{AreClosed, Stands, Came as MachineCame}
 use Rattle.source_runner.specs.Programs.{text_of}
 use Rattle.source_runner.specs.SourceRuns.{Came, IsRun, Steps}
-use Rattle.source_runner.proofs.Behind.{then_move}
+use Rattle.source_runner.proofs.AfterMoves.{then_move}
 use Rattle.source_runner.proofs.Listing.{spans_are}
 
 -- the slots of the closed records
@@ -73,7 +73,7 @@ listable old new w after slot spans counted h moved g small count listed = recor
     version : version_of old ≡ version_of new
     version = ap current (sym h.all.table ∙ sym keeps.same_table ∙ g.all.table)
 
--- the world behind a move that was made
+-- the world after a move that was made
 pub record IsMade (m : Machine) (w : World) (slot : ℕ) : Type 0 where
   pub after : World
   pub moved : move w slot ≡ Some after

@@ -200,7 +200,7 @@ free_at ss items o found e at is = sym (ap (position is_free_slot) e) ∙ sym at
 pub free_there : (ss items : List Slot) (place : ℕ) → ss ≡ items → is_free_slot (slot_at ss place) ≡ true → is_free_slot (slot_at items place) ≡ true
 free_there ss items place e h = sym (ap (λ xs. is_free_slot (slot_at xs place)) e) ∙ h
 
--- the thread behind its spawn: what it has still to do, and the handle
+-- the thread after its spawn: what it has still to do, and the handle
 pub spawned : (m new : Machine) (slot : ℕ) (th : Thread) (f : Frame) (values : Vec Value Global) (point : ℕ) (w : World) (before user : SeenThread)
     (enter : SeenEnter) (ref : Option ThreadRef) → IsStarted new slot w before enter ref
     → newest values.items ≡ seen (Started ref) ∷ drop 1 (newest f.work.values.items)

@@ -1,4 +1,4 @@
--- From what a thread stands at to the move that the definitions make of it.
+-- From what a thread is at to the move that the definitions make of it.
 use Rattle.std.proofs.Common.{◌≡◌, ℕ, zero, suc, Bool, true, false, List, [], ◌∷◌, Option, Some, None, Result, refl, sym, ap, ap₂, subst, ◌∙◌, if◌then◌else◌, All}
 use Rattle.std.specs.Option.{option_map_or}
 use Rattle.std.specs.declared.alloc.AllocError.{AllocError}
@@ -13,10 +13,10 @@ use Rattle.c_semantics.specs.Threads.{Frame as SeenFrame, Record, Thread as Seen
 use Rattle.source_model.specs.Versions as versions
 use Rattle.source_model.specs.Versions.{first_table}
 use Rattle.bytecode.specs.declared.trap.TrapKind.{TrapKind}
-use Rattle.source_model.specs.Worlds.{World, Trapped, holder_of, is_over, with_thread}
+use Rattle.source_model.specs.Worlds.{World, Trapped, is_over, with_thread}
 use Rattle.source_model.specs.Worlds as world
 use Rattle.source_model.specs.Uses.{use_at, use_of, is_right, recorded, recorded_at, marked}
-use Rattle.source_model.specs.Moves.{behind, in_frames, is_others, must_wait, perform, stop_made, with_use}
+use Rattle.source_model.specs.Moves.{behind, in_frames, perform, stop_made, with_use}
 use Rattle.resolved_tree.specs.declared.words.Word.{Word}
 use Rattle.local_evaluation.specs.declared.piece.Stop.{Stop}
 use Rattle.local_evaluation.specs.declared.piece.Stop.TheVariants.{ReadGlobal, WriteGlobal, ReadElement, WriteElement, ReadField, WriteField, New, Free, Print, InitMutex, Lock, Unlock, Spawn, Join, Call, Return, Back, Begin, End, Update}
@@ -27,14 +27,14 @@ use Rattle.source_runner.specs.declared.thread.Next.{Next}
 use Rattle.source_runner.specs.declared.thread.Next.TheVariants as next
 use Rattle.source_runner.specs.declared.thread.Thread.{Thread}
 use Rattle.source_runner.specs.declared.machine.Machine.{Machine}
-use Rattle.resolved_tree.specs.Nodes.{Table, word}
-use Rattle.source_runner.specs.Stores.{is_threads, with_store}
+use Rattle.resolved_tree.specs.Nodes.{Table}
+use Rattle.source_runner.specs.Stores.{is_threads}
 use Rattle.local_evaluation.specs.Pieces.{pending, stop_of}
 use Rattle.local_evaluation.specs.Work.{newest, scopes_of, went}
 use Rattle.source_runner.specs.Programs.{text_of, table_of}
 use Rattle.source_runner.proofs.FirstUse.{first_use}
 use Rattle.source_runner.proofs.Halted.{with_same}
-use Rattle.source_runner.specs.Machines.{Moves, IsAtStop, IsFrame, IsOfFirst, IsThread, IsUser, StandsBut, StandsFor, frame_at, standing_at}
+use Rattle.source_runner.specs.Machines.{Moves, IsAtStop, IsFrame, IsOfFirst, IsThread, IsUser, StandsBut, frame_at, standing_at}
 use Rattle.source_runner.specs.Frames.{frames_of}
 
 -- an answer, by what the definitions make of the move
@@ -42,19 +42,9 @@ pub moves_as : (m : Machine) (w : World) (r : Result Bool AllocError) (o other :
     → Moves m w r other → Moves m w r o
 moves_as m w r o other e h = subst (λ x. Moves m w r x) (sym e) h
 
--- ---- a stop, its wait and its use
+-- ---- a stop and its use
 
-pub waits : (s : SeenStop) (w : World) (slot : ℕ) (th : SeenThread) (f : SeenFrame) (below : List SeenFrame)
-    → must_wait s w slot ≡ true → stop_made s w slot th f below ≡ None
-waits s w slot th f below e =
-    let by : Bool → Option World = λ b. if b then None else with_use s w slot th f below (use_at s) in ap by e
-
-pub need_not_wait : (s : SeenStop) (w : World) (slot : ℕ) (th : SeenThread) (f : SeenFrame) (below : List SeenFrame)
-    → must_wait s w slot ≡ false → stop_made s w slot th f below ≡ with_use s w slot th f below (use_at s)
-need_not_wait s w slot th f below e =
-    let by : Bool → Option World = λ b. if b then None else with_use s w slot th f below (use_at s) in ap by e
-
--- the thread behind the use of a stop
+-- the thread after the use of a stop
 abbrev pub user_of : World → SeenThread → Option Bytes → SeenThread
 user_of w th None = th
 user_of w th (Some name) = recorded w.table name th
@@ -83,17 +73,6 @@ right_use s w slot th f below (Some name) e =
     let made = perform s (record { world = w; slot = slot; thread = user; frame = f; below = below }) f.values in
     let by : Bool → Option World = λ b. if b then made else Some (marked w) in ap by e
 
--- the lock of a mutex whose holder was found
-pub lock_waits : (m : Machine) (w : World) (slot : ℕ) (stop : Stop) (t : Table) (name : Word) (holder : Option ℕ) → StandsFor m w
-    → stop ≡ Lock name → t ≡ table_of m.program → holder ≡ holder_of (with_store t m.store w) (word t name)
-    → is_others slot holder ≡ must_wait (stop_of (table_of m.program) stop) w slot
-lock_waits m w slot stop t name holder h is same found =
-    let waits_for : Option ℕ → Bool = λ o. is_others slot o in
-    let at : Table → Option ℕ = λ u. holder_of (with_store u m.store w) (word u name) in
-    let in_world : World → Option ℕ = λ v. holder_of v (word (table_of m.program) name) in
-    let at_stop : Stop → Bool = λ s. must_wait (stop_of (table_of m.program) s) w slot in
-    ap waits_for (found ∙ ap at same ∙ ap in_world (sym h.store)) ∙ ap at_stop (sym is)
-
 -- a thread that is put where it was, by the stop at which it stands
 pub thread_at : (text : List BareDef) (t : Table) (over : Bool) (th : Thread) (n other : Next) (own : SeenThread) → n ≡ other
     → IsThread text t over th n own → IsThread text t over th other own
@@ -106,7 +85,7 @@ recorded_uses text n zero uses name right h = h
 recorded_uses text n (suc depth) uses name right h = All-append (IsOfFirst text) uses (use_of (first_table text) name ∷ []) h
     (All-cons (IsOfFirst text) (use_of (first_table text) name) [] (first_use text n name right) (All-nil (IsOfFirst text)))
 
--- the thread behind a use that is right
+-- the thread after a use that is right
 pub user_stands : (text : List BareDef) (t : Table) (w : World) (th : Thread) (n : Next) (own : SeenThread) (version : ℕ) (u : Option Bytes)
     → w.table ≡ first_table text → own.entering ≡ None → IsThread text t false th n own → all_right w version u ≡ true
     → IsUser text th (user_of w own u)
@@ -122,7 +101,7 @@ user_stands text t w th n own version (Some name) table none h right = record {
   entering = none;
 }
 
--- a thread at a stop that needn't wait and whose use is right
+-- a thread at a stop whose use is right
 pub at_stop : (m : Machine) (slot : ℕ) (th : Thread) (f : Frame) (stop other : Stop) (point : ℕ) (w : World) (before : SeenThread)
     → stop ≡ other → StandsBut m slot w before → is_over w ≡ false
     → IsThread (text_of m.program) (table_of m.program) false th (next.Halt f (At stop point)) before
@@ -138,21 +117,19 @@ at_stop m slot th f stop other point w before e but going same right = record {
 -- the stop as the definitions make it
 pub stop_as : (m : Machine) (slot : ℕ) (th : Thread) (f : Frame) (stop other : Stop) (point : ℕ) (w : World) (before : SeenThread)
     → stop ≡ other
-    → must_wait (stop_of (table_of m.program) stop) w slot ≡ false
     → all_right w f.version (use_at (stop_of (table_of m.program) stop)) ≡ true
     → stop_made (stop_of (table_of m.program) stop) w slot before (frame_at (table_of m.program) f point) (frames_of (table_of m.program) th.below.items)
     ≡ perform (stop_of (table_of m.program) other)
     (standing_at (table_of m.program) w slot th f point (user_of w before (use_at (stop_of (table_of m.program) stop))))
     (newest f.work.values.items)
-stop_as m slot th f stop other point w before e waits_not right =
+stop_as m slot th f stop other point w before e right =
     let t = table_of m.program in
     let user = user_of w before (use_at (stop_of t stop)) in
     let made : Stop → Option World = λ s. perform (stop_of t s) (standing_at t w slot th f point user) (newest f.work.values.items) in
-    need_not_wait (stop_of t stop) w slot before (frame_at t f point) (frames_of t th.below.items) waits_not
-    ∙ right_use (stop_of t stop) w slot before (frame_at t f point) (frames_of t th.below.items) (use_at (stop_of t stop)) right
+    right_use (stop_of t stop) w slot before (frame_at t f point) (frames_of t th.below.items) (use_at (stop_of t stop)) right
     ∙ ap made e
 
--- ---- behind the private work
+-- ---- after the private work
 
 pub resumes : (t : Table) (w : World) (slot : ℕ) (th : SeenThread) (f : Frame) (halt : Halt) (below : List SeenFrame) (own : SeenFrame)
     → th.frames ≡ own ∷ below → IsFrame t f halt own

@@ -10,8 +10,8 @@ use Rattle.source_model.specs.Moves.{gone_on, perform}
 use Rattle.local_evaluation.specs.declared.value.Value.{Value}
 use Rattle.local_evaluation.specs.declared.piece.Stop.{Stop}
 use Rattle.source_runner.specs.declared.store.Store.{Store}
-use Rattle.source_runner.specs.declared.perform.Did.{Did}
-use Rattle.source_runner.specs.declared.perform.Did.TheVariants.{Nothing}
+use Rattle.source_runner.specs.declared.shared_stops.Did.{Did}
+use Rattle.source_runner.specs.declared.shared_stops.Did.TheVariants.{Nothing}
 use Rattle.local_evaluation.specs.declared.work.Halt.{Halt}
 use Rattle.source_runner.specs.declared.thread.Frame.{Frame}
 use Rattle.source_runner.specs.declared.thread.Next.{Next}
@@ -75,7 +75,7 @@ performed_as m slot th f stop point w before user did other new after h performs
 abbrev pub frame_then : Frame → ℕ → Vec Value Global → Frame
 frame_then f point values = record f { standing = point; work = record f.work { values = values } }
 
--- the thread behind it
+-- the thread after it
 pub went_on : (text : List BareDef) (t : Table) (th : Thread) (f : Frame) (values : Vec Value Global) (point : ℕ) (w : World) (slot : ℕ) (user : SeenThread)
     → IsUser text th user
     → IsReady text t th (frame_then f point values) (gone_on (standing_at t w slot th f point user) (newest values.items))

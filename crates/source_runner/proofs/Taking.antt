@@ -1,5 +1,5 @@
 -- A thread taken from its slot.
-use Rattle.std.proofs.Common.{◌≡◌, ℕ, zero, suc, ◌<◌, Bool, true, false, List, [], ◌∷◌, length, slice_set, Option, None, refl, sym, ap, subst, ◌∙◌, if◌then◌else◌}
+use Rattle.std.proofs.Common.{◌≡◌, ℕ, zero, suc, ◌<◌, Bool, true, false, ◌||◌, List, [], ◌∷◌, length, slice_set, Option, None, refl, sym, ap, subst, ◌∙◌, if◌then◌else◌}
 use Rattle.std.specs.Prelude.{Vec}
 use Rattle.std.specs.declared.alloc.Global.{Global}
 use Rattle.std.proofs.lemmas.List.{get_or-set_other, get_or-set_same, length-set}
@@ -7,6 +7,7 @@ use Rattle.c_semantics.specs.Threads.{Thread as SeenThread}
 use Rattle.source_model.specs.Worlds.{World, is_over, in_slot}
 use Rattle.source_model.specs.Worlds as world
 use Rattle.source_model.specs.Moves.{move, move_of}
+use Rattle.source_model.specs.Waits.{must_wait}
 use Rattle.local_evaluation.specs.declared.value.Value.TheVariants.{Started}
 use Rattle.source_runner.specs.declared.thread.Next.{Next}
 use Rattle.source_runner.specs.declared.thread.Thread.{Thread}
@@ -16,12 +17,16 @@ use Rattle.source_runner.specs.declared.machine.Machine.{Machine}
 use Rattle.source_runner.specs.Programs.{text_of, table_of}
 use Rattle.source_runner.specs.Machines.{IsSlot, Stands, StandsBut, slot_at}
 
--- nothing moves in a run that is over
-pub over_moves : (w : World) (slot : ℕ) → is_over w ≡ true → move w slot ≡ None
-over_moves w slot e = let by : Bool → Option World = λ b. if b then None else move_of w slot (in_slot w slot) in ap by e
+-- nothing moves in a run that is over, and no thread that waits
+pub stays : (w : World) (slot : ℕ) → (is_over w || must_wait w slot) ≡ true → move w slot ≡ None
+stays w slot e = let by : Bool → Option World = λ b. if b then None else move_of w slot (in_slot w slot) in ap by e
 
-pub going_moves : (w : World) (slot : ℕ) → is_over w ≡ false → move w slot ≡ move_of w slot (in_slot w slot)
-going_moves w slot e = let by : Bool → Option World = λ b. if b then None else move_of w slot (in_slot w slot) in ap by e
+pub goes : (w : World) (slot : ℕ) → (is_over w || must_wait w slot) ≡ false → move w slot ≡ move_of w slot (in_slot w slot)
+goes w slot e = let by : Bool → Option World = λ b. if b then None else move_of w slot (in_slot w slot) in ap by e
+
+pub neither : (a b : Bool) → (a || b) ≡ false → a ≡ false
+neither false b e = refl
+neither true b e = e
 
 -- a machine whose slots are written anew as they were
 pub stands_with : (m : Machine) (v : Vec Slot Global) (w : World) → v.items ≡ m.slots.items → Stands m w → Stands (record m { slots = v }) w

@@ -1,5 +1,5 @@
 -- What a lock waits for.
-use Rattle.std.proofs.Common.{◌≡◌, ℕ, Bool, not, Option, Some, None, if◌then◌else◌, sym, ap, ◌∙◌}
+use Rattle.std.proofs.Common.{◌≡◌, ℕ, Bool, Option, Some, None, if◌then◌else◌, sym, ap, ◌∙◌}
 use Rattle.c_tree.specs.BareExpr.{Bytes}
 use Rattle.source_model.specs.Waits.{ForMutex, Waiting, held_by}
 use Rattle.source_model.specs.Worlds.{World, holder_of}
@@ -23,12 +23,12 @@ holder_is m w t name holder h same found =
 pub others_hold : (name text : Bytes) (slot holder : ℕ) (found : Option ℕ) → text ≡ name → found ≡ Some holder
     → (holder ≡ slot → ⊥) → Some (ForMutex text holder) ≡ held_by name slot found
 others_hold name text slot holder found same is apart =
-    let by : Bool → Option Waiting = λ b. if not b then Some (ForMutex name holder) else None in
+    let by : Bool → Option Waiting = λ b. if b then None else Some (ForMutex name holder) in
     ap (λ n. Some (ForMutex n holder)) same ∙ sym (ap by (other_number holder slot apart)) ∙ ap (held_by name slot) (sym is)
 
 -- the slot itself holds it
 pub itself_holds : (name : Bytes) (slot holder : ℕ) (found : Option ℕ) → found ≡ Some holder → holder ≡ slot
     → None ≡ held_by name slot found
 itself_holds name slot holder found is same =
-    let by : Bool → Option Waiting = λ b. if not b then Some (ForMutex name holder) else None in
+    let by : Bool → Option Waiting = λ b. if b then None else Some (ForMutex name holder) in
     sym (ap by (same_number holder slot same)) ∙ ap (held_by name slot) (sym is)

@@ -6,7 +6,7 @@ use Rattle.resolved_tree.specs.Nodes.{Table, word}
 use Rattle.local_evaluation.specs.Pieces.{pending}
 use Rattle.local_evaluation.specs.Work.{newest, scopes_of}
 
--- a frame behind its last stop
+-- a frame after its last stop
 abbrev pub frame_of : Table → Frame → SeenFrame
 frame_of t f = record {
   function = word t f.function;

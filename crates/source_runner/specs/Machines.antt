@@ -116,7 +116,7 @@ pub record StandsBut (m : Machine) (slot : ℕ) (w : World) (before : SeenThread
   pub taken : slot_at m.slots.items slot ≡ Over 0 (Started None)
   pub own : in_slot w slot ≡ world.Live before
 
--- a thread whose frame stands behind a stop
+-- a thread whose frame is after a stop
 pub record IsReady (text : List BareDef) (t : Table) (th : Thread) (f : Frame) (own : SeenThread) : Type 0 where
   pub serial : own.serial ≡ th.serial
   pub depth : own.depth ≡ th.depth
@@ -135,7 +135,7 @@ pub record IsUser (text : List BareDef) (th : Thread) (own : SeenThread) : Type 
 abbrev pub frame_at : Table → Frame → ℕ → SeenFrame
 frame_at t f point = record (frame_of t f) { standing = point }
 
--- the thread that was taken from a slot stands at a stop, and nothing has changed yet but that its use was made
+-- the thread that was taken from a slot is at a stop, and nothing has changed yet but that its use was made
 pub record IsAtStop (m : Machine) (slot : ℕ) (th : Thread) (f : Frame) (stop : Stop) (point : ℕ) (w : World) (before user : SeenThread) : Type 0 where
   pub but : StandsBut m slot w before
   pub going : is_over w ≡ false
@@ -172,7 +172,7 @@ pub record IsStarted (m : Machine) (slot : ℕ) (w : World) (before : SeenThread
   pub stands : StandsBut m slot (started_in w enter (position is_free w.slots)) before
   pub named : option_map seen_thread ref ≡ started_as w (position is_free w.slots)
 
--- what a move came to: it was made, and the machine stands for the world behind it; or it can't be made, and the
+-- what a move came to: it was made, and the machine stands for the world after it; or it can't be made, and the
 -- machine stands for the world that there was
 abbrev pub Came : Machine → World → Bool → Option World → Type 0
 Came m w false None = Stands m w
@@ -180,6 +180,6 @@ Came m w true (Some after) = Stands m after
 Came m w false (Some after) = ⊥
 Came m w true None = ⊥
 
--- the same of an answer, which may also be want of memory
+-- the same of an answer, which may also be that memory ran out
 pub record Moves (m : Machine) (w : World) (r : Result Bool AllocError) (o : Option World) : Type 0 where
   pub came : IfOk r (λ made. Came m w made o)

@@ -1,11 +1,9 @@
 -- Which stops can be made, by what they take.
-use Rattle.std.specs.Prelude.{ℕ, nat_lt, Bool, true, false, not, List, [], ◌∷◌, drop, Some, None}
+use Rattle.std.specs.Prelude.{ℕ, nat_lt, Bool, true, false, List, [], ◌∷◌, drop}
 use Rattle.c_semantics.specs.Stops.{Stop, WriteGlobal, ReadElement, WriteElement, ReadField, WriteField, Free, Spawn, Join, Return, End}
 use Rattle.c_semantics.specs.Values.{Value, Number, Reference, Started}
-use Rattle.source_model.specs.Waits.{is_there}
-use Rattle.source_model.specs.Worlds.{World, in_slot}
 
--- whether there is a newest value, and whether it is a number or a handle
+-- whether there is a newest value, and whether it is a number, or a handle of an object or of a thread
 abbrev pub is_any : List Value → Bool
 is_any [] = false
 is_any (v ∷ values) = true
@@ -18,6 +16,10 @@ abbrev pub is_reference : List Value → Bool
 is_reference (Reference object ∷ values) = true
 is_reference _ = false
 
+abbrev pub is_handle : List Value → Bool
+is_handle (Started named ∷ values) = true
+is_handle _ = false
+
 -- whether the values that a stop takes are there
 abbrev pub has_values : Stop → List Value → Bool
 has_values (WriteGlobal name) values = is_any values
@@ -27,17 +29,11 @@ has_values (ReadField tag field) values = is_reference values
 has_values (WriteField tag field) values = is_reference (drop 1 values)
 has_values (Free tag) values = is_reference values
 has_values (Spawn name) values = is_any values
+has_values Join values = is_handle values
 has_values Return values = is_any values
 has_values _ values = true
 
--- a join waits for a thread that lives
-abbrev pub can_join : World → List Value → Bool
-can_join w (Started None ∷ values) = true
-can_join w (Started (Some named) ∷ values) = not (is_there named (in_slot w named.slot))
-can_join w _ = false
-
--- whether a thread in that many transactions can make a stop
-abbrev pub can_make : Stop → World → ℕ → List Value → Bool
-can_make Join w depth values = can_join w values
-can_make End w depth values = nat_lt 0 depth
-can_make s w depth values = has_values s values
+-- whether a thread in that many transactions that waits for nothing can make a stop
+abbrev pub can_make : Stop → ℕ → List Value → Bool
+can_make End depth values = nat_lt 0 depth
+can_make s depth values = has_values s values

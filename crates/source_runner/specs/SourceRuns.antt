@@ -24,14 +24,14 @@ move_of (Move slot) = source.Move slot
 abbrev pub text_in : Tree → List BareDef
 text_in p = map bare_def p.definitions
 
--- the world behind moves of a run that starts with the first of the texts; none where one can't be made
-abbrev pub world_behind : List (List BareDef) → Limits → List SourceMove → Option World
-world_behind texts limits moves = option_and_then (run texts moves) (start texts limits)
+-- the world after moves of a run that starts with the first of the texts; none where one can't be made
+abbrev pub world_after : List (List BareDef) → Limits → List SourceMove → Option World
+world_after texts limits moves = option_and_then (run texts moves) (start texts limits)
 
--- a run is that of some texts within limits behind moves; the spans of its records are listed
+-- a run is that of some texts within limits after moves; the spans of its records are listed
 pub record IsRun (texts : List (List BareDef)) (limits : Limits) (moves : List SourceMove) (r : SourceRun) : Type 0 where
   pub world : World
-  pub ran : world_behind texts limits moves ≡ Some world
+  pub ran : world_after texts limits moves ≡ Some world
   pub stands : Stands r.machine world
   pub small : length r.machine.slots.items ≤ 256
   pub counted : r.counted ≡ length r.machine.closed.items
@@ -41,8 +41,8 @@ pub record IsRun (texts : List (List BareDef)) (limits : Limits) (moves : List S
 abbrev pub Came : List (List BareDef) → Limits → List SourceMove → Code → SourceRun → Stepped → Type 0
 Came texts limits moves m new Done = IsRun texts limits (moves ++ move_of m ∷ []) new
 Came texts limits moves m new CannotMove =
-    IsRun texts limits moves new × (world_behind texts limits (moves ++ move_of m ∷ []) ≡ None)
+    IsRun texts limits moves new × (world_after texts limits (moves ++ move_of m ∷ []) ≡ None)
 
--- the same of an answer, which may also be want of memory
+-- the same of an answer, which may also be that memory ran out
 pub record Steps (texts : List (List BareDef)) (limits : Limits) (moves : List SourceMove) (m : Code) (new : SourceRun) (r : Result Stepped AllocError) : Type 0 where
   pub came : IfOk r (Came texts limits moves m new)

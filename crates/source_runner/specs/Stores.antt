@@ -14,8 +14,8 @@ use Rattle.source_runner.specs.declared.store.Field.{Field}
 use Rattle.source_runner.specs.declared.store.Object.{Object}
 use Rattle.source_runner.specs.declared.store.Held.{Held}
 use Rattle.source_runner.specs.declared.store.Store.{Store}
-use Rattle.source_runner.specs.declared.perform.Did.{Did}
-use Rattle.source_runner.specs.declared.perform.Did.TheVariants.{On, Trap, Nothing}
+use Rattle.source_runner.specs.declared.shared_stops.Did.{Did}
+use Rattle.source_runner.specs.declared.shared_stops.Did.TheVariants.{On, Trap, Nothing}
 use Rattle.resolved_tree.specs.Nodes.{Table, word}
 use Rattle.local_evaluation.specs.Values.{seen}
 use Rattle.local_evaluation.specs.Work.{newest}

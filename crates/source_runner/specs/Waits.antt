@@ -1,4 +1,4 @@
--- What is told of a thread that waits, as the definitions have it.
+-- What is reported of a thread that waits, as the definitions have it.
 use Rattle.source_model.specs.Waits.{Waiting, ForMutex, ForThread}
 use Rattle.source_runner.specs.declared.waits.SourceWait.{SourceWait}
 use Rattle.source_runner.specs.declared.waits.SourceWait.TheVariants.{Mutex, Thread}

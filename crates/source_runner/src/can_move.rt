@@ -8,16 +8,14 @@ ghost use Rattle.c_semantics.specs.Threads.{Frame as SeenFrame, Thread as SeenTh
 ghost use Rattle.source_model.specs.Guards.{frames_lead, leads, move_leads};
 ghost use Rattle.source_model.specs.Moves.{stop_made, thread_move};
 ghost use Rattle.source_model.specs.Runs.{can_move, is_live, some_can_move, some_lives, state};
-ghost use Rattle.source_model.specs.Waits.{is_there};
 ghost use Rattle.source_model.specs.Worlds.{World, in_slot, is_over};
 ghost use Rattle.source_runner.specs.Frames.{frames_of};
 ghost use Rattle.source_runner.specs.Machines.{IsThread, Stands, frame_at};
-ghost use Rattle.source_runner.specs.Makes.{can_join, can_make, has_values, is_number, is_reference};
+ghost use Rattle.source_runner.specs.Makes.{can_make, has_values, is_handle, is_number, is_reference};
 ghost use Rattle.resolved_tree.specs.Nodes.{Table};
 ghost use Rattle.local_evaluation.specs.Pieces.{stop_of};
 ghost use Rattle.source_runner.specs.Programs.{table_of, text_of};
 ghost use Rattle.source_runner.specs.States.{as_int, state_of};
-ghost use Rattle.local_evaluation.specs.Values.{seen_thread};
 ghost use Rattle.local_evaluation.specs.Work.{newest};
 
 use crate::machine::{Finish, Machine};
@@ -25,7 +23,7 @@ use crate::thread::{Frame, Next, Slot, Thread};
 use bytecode::TrapKind;
 use c_ints::{Int, Kind, convert};
 use local_evaluation::stack::last;
-use local_evaluation::{Halt, Stop, ThreadRef, Value};
+use local_evaluation::{Halt, Stop, Value};
 
 /// How a run stands.
 #[derive(Clone, Copy, Debug, PartialEq, Eq)]
@@ -84,7 +82,7 @@ impl Machine {
     }
 
     /// Whether the next move of the thread in a slot leads to a check-in: it enters, returns to a caller, begins or ends a
-    /// transaction, or stands at an update point.
+    /// transaction, or is at an update point.
     pub(crate) fn leads(&self, slot: usize) -> bool
         ensures { (w : World) → Stands self.now w → is_over w ≡ false → result ≡ move_leads (in_slot w slot) }
     {
@@ -98,25 +96,25 @@ impl Machine {
     pub(crate) fn can_move(&self, slot: usize) -> bool
         ensures { (w : World) → Stands self.now w → result ≡ can_move w slot }
     {
-        if self.misused || self.finish.is_some() {
+        if self.must_stay(slot) {
             return false;
         }
         match self.slots.get(slot) {
-            Some(Slot::Live(thread, next)) => self.can_act(slot, thread, next),
+            Some(Slot::Live(thread, next)) => self.can_act(thread, next),
             _ => false,
         }
     }
 
     /// Whether a thread can do what it does next, in a run that goes on.
-    fn can_act(&self, slot: usize, thread: &Thread, next: &Next) -> bool
-        ensures { (w : World) (own : SeenThread) → Stands self.now w
+    fn can_act(&self, thread: &Thread, next: &Next) -> bool
+        ensures { (w : World) (slot : ℕ) (own : SeenThread) → Stands self.now w
             → IsThread (text_of self.now.program) (table_of self.now.program) false thread.now next.now own
             → result ≡ is_some (thread_move w slot own own.entering) }
     {
         match next {
             Next::Enter(_) => true,
             Next::Halt(frame, halt) => match *halt {
-                Halt::At(stop, _) => self.can_stop(slot, thread.depth, frame, stop),
+                Halt::At(stop, _) => self.can_stop(thread.depth, frame, stop),
                 Halt::Trap(_) => true,
                 Halt::Nothing => false,
             },
@@ -124,49 +122,12 @@ impl Machine {
     }
 
     /// Whether a thread in that many transactions can make a stop, or misuses a definition by it.
-    fn can_stop(&self, slot: usize, depth: usize, frame: &Frame, stop: Stop) -> bool
-        ensures { let t = table_of self.now.program in (w : World) (own : SeenThread) (point : ℕ) (below : List SeenFrame)
+    fn can_stop(&self, depth: usize, frame: &Frame, stop: Stop) -> bool
+        ensures { let t = table_of self.now.program in (w : World) (slot : ℕ) (own : SeenThread) (point : ℕ) (below : List SeenFrame)
             → Stands self.now w → own.depth ≡ depth
             → result ≡ is_some (stop_made (stop_of t stop) w slot own (frame_at t frame.now point) below) }
     {
-        if self.must_wait(slot, stop) {
-            return false;
-        }
-        !self.is_right(frame.version, stop)
-            || self.can_make(depth, frame.work.values.as_slice(), stop)
-    }
-
-    /// Whether a thread in that many transactions can make a stop with these values.
-    fn can_make(&self, depth: usize, values: &[Value], stop: Stop) -> bool
-        ensures { (w : World) → Stands self.now w
-            → result ≡ can_make (stop_of (table_of self.now.program) stop) w depth (newest values.now) }
-    {
-        match stop {
-            Stop::Join => self.can_join(values),
-            Stop::End => depth > 0,
-            _ => has_values(stop, values),
-        }
-    }
-
-    /// Whether a join can be made: the newest value is a handle, and the thread that it names doesn't live any more.
-    fn can_join(&self, values: &[Value]) -> bool
-        ensures { (w : World) → Stands self.now w → result ≡ can_join w (newest values.now) }
-    {
-        match last(values) {
-            Some(Value::Started(Some(named))) => !self.is_there(named),
-            Some(Value::Started(None)) => true,
-            _ => false,
-        }
-    }
-
-    /// Whether the thread that a handle names lives.
-    fn is_there(&self, named: ThreadRef) -> bool
-        ensures { (w : World) → Stands self.now w → result ≡ is_there (seen_thread named) (in_slot w named.slot) }
-    {
-        match self.slots.get(named.slot) {
-            Some(Slot::Live(thread, _)) => thread.serial == named.serial,
-            _ => false,
-        }
+        !self.is_right(frame.version, stop) || can_make(depth, frame.work.values.as_slice(), stop)
     }
 }
 
@@ -203,6 +164,16 @@ fn stop_leads(stop: Stop, below: &[Frame]) -> bool
     }
 }
 
+/// Whether a thread in that many transactions can make a stop with these values.
+fn can_make(depth: usize, values: &[Value], stop: Stop) -> bool
+    ensures { (t : Table) → result ≡ can_make (stop_of t stop) depth (newest values.now) }
+{
+    match stop {
+        Stop::End => depth > 0,
+        _ => has_values(stop, values),
+    }
+}
+
 /// Whether the values that a stop takes are there.
 fn has_values(stop: Stop, values: &[Value]) -> bool
     ensures { (t : Table) → result ≡ has_values (stop_of t stop) (newest values.now) }
@@ -213,6 +184,7 @@ fn has_values(stop: Stop, values: &[Value]) -> bool
         Stop::WriteElement(_) => is_number(under(values)),
         Stop::ReadField(_, _) | Stop::Free(_) => is_reference(values),
         Stop::WriteField(_, _) => is_reference(under(values)),
+        Stop::Join => is_handle(values),
         _ => true,
     }
 }
@@ -232,6 +204,13 @@ fn is_number(values: &[Value]) -> bool
     ensures { result ≡ is_number (newest values.now) }
 {
     matches!(last(values), Some(Value::Number(_)))
+}
+
+/// Whether the newest value is a handle of a thread.
+fn is_handle(values: &[Value]) -> bool
+    ensures { result ≡ is_handle (newest values.now) }
+{
+    matches!(last(values), Some(Value::Started(_)))
 }
 
 /// Whether the newest value is a handle of an object.

@@ -14,7 +14,7 @@ ghost use Rattle.resolved_tree.specs.Trees.{table};
 ghost use Rattle.local_evaluation.specs.Values.{seen};
 ghost use Rattle.local_evaluation.specs.Work.{newest};
 
-use crate::perform::Did;
+use crate::shared_stops::Did;
 use crate::store::{Cells, Store};
 use bytecode::TrapKind;
 use c_ints::Int;
@@ -95,7 +95,7 @@ fn element(cells: &[Value], index: Int) -> Option<Value>
     Some(cells[place])
 }
 
-/// Changes an element of an array. It's told whether there is one with the index.
+/// Changes an element of an array. The answer is whether there is one with the index.
 fn set_element(trees: &Trees, globals: &mut [Cells], name: Word, index: Int, value: Value) -> bool
     ensures inside { (w : World) → w.globals ≡ globals_of (table trees.now) globals.old
         → result ≡ in_bounds (value_of index) (cells_in w (word (table trees.now) name)) }

@@ -13,7 +13,7 @@ use local_evaluation::{ObjectId, Value};
 use std::alloc::{AllocError, Global};
 
 /// The cells with which what a definition defines begins (C11 6.7.9): one of a global, and those of an array, of which
-/// the ones behind its list are zero. Other definitions have none. A length that memory doesn't hold is want of it.
+/// the ones after its list are zero. Other definitions have none. A length that doesn't fit in memory is reported as out of memory.
 pub(crate) fn initial_cells(alloc: Global, kind: &DefKind) -> Result<Vec<Value>, AllocError>
     ensures { IfOk result (λ cells. map seen cells.items ≡ initial_cells (bare_kind kind.now)) }
 {

@@ -1,16 +1,17 @@
 //! The state of a run, and the move of a thread.
-ghost use Rattle.std.specs.Prelude.{◌≡◌, ◌<◌, true, false, Some, None, length, option_map};
+ghost use Rattle.std.specs.Prelude.{◌≡◌, ◌<◌, ◌||◌, true, false, Some, None, length, option_map};
 ghost use Rattle.std.specs.Option.{option_map_or};
 ghost use Rattle.c_semantics.specs.Threads.{Thread as SeenThread};
 ghost use Rattle.source_model.specs.Versions.{first_table};
-ghost use Rattle.source_model.specs.Worlds.{World, Trapped, is_over, with_thread};
+ghost use Rattle.source_model.specs.Worlds.{World, Trapped, in_slot, is_over, with_thread};
 ghost use Rattle.source_model.specs.Uses.{use_at, is_right, marked};
-ghost use Rattle.source_model.specs.Moves.{enter, in_frames, move, must_wait, perform, stop_made, thread_move};
+ghost use Rattle.source_model.specs.Moves.{enter, in_frames, move, move_of, perform, stop_made, thread_move};
+ghost use Rattle.source_model.specs.Waits.{must_wait};
 ghost use Rattle.local_evaluation.specs.declared.value.Value.TheVariants.{Started};
 ghost use Rattle.source_runner.specs.declared.thread.Slot.TheVariants.{Over};
 ghost use Rattle.source_runner.specs.declared.thread.Next.TheVariants.{Enter as Entering, Halt as Halting};
 ghost use Rattle.local_evaluation.specs.declared.work.Halt.TheVariants.{At as AtStop};
-ghost use Rattle.source_runner.specs.Machines.{Moves, IsAtStop, IsReady, IsThread, Stands, StandsBut, StandsFor, enter_of, frame_at, standing_at};
+ghost use Rattle.source_runner.specs.Machines.{Moves, IsAtStop, IsReady, IsThread, Stands, StandsBut, enter_of, frame_at, standing_at};
 ghost use Rattle.source_runner.specs.Frames.{frames_of};
 ghost use Rattle.resolved_tree.specs.Nodes.{Table};
 ghost use Rattle.local_evaluation.specs.Pieces.{stop_of};
@@ -18,9 +19,8 @@ ghost use Rattle.source_runner.specs.Programs.{IsProgram, text_of, table_of, nam
 ghost use Rattle.source_runner.specs.Stores.{is_threads};
 ghost use Rattle.local_evaluation.specs.Work.{newest};
 
-use crate::mutexes::holder_of;
-use crate::perform::{Did, perform};
 use crate::program::{Name, Program};
+use crate::shared_stops::{Did, perform};
 use crate::store::Store;
 use crate::thread::{Enter, Frame, Next, Slot, Thread};
 use bytecode::TrapKind;
@@ -95,15 +95,22 @@ impl Machine {
     pub(crate) fn make(&mut self, slot: u8) -> Result<bool, AllocError>
         ensures { (w : World) → Stands self.old w → Moves self.new w result (move w slot) }
     {
-        if self.misused || self.finish.is_some() {
+        if self.must_stay(slot as usize) {
             return Ok(false);
         }
         self.take(slot)
     }
 
-    /// The same in a run that goes on.
+    /// Whether the thread in a slot can't move whatever it would do next: the run is over, or it waits.
+    pub(crate) fn must_stay(&self, slot: usize) -> bool
+        ensures { (w : World) → Stands self.now w → result ≡ (is_over w || must_wait w slot) }
+    {
+        self.misused || self.finish.is_some() || self.waits(slot).is_some()
+    }
+
+    /// Takes a thread from its slot and makes its move.
     fn take(&mut self, slot: u8) -> Result<bool, AllocError>
-        ensures { (w : World) → Stands self.old w → is_over w ≡ false → Moves self.new w result (move w slot) }
+        ensures { (w : World) → Stands self.old w → is_over w ≡ false → Moves self.new w result (move_of w slot (in_slot w slot)) }
     {
         let Some(place) = self.slots.get_mut(slot as usize) else {
             return Ok(false);
@@ -140,7 +147,7 @@ impl Machine {
         self.slots[slot as usize] = Slot::Live(thread, next);
     }
 
-    /// A thread goes on behind a stop: its private work is done up to the next one.
+    /// A thread goes on after a stop: its private work is done up to the next one.
     pub(crate) fn go_on(
         &mut self,
         slot: u8,
@@ -219,7 +226,7 @@ impl Machine {
         self.go_on(slot, thread, frame)
     }
 
-    /// What a thread does behind its private work.
+    /// What a thread does after its private work.
     fn resume(
         &mut self,
         slot: u8,
@@ -239,19 +246,6 @@ impl Machine {
         }
     }
 
-    /// Whether a stop must wait: the lock of a mutex that another thread holds.
-    pub(crate) fn must_wait(&self, slot: usize, stop: Stop) -> bool
-        ensures { (w : World) → StandsFor self.now w → result ≡ must_wait (stop_of (table_of self.now.program) stop) w slot }
-    {
-        let Stop::Lock(name) = stop else {
-            return false;
-        };
-        match holder_of(self.program.trees(), self.store.holders.as_slice(), name) {
-            Some(holder) => holder != slot,
-            None => false,
-        }
-    }
-
     /// Whether the use of a stop is right.
     pub(crate) fn is_right(&self, version: usize, stop: Stop) -> bool
         ensures { IsProgram self.now.program → result ≡ option_map_or (is_right (first_table (text_of self.now.program)) version) (use_at (stop_of (table_of self.now.program) stop)) true }
@@ -262,7 +256,7 @@ impl Machine {
         }
     }
 
-    /// A stop, if it needn't wait and its use is right.
+    /// A stop, if its use is right.
     fn stop(
         &mut self,
         slot: u8,
@@ -276,9 +270,6 @@ impl Machine {
             → IsThread (text_of self.old.program) t false thread (Halting frame (AtStop stop point)) before
             → Moves self.new w result (stop_made (stop_of t stop) w slot before (frame_at t frame point) (frames_of t thread.below.items)) }
     {
-        if self.must_wait(slot as usize, stop) {
-            return self.stay(slot, thread, Next::Halt(frame, Halt::At(stop, point)));
-        }
         if !self.is_right(frame.version, stop) {
             return self.misuse(slot, thread, Next::Halt(frame, Halt::At(stop, point)));
         }

@@ -10,7 +10,7 @@ ghost use Rattle.source_runner.specs.Stores.{Kept, Performs, with_store, holders
 ghost use Rattle.resolved_tree.specs.Trees.{table};
 ghost use Rattle.local_evaluation.specs.Work.{newest};
 
-use crate::perform::Did;
+use crate::shared_stops::Did;
 use crate::store::{Held, Store};
 use bytecode::TrapKind;
 use c_ints::Int;

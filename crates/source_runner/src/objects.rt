@@ -17,8 +17,8 @@ ghost use Rattle.resolved_tree.specs.Trees.{table};
 ghost use Rattle.local_evaluation.specs.Values.{seen, seen_object};
 
 use crate::cells::take_under;
-use crate::perform::Did;
 use crate::program::{Binding, Program};
+use crate::shared_stops::Did;
 use crate::store::{Field, Object, Store};
 use bytecode::TrapKind;
 use c_ints::Int;

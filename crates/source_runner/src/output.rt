@@ -7,8 +7,8 @@ ghost use Rattle.source_runner.specs.Stores.{Kept, Performs};
 ghost use Rattle.resolved_tree.specs.Trees.{table};
 
 use crate::mutexes::done;
-use crate::perform::Did;
 use crate::print::print;
+use crate::shared_stops::Did;
 use crate::store::Store;
 use local_evaluation::Value;
 use resolved_tree::{Trees, Word};

@@ -23,7 +23,7 @@ struct Progress {
     used: usize,
 }
 
-/// Adds what a format and its arguments print (C11 7.21.6.1). After want of memory a front of it was added.
+/// Adds what a format and its arguments print (C11 7.21.6.1). Where memory runs out, a prefix of it was added.
 pub(crate) fn print(
     output: &mut Vec<u8>,
     format: &str,

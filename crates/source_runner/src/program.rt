@@ -51,7 +51,7 @@ pub(crate) enum Name {
 /// What is defined as a name. Where it's no function or no struct, there is nothing of these.
 #[derive(Drop)]
 pub(crate) struct Definition {
-    /// The name; a struct's is `struct` with its tag behind a blank.
+    /// The name; a struct's is `struct` with its tag after a blank.
     pub name: Word,
     pub parameters: Vec<Binding>,
     pub body: NodeId,
@@ -214,7 +214,7 @@ impl Program {
         }
     }
 
-    /// A body and the return behind it, before other pieces.
+    /// A body and the return after it, before other pieces.
     fn put_body(
         &self,
         pieces: &mut Vec<Piece>,
@@ -229,7 +229,7 @@ impl Program {
             pieces,
             &[
                 Piece::Sequence(body, 1),
-                Piece::Put(Value::zero_of(returned)),
+                Piece::Push(Value::zero_of(returned)),
                 Piece::At(Stop::Return, sum(1, points)?),
             ],
         )

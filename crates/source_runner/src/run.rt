@@ -38,14 +38,14 @@ pub enum Stepped {
 }
 
 /// A run of the source machine over some texts. Its clauses say that it is the run of the definitions over the moves that
-/// were made; after want of memory nothing is said of it any more.
+/// were made; once a step ran out of memory nothing is said of it any more.
 #[derive(Drop)]
 pub struct SourceRun {
     machine: Machine,
     /// The spans of the records, of which this many are closed.
     spans: Vec<Span>,
     counted: usize,
-    /// Whether a step wanted memory.
+    /// Whether a step ran out of memory.
     failed: bool,
 }
 
@@ -70,7 +70,7 @@ impl SourceRun {
         })
     }
 
-    /// Makes a move, if it can be made. After want of memory each later step is want of memory too.
+    /// Makes a move, if it can be made. Once a step ran out of memory, each later one does too.
     pub fn step(&mut self, m: SourceMove) -> Result<Stepped, AllocError>
         ensures stepped { (texts : List (List BareDef)) (limits : Limits) (moves : List Made) → IsRun texts limits moves self.old
             → Steps texts limits moves m self.new result }
@@ -153,7 +153,7 @@ impl SourceRun {
     }
 
     /// Whether the next move of the thread in a slot leads to a check-in: it enters, returns to a caller, begins or ends
-    /// a transaction, or stands at an update point. It is asked of a run that isn't over.
+    /// a transaction, or is at an update point. It is asked of a run that isn't over.
     pub fn leads(&self, slot: u8) -> bool
         ensures { (texts : List (List BareDef)) (limits : Limits) (moves : List Made) → IsRun texts limits moves self.now
             → option_map (λ x. is_over x.world) (source_run texts limits moves) ≡ Some false

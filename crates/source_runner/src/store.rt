@@ -34,7 +34,7 @@ pub(crate) struct Held {
     pub slot: usize,
 }
 
-/// What threads share. Objects stand in the order of their creation; of the mutexes the one that was taken last is the
+/// What threads share. Objects are in the order of their creation; of the mutexes the one that was taken last is the
 /// last.
 #[derive(Drop)]
 pub(crate) struct Store {

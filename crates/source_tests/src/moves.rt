@@ -4,7 +4,7 @@ use bytecode::TrapKind;
 use source_runner::{SourceMove, SourceState, SourceWait, Span, Stepped};
 use std::test::Fail;
 
-/// A move of a slot's thread and what it comes to, how the run stands behind it, and how many records have a span.
+/// A move of a slot's thread and what it comes to, how the run is after it, and how many records have a span.
 type Asked = (u8, Stepped, SourceState, usize);
 
 /// `main` is entered and returns; there is no other thread, and no slot 9.
@@ -75,7 +75,7 @@ fn moves_are_made_where_they_can_be(rt: HostRuntime) -> Result<(), Fail> {
 static LEADS: [bool; 5] = [true, true, true, true, false];
 
 #[test]
-fn moves_that_lead_to_a_check_in_are_told(rt: HostRuntime) -> Result<(), Fail> {
+fn moves_that_lead_to_a_check_in_are_reported(rt: HostRuntime) -> Result<(), Fail> {
     let mut run = run_of(
         rt.alloc(),
         "int main(void) { dsu_tx { dsu_update(); } return 0; }",
@@ -156,7 +156,7 @@ int main(void) {
 "#;
 
 #[test]
-fn what_threads_wait_for_is_told(rt: HostRuntime) -> Result<(), Fail> {
+fn what_threads_wait_for_is_reported(rt: HostRuntime) -> Result<(), Fail> {
     let mut run = run_of(rt.alloc(), WAITING)?;
     for slot in [0, 0, 0, 1] {
         assert_eq!(rt; run.state(), SourceState::Going);

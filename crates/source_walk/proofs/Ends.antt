@@ -1,24 +1,26 @@
 -- How a walk stands, by the state of its run.
 use Rattle.std.proofs.Common.{inl, inr, ◌≡◌, ℕ, Bool, true, false, List, [], ◌∷◌, Option, Some, None, refl, sym, ◌∙◌, ap}
-use Rattle.std.specs.Prelude.{◌&&◌, ◌||◌, ◌⊎◌, ℤ, map, not, option_map, if◌then◌else◌}
+use Rattle.std.specs.Prelude.{◌&&◌, ◌||◌, ◌⊎◌, ℤ, map, not, if◌then◌else◌}
 use Rattle.std.specs.Option.{is_some}
+use Rattle.std.proofs.lemmas.Bool.{false≢true}
 use Rattle.std.specs.List.{list_any}
 use Rattle.bytecode.specs.declared.run.Event.{Event}
 use Rattle.bytecode.specs.declared.run.Ending.{Ending}
 use Rattle.bytecode.specs.declared.run.Ending.TheVariants.{Deadlock, Cut}
 use Rattle.bytecode.specs.declared.run.Ending.TheVariants as ends
 use Rattle.bytecode.specs.declared.trap.TrapKind.{TrapKind}
-use Rattle.source_model.specs.Worlds.{World, Finish}
+use Rattle.source_model.specs.Worlds.{World, Finish, in_slot}
 use Rattle.source_model.specs.Worlds as world
-use Rattle.source_model.specs.Runs.{State, some_can_move, some_lives, source_run, state, state_by}
+use Rattle.source_model.specs.Runs.{State, is_live, some_can_move, some_lives, source_run, state, state_by}
 use Rattle.source_model.specs.Runs as source
 use Rattle.source_model.specs.Guards.{Guard, Seat, Setup, has_ended}
-use Rattle.source_model.specs.Journals.{ending, ending_by, seats_wait}
+use Rattle.source_model.specs.Endings.{ending, ending_by, int_ending, seats_wait}
+use Rattle.source_model.proofs.Stuck.{first_lives}
 use Rattle.source_runner.specs.declared.can_move.SourceState.{SourceState}
 use Rattle.source_runner.specs.declared.can_move.SourceState.TheVariants.{Finished, Trap, Stuck, Going}
 use Rattle.source_walk.specs.declared.schedule.Walking.{Walking}
 use Rattle.source_runner.specs.States.{as_int, state_of}
-use Rattle.source_walk.specs.Walks.{int_ending, moves_behind, texts_of}
+use Rattle.source_walk.specs.Walks.{moves_after}
 use Rattle.source_walk.specs.Walking.{Holds}
 use Rattle.source_walk.proofs.Walking.{Gives, gives}
 
@@ -47,17 +49,17 @@ end_of_state w = by w.finish
     by (Some (world.Finished r)) = refl
     by (Some (world.Trapped kind slot)) = refl
 
--- the state that a run tells is that of the guard's world
-told : (setup : Setup) (es : List Event) (g : Guard) (w : Walking) (s : SourceState) → Holds setup es g w
-    → Gives (λ x. as_int x.state) setup (moves_behind g es) (state_of s)
+-- the state that a run reports is that of the guard's world
+reported : (setup : Setup) (es : List Event) (g : Guard) (w : Walking) (s : SourceState) → Holds setup es g w
+    → Gives (λ x. as_int x.state) setup (moves_after g es) (state_of s)
     → as_int (state g.world) ≡ state_of s
-told setup es g w s h tells = gives (λ x. as_int x.state) setup (moves_behind g es) g.world (state_of s) h.world tells
+reported setup es g w s h reports = gives (λ x. as_int x.state) setup (moves_after g es) g.world (state_of s) h.world reports
 
 pub ended_is : (setup : Setup) (es : List Event) (g : Guard) (w : Walking) (s : SourceState) (b : Bool) → Holds setup es g w
-    → Gives (λ x. as_int x.state) setup (moves_behind g es) (state_of s)
+    → Gives (λ x. as_int x.state) setup (moves_after g es) (state_of s)
     → is_end (state_of s) ≡ b → b ≡ has_ended g
-ended_is setup es g w s b h tells is =
-    sym is ∙ ap is_end (sym (told setup es g w s h tells)) ∙ end_of_int (state g.world) ∙ end_of_state g.world
+ended_is setup es g w s b h reports is =
+    sym is ∙ ap is_end (sym (reported setup es g w s h reports)) ∙ end_of_int (state g.world) ∙ end_of_state g.world
 
 pub an_end : (s : SourceState) → ((n : ℤ) × (s ≡ Finished n)) ⊎ ((kind : TrapKind) × (slot : ℕ) × (s ≡ Trap kind slot))
     → is_end (state_of s) ≡ true
@@ -86,24 +88,32 @@ ending_of wait (source.Trapped kind slot) = ends.Trap kind slot
 ending_of wait source.Stuck = if wait then Deadlock else Cut
 ending_of wait source.Going = Cut
 
-int_of_ending : (ss : List Seat) (s : State) → ending_of (seats_wait ss) (as_int s) ≡ int_ending (ending_by ss s)
-int_of_ending ss (source.Finished r) = refl
-int_of_ending ss (source.Trapped kind slot) = refl
-int_of_ending ss source.Stuck = by (seats_wait ss)
-  where
-    by : (b : Bool) → (if b then Deadlock else Cut) ≡ int_ending (if b then Deadlock else Cut)
-    by true = refl
-    by false = refl
-int_of_ending ss source.Going = refl
+-- of a run that goes on and in which a thread lives
+of_going : (lives can wait : Bool) → lives ≡ true
+    → ending_of wait (as_int (if lives && not can then source.Stuck else source.Going))
+    ≡ int_ending (if wait && not can then Deadlock else Cut)
+of_going true true true e = refl
+of_going true true false e = refl
+of_going true false true e = refl
+of_going true false false e = refl
+of_going false can wait e = absurd (false≢true e)
+
+int_of_ending : (g : Guard) (wait : Bool) (o : Option Finish) → is_live (in_slot g.world 0) ≡ true → (is_some o ≡ false → seats_wait g.seats ≡ wait)
+    → ending_of wait (as_int (state_by g.world o))
+    ≡ int_ending (ending_by (not (is_some o) && (seats_wait g.seats && not (some_can_move g.world))) o)
+int_of_ending g wait (Some (world.Finished r)) main waits = refl
+int_of_ending g wait (Some (world.Trapped kind slot)) main waits = refl
+int_of_ending g wait None main waits =
+    of_going (some_lives g.world) (some_can_move g.world) wait (first_lives g.world.slots main)
+    ∙ ap (λ b. int_ending (if b && not (some_can_move g.world) then Deadlock else Cut)) (sym (waits refl))
 
 pub ending_is : (setup : Setup) (es : List Event) (g : Guard) (w : Walking) (s a : SourceState) (wait : Bool) → Holds setup es g w
-    → Gives (λ x. as_int x.state) setup (moves_behind g es) (state_of s)
+    → Gives (λ x. as_int x.state) setup (moves_after g es) (state_of s)
     → s ≡ a → not (list_any (λ at_check_in. at_check_in) w.seats) ≡ wait → ending_of wait (state_of a) ≡ int_ending (ending g)
-ending_is setup es g w s a wait h tells is waits =
+ending_is setup es g w s a wait h reports is waits =
     ap (λ x. ending_of wait (state_of x)) (sym is)
-    ∙ ap (ending_of wait) (sym (told setup es g w s h tells))
-    ∙ ap (λ b. ending_of b (as_int (state g.world))) (sym (seats ∙ waits))
-    ∙ int_of_ending g.seats (state g.world)
+    ∙ ap (ending_of wait) (sym (reported setup es g w s h reports))
+    ∙ int_of_ending g wait g.world.finish h.main (λ going. seats going ∙ waits)
   where
-    seats : seats_wait g.seats ≡ not (list_any (λ at_check_in. at_check_in) w.seats)
-    seats = ap not (some_seat g.seats ∙ ap (list_any (λ b. b)) h.seats)
+    seats : has_ended g ≡ false → seats_wait g.seats ≡ not (list_any (λ at_check_in. at_check_in) w.seats)
+    seats going = ap not (some_seat g.seats ∙ ap (list_any (λ b. b)) (h.seats going))

@@ -1,17 +1,19 @@
 -- A walk from event to event.
-use Rattle.std.proofs.Common.{◌≡◌, ℕ, zero, suc, ◌+◌, ◌<◌, Bool, true, false, List, [], ◌∷◌, slice_index_or, Option, Some, None, refl, sym, ◌∙◌, ap, subst, arith}
+use Rattle.std.proofs.Common.{◌≡◌, ℕ, zero, suc, ◌+◌, ◌<◌, Bool, true, false, List, [], ◌∷◌, slice_index_or, None, refl, ◌∙◌, ap, subst, arith}
 use Rattle.std.specs.Prelude.{Err, IfOk, Ok, Result as Outcome, length, map, replicate, cond}
+use Rattle.std.specs.Option.{option_or}
 use Rattle.bytecode.specs.declared.run.Ending.{Ending}
 use Rattle.std.proofs.lemmas.List.Sums.{sum_by-append}
 use Rattle.std.specs.declared.alloc.AllocError.{AllocError}
 use Rattle.bytecode.specs.declared.run.Event.{Event}
 use Rattle.c_tree.specs.declared.def.Program.{Program}
 use Rattle.source_model.specs.Guards.{first_guard, has_ended}
-use Rattle.source_model.specs.Journals.{acted_by, ending, first_act, makes_move, slots_behind, solo_next}
+use Rattle.source_model.specs.Schedules.{acted_by, first_act, makes_move, move_count, slots_after}
+use Rattle.source_model.specs.Endings.{ending, int_ending}
 use Rattle.source_runner.specs.declared.run.SourceRun.{SourceRun}
 use Rattle.source_walk.specs.declared.schedule.Walking.{Walking}
 use Rattle.source_runner.specs.SourceRuns.{IsRun, text_in}
-use Rattle.source_walk.specs.Walks.{IsWalk, int_ending, move_count, setup_of}
+use Rattle.source_walk.specs.Walks.{IsWalk, setup_of}
 use Rattle.source_walk.specs.Walking.{Acts, Came, GoesOn, Holds, IsDone, IsWalking, SameBut}
 use Rattle.source_walk.proofs.Seats.{seat_at}
 use Rattle.source_walk.proofs.Turns.{next_is, none_next}
@@ -41,8 +43,9 @@ begins text objects moves texts run only is = record {
     run = subst (λ ts. IsRun (map text_in ts) (setup_of text objects).limits [] run) only is;
     world = refl;
     count = refl;
-    seats = refl;
+    seats = λ going. refl;
     empty = λ n none. seat_at (first_guard (setup_of text objects)).seats n ∙ all_false 16 n;
+    main = refl;
     none_open = refl;
   };
   first = refl;
@@ -64,12 +67,12 @@ same_tail d e ds es is = ap tail is
 -- an event more
 one_event : (text : Program) (objects moves : ℕ) (old new : Walking) → (at : IsWalking text objects moves old)
     → has_ended at.guard ≡ false → 0 < old.left
-    → Acts (setup_of text objects) at.events at.guard (first_act at.guard (slots_behind 16 at.last)) old.left new
+    → Acts (setup_of text objects) at.events at.guard (first_act at.guard (slots_after 16 at.last)) old.left new
     → IsWalking text objects moves new
 one_event text objects moves old new at going some acts = record {
   events = acts.event ∷ at.events;
   guard = acts.after;
-  last = acted_by acts.event;
+  last = option_or (acted_by acts.event) at.last;
   solo = λ rules. (
     at.guard,
     at.last,
@@ -79,7 +82,7 @@ one_event text objects moves old new at going some acts = record {
     refl,
   );
   holds = acts.holds;
-  first = acts.first;
+  first = acts.first at.last;
   left = omega (arith, at.left, acts.left, count_more acts.event at.events);
   begun = λ e es is. omega (arith, some, at.left, ap move_count (same_tail acts.event e at.events es is));
 }
@@ -101,7 +104,7 @@ still text objects moves old new at holds same = record {
 -- no event is next
 none_acts : (text : Program) (objects moves : ℕ) (old new : Walking) → (at : IsWalking text objects moves old)
     → has_ended at.guard ≡ false → Holds (setup_of text objects) at.events at.guard new → SameBut old new
-    → first_act at.guard (slots_behind 16 at.last) ≡ None → IsDone text objects moves new
+    → first_act at.guard (slots_after 16 at.last) ≡ None → IsDone text objects moves new
 none_acts text objects moves old new at going holds same none = (
   still text objects moves old new at holds same,
   λ some. next_is (setup_of text objects) at.events at.guard at.last old at.holds refl going ∙ none,
@@ -110,7 +113,7 @@ none_acts text objects moves old new at going holds same none = (
 -- what the slots in turn did
 pub went : (text : Program) (objects moves : ℕ) (old new : Walking) → (at : IsWalking text objects moves old)
     → has_ended at.guard ≡ false → 0 < old.left → (r : Outcome Bool AllocError)
-    → IfOk r (Came (setup_of text objects) at.events at.guard (first_act at.guard (slots_behind 16 at.last)) old.left new)
+    → IfOk r (Came (setup_of text objects) at.events at.guard (first_act at.guard (slots_after 16 at.last)) old.left new)
     → IfOk r (λ acted. acted ≡ false → SameBut old new) → IfOk r (GoesOn text objects moves new)
 went text objects moves old new at going some (Ok true) came same = one_event text objects moves old new at going some came
 went text objects moves old new at going some (Ok false) came same =

@@ -1,5 +1,5 @@
 -- The slots in turn.
-use Rattle.std.proofs.Common.{◌≡◌, ℕ, zero, suc, ◌+◌, ◌-◌, ◌<◌, Bool, true, false, List, [], ◌∷◌, ◌++◌, Option, Some, None, refl, sym, ◌∙◌, ap, subst, arith}
+use Rattle.std.proofs.Common.{◌≡◌, ℕ, suc, ◌+◌, ◌-◌, ◌<◌, Bool, true, false, List, [], ◌∷◌, ◌++◌, Option, Some, None, refl, sym, ◌∙◌, ap, subst, arith}
 use Rattle.std.specs.Prelude.{◌&&◌, ◌==◌, Err, IfOk, Ok, Result as Outcome, length, option_map, slice_get, if◌then◌else◌}
 use Rattle.std.specs.declared.alloc.AllocError.{AllocError}
 use Rattle.std.specs.Option.{option_or}
@@ -8,9 +8,9 @@ use Rattle.bytecode.specs.declared.run.Event.{Event}
 use Rattle.bytecode.specs.declared.run.Event.TheVariants.{Decide, Offer}
 use Rattle.source_model.specs.Guards as guard
 use Rattle.source_model.specs.Guards.{Guard, Setup, has_ended, is_reached, offer_at}
-use Rattle.source_model.specs.Journals.{act_of, due, due_at, first_act, slots_behind, solo_next}
+use Rattle.source_model.specs.Schedules.{act_of, due, first_act, slots_after, solo_next}
 use Rattle.source_walk.specs.declared.schedule.Walking.{Walking}
-use Rattle.source_walk.specs.Walking.{Acts, Came, Holds, first_behind}
+use Rattle.source_walk.specs.Walking.{Acts, Came, Holds, first_after}
 
 -- what holds of an answer
 pub of_ok : (r : Outcome Bool AllocError) (b : Bool) (P : Bool → Type 0) → r ≡ Ok b → IfOk r P → P b
@@ -20,7 +20,7 @@ pub if_ok_then : (r : Outcome Bool AllocError) (P Q : Bool → Type 0) → ((b :
 if_ok_then (Ok b) P Q f holds = f b holds
 if_ok_then (Err e) P Q f holds = holds
 
--- the slots from one to another: that one, and those behind it
+-- the slots from one to another: that one, and those after it
 pub turn : (g : Guard) (slot to : ℕ) → slot < to
     → first_act g (range_with_len slot (to - slot))
     ≡ option_or (act_of g slot) (first_act g (range_with_len (slot + 1) (to - (slot + 1))))
@@ -29,9 +29,9 @@ turn g slot to below = ap (λ n. first_act g (range_with_len slot n)) count
     count : to - slot ≡ suc (to - (slot + 1))
     count = omega (arith, below)
 
-pub behind_turn : (g : Guard) (slot to : ℕ) → slot < to → act_of g slot ≡ None
+pub after_turn : (g : Guard) (slot to : ℕ) → slot < to → act_of g slot ≡ None
     → first_act g (range_with_len (slot + 1) (to - (slot + 1))) ≡ first_act g (range_with_len slot (to - slot))
-behind_turn g slot to below none =
+after_turn g slot to below none =
     sym (turn g slot to below ∙ ap (λ o. option_or o (first_act g (range_with_len (slot + 1) (to - (slot + 1))))) none)
 
 -- none can act where neither can
@@ -84,9 +84,9 @@ or_none : (a : Option Event) → a ≡ option_or a None
 or_none None = refl
 or_none (Some event) = refl
 
--- the slots in turn behind the one that acted last: those from the first in turn, and then those before it
-pub turns : (g : Guard) (first : ℕ) (last : Option ℕ) → first ≡ first_behind last
-    → first_act g (slots_behind 16 last)
+-- the slots in turn after the one that acted last: those from the first in turn, and then those before it
+pub turns : (g : Guard) (first : ℕ) (last : Option ℕ) → first ≡ first_after last
+    → first_act g (slots_after 16 last)
     ≡ option_or (first_act g (range_with_len first (16 - first))) (first_act g (range_with_len 0 (first - 0)))
 turns g first None is =
     or_none (first_act g (range_with_len 0 16))
@@ -117,14 +117,14 @@ next_by over open_offer to_open act =
 
 -- the solo schedule's next event is what the first of the slots in turn can do
 pub next_is : (setup : Setup) (es : List Event) (g : Guard) (last : Option ℕ) (w : Walking) → Holds setup es g w
-    → setup.offers ≡ [] → has_ended g ≡ false → solo_next setup g last ≡ first_act g (slots_behind 16 last)
+    → setup.offers ≡ [] → has_ended g ≡ false → solo_next setup g last ≡ first_act g (slots_after 16 last)
 next_is setup es g last w h none going =
-    ap (λ b. next_by b g.open_offer (due setup g) (first_act g (slots_behind (length g.seats) last))) going
-    ∙ ap (λ o. next_by false o (due setup g) (first_act g (slots_behind (length g.seats) last))) h.none_open
-    ∙ ap (λ o. next_by false None o (first_act g (slots_behind (length g.seats) last))) (none_due setup g none)
-    ∙ ap (λ n. first_act g (slots_behind n last)) h.count
+    ap (λ b. next_by b g.open_offer (due setup g) (first_act g (slots_after (length g.seats) last))) going
+    ∙ ap (λ o. next_by false o (due setup g) (first_act g (slots_after (length g.seats) last))) h.none_open
+    ∙ ap (λ o. next_by false None o (first_act g (slots_after (length g.seats) last))) (none_due setup g none)
+    ∙ ap (λ n. first_act g (slots_after n last)) h.count
 
 -- none is next where the run has ended
 pub none_next : (setup : Setup) (g : Guard) (last : Option ℕ) → has_ended g ≡ true → solo_next setup g last ≡ None
 none_next setup g last ended =
-    ap (λ b. next_by b g.open_offer (due setup g) (first_act g (slots_behind (length g.seats) last))) ended
+    ap (λ b. next_by b g.open_offer (due setup g) (first_act g (slots_after (length g.seats) last))) ended

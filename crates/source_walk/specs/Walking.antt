@@ -1,29 +1,32 @@
 -- What a walk keeps while it goes on.
 use Rattle.std.specs.Prelude.{◌≡◌, ℕ, ◌+◌, ◌*◌, ◌<◌, ◌≤◌, Bool, true, false, List, [], ◌∷◌, map, length, count_by, Option, Some, None}
+use Rattle.std.specs.Option.{option_or}
 use Rattle.bytecode.specs.declared.run.Event.{Event}
 use Rattle.c_tree.specs.declared.def.Program.{Program}
 use Rattle.source_model.specs.Worlds.{in_slot}
 use Rattle.source_model.specs.Runs.{is_live}
-use Rattle.source_model.specs.Guards.{Guard, Setup, Rules, seat_of}
-use Rattle.source_model.specs.Journals.{acted_by, happens, solo_next}
-use Rattle.source_runner.specs.SourceRuns.{IsRun, world_behind}
-use Rattle.source_walk.specs.Walks.{Solo, move_count, moves_behind, setup_of, texts_of}
+use Rattle.source_model.specs.Guards.{Guard, Setup, Rules, has_ended, seat_of}
+use Rattle.source_model.specs.Journals.{happens}
+use Rattle.source_model.specs.Schedules.{Solo, acted_by, move_count, solo_next}
+use Rattle.source_runner.specs.SourceRuns.{IsRun, world_after}
+use Rattle.source_walk.specs.Walks.{moves_after, setup_of, texts_of}
 use Rattle.source_walk.specs.declared.schedule.Walking.{Walking}
 
--- the run is that of the moves of some events, with the guard behind them: its seats are at a check-in where they say, and
--- only where a thread lives
+-- the run is that of the moves of some events, with the guard after them: as long as it goes on its seats are at a
+-- check-in where the walk says, and only where a thread lives; main's thread lives
 pub record Holds (setup : Setup) (events : List Event) (g : Guard) (w : Walking) : Type 0 where
-  pub run : IsRun (texts_of setup) setup.limits (moves_behind g events) w.run
-  pub world : world_behind (texts_of setup) setup.limits (moves_behind g events) ≡ Some g.world
+  pub run : IsRun (texts_of setup) setup.limits (moves_after g events) w.run
+  pub world : world_after (texts_of setup) setup.limits (moves_after g events) ≡ Some g.world
   pub count : length g.seats ≡ 16
-  pub seats : map (λ s. s.at_check_in) g.seats ≡ w.seats
+  pub seats : has_ended g ≡ false → map (λ s. s.at_check_in) g.seats ≡ w.seats
   pub empty : (n : ℕ) → is_live (in_slot g.world n) ≡ false → (seat_of g n).at_check_in ≡ false
+  pub main : is_live (in_slot g.world 0) ≡ true
   pub none_open : g.open_offer ≡ None
 
--- the slot that comes first behind the one that acted last
-abbrev pub first_behind : Option ℕ → ℕ
-first_behind None = 0
-first_behind (Some slot) = slot + 1
+-- the slot that comes first after the one that acted last
+abbrev pub first_after : Option ℕ → ℕ
+first_after None = 0
+first_after (Some slot) = slot + 1
 
 -- an event that came
 pub record Acts (setup : Setup) (events : List Event) (g : Guard) (due : Option Event) (had : ℕ) (new : Walking) : Type 0 where
@@ -32,7 +35,7 @@ pub record Acts (setup : Setup) (events : List Event) (g : Guard) (due : Option 
   pub next : due ≡ Some event
   pub happens : (rules : Rules) → happens rules setup event g ≡ Some after
   pub holds : Holds setup (event ∷ events) after new
-  pub first : new.first ≡ first_behind (acted_by event)
+  pub first : (last : Option ℕ) → new.first ≡ first_after (option_or (acted_by event) last)
   pub left : new.left + move_count (event ∷ []) ≡ had
 
 -- the next event came, or there is none
@@ -47,7 +50,7 @@ pub record IsWalking (text : Program) (objects moves : ℕ) (w : Walking) : Type
   pub last : Option ℕ
   pub solo : (rules : Rules) → Solo rules (setup_of text objects) events guard last
   pub holds : Holds (setup_of text objects) events guard w
-  pub first : w.first ≡ first_behind last
+  pub first : w.first ≡ first_after last
   pub left : w.left + move_count events ≡ moves
   pub begun : (e : Event) (es : List Event) → events ≡ e ∷ es → move_count es < moves
 

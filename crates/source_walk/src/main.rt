@@ -1,6 +1,6 @@
 //! Runs a C text by the source machine, plainly and slowly: `source_walk FILE [--moves N] [--objects N]`.
 //!
-//! The threads take turns in the order of their slots, one event after the other. What the text prints stands on standard
+//! The threads take turns in the order of their slots, one event after the other. What the text prints is on standard
 //! output, and how the run ended on standard error, with the faults and statuses of `ginseng run`. There are no offers.
 //!
 //! Read in this order: `schedule` (the run, whose contract says that each of its events is the one that the solo schedule
@@ -31,7 +31,7 @@ impl Promise<u8> for AnyStatus {
     ghost kept_by = { λ _ _. Unit {0} };
 }
 
-// The words behind the program's name.
+// The words after the program's name.
 fn words_of(rt: &HostRuntime) -> Result<Vec<Text>, CliFault> {
     let Ok(given) = env::args(rt) else {
         return Err(CliFault::Usage);

@@ -4,9 +4,10 @@ ghost use Rattle.std.specs.List.{list_any, range_with_len};
 ghost use Rattle.bytecode.specs.declared.run.Event.{Event};
 ghost use Rattle.c_tree.specs.declared.def.Program.{Program};
 ghost use Rattle.source_model.specs.Guards.{Guard, Setup, has_ended};
-ghost use Rattle.source_model.specs.Journals.{act_of, ending, first_act, slots_behind};
-ghost use Rattle.source_walk.specs.Walks.{IsWalk, int_ending};
-ghost use Rattle.source_walk.specs.Walking.{Came, Falls, GoesOn, Holds, IsDone, IsWalking, SameBut, first_behind};
+ghost use Rattle.source_model.specs.Schedules.{act_of, first_act, slots_after};
+ghost use Rattle.source_model.specs.Endings.{ending, int_ending};
+ghost use Rattle.source_walk.specs.Walks.{IsWalk};
+ghost use Rattle.source_walk.specs.Walking.{Came, Falls, GoesOn, Holds, IsDone, IsWalking, SameBut, first_after};
 
 use bytecode::Ending;
 use c_types::Typed;
@@ -73,7 +74,7 @@ impl Walking {
         Ok(())
     }
 
-    /// How the run stands at its end.
+    /// How the run is at its end.
     fn end(self) -> Walked
         ensures { (text : Program) (objects moves : ℕ) → IsDone text objects moves self → IsWalk text objects moves result }
     {
@@ -131,16 +132,16 @@ impl Walking {
         if self.has_ended() {
             return Ok(false);
         }
-        self.act_behind()
+        self.act_after()
     }
 
-    /// The first of the slots in order behind the one that acted last acts, if one can.
-    fn act_behind(&mut self) -> Result<bool, AllocError>
+    /// The first of the slots in order after the one that acted last acts, if one can.
+    fn act_after(&mut self) -> Result<bool, AllocError>
         requires left { 0 < self.old.left }
         requires first { self.old.first ≤ 16 }
         ensures came { (setup : Setup) (events : List Event) (g : Guard) (last : Option ℕ) → Holds setup events g self.old
-            → has_ended g ≡ false → self.old.first ≡ first_behind last
-            → IfOk result (Came setup events g (first_act g (slots_behind 16 last)) self.old.left self.new) }
+            → has_ended g ≡ false → self.old.first ≡ first_after last
+            → IfOk result (Came setup events g (first_act g (slots_after 16 last)) self.old.left self.new) }
         ensures falls { IfOk result (λ acted. acted ≡ true → Falls self.old self.new) }
         ensures same { IfOk result (λ acted. acted ≡ false → SameBut self.old self.new) }
     {

@@ -58,7 +58,7 @@ fn tell<E: Sink>(file: &str, line: FaultLine, err: &mut E) -> u8 {
     line.status()
 }
 
-/// Tells how a run ended, and behind a deadlock what each thread waits for.
+/// Prints how a run ended, and after a deadlock what each thread waits for.
 fn report<E: Sink>(walked: &Walked, err: &mut E) -> Result<(), Failed> {
     write_ending(walked.ending, err)?;
     if walked.ending == Ending::Deadlock {

@@ -5,7 +5,7 @@ use dsu_cli::{CliFault, Job, RunJob, read_words};
 use dsu_io::Text;
 use std::alloc::{AllocError, Global};
 
-/// The job that the words behind the program's name ask for: `FILE [--moves N] [--objects N]`, read as those of
+/// The job that the words after the program's name ask for: `FILE [--moves N] [--objects N]`, read as those of
 /// `ginseng run`.
 pub fn job_in(alloc: Global, words: &[Text]) -> Result<RunJob, CliFault>
     ensures { IfOk result (λ job. (job.offers ≡ []) × (job.workers ≡ None) × (job.journal ≡ false)) }
@@ -30,7 +30,7 @@ fn run_in(alloc: Global, words: &[Text]) -> Result<RunJob, CliFault> {
     }
 }
 
-/// The words behind `run`.
+/// The words after `run`.
 fn as_run(alloc: Global, words: &[Text]) -> Result<Vec<Text>, AllocError> {
     let mut all = Vec::new(alloc);
     all.push(Text::of(alloc, "run")?)?;

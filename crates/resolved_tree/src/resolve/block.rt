@@ -43,7 +43,7 @@ pub fn statements(trees: &mut Trees, node: StatementsNode) -> Result<NodeId, All
     Ok(id)
 }
 
-/// Statements as one list. It is made from its end, so no statement waits for those behind it.
+/// Statements as one list. It is made from its end, so no statement waits for those after it.
 pub(crate) fn linked(trees: &mut Trees, ids: &[NodeId]) -> Result<NodeId, AllocError>
     requires { IsIn (table trees.old) (each_node ids.now) }
     ensures tree { IfOk result (λ id. (u : Table) → Grows (table trees.new) u
@@ -108,7 +108,7 @@ pub(crate) fn copied<'a>(alloc: Global, locals: &[Local<'a>]) -> Result<Vec<Loca
     Ok(copy)
 }
 
-/// What is declared behind a statement of a block.
+/// What is declared after a statement of a block.
 pub(crate) fn declare<'a>(locals: &mut Vec<Local<'a>>, stmt: &'a Stmt) -> Result<(), AllocError>
     ensures { OnOk result (locals_of locals.new.items ≡ declared_by (bare_stmt stmt.now) (locals_of locals.old.items)) }
 {

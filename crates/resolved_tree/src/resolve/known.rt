@@ -52,7 +52,7 @@ impl<'a> Known<'a> {
         Known { alloc, definitions }
     }
 
-    /// The definition of a name; a struct's is `struct` with its tag behind a blank.
+    /// The definition of a name; a struct's is `struct` with its tag after a blank.
     pub fn definition(&self, name: &str) -> Option<&'a Def>
         ensures { option_map (λ d. bare_def d.now) result ≡ known_of self.now name.now }
     {

@@ -1,4 +1,4 @@
-//! Operators and library calls, from the expressions that they stand on.
+//! Operators and library calls, and the expressions that they take.
 ghost use Rattle.std.specs.Prelude.{◌≡◌, pos, IfOk};
 ghost use Rattle.c_ints.specs.declared.kind.Kind.TheVariants.{I32};
 ghost use Rattle.c_ints.specs.Number.{number, kind_of};

@@ -151,7 +151,7 @@ fn block<'a>(
     sequence(trees, known, returned, &mut scope, list)
 }
 
-/// Statements in order, with the local variables that they declare behind them.
+/// Statements in order, with the local variables that they declare after them.
 #[cycle(resolve_statement)]
 fn sequence<'a>(
     trees: &mut Trees,

@@ -5,7 +5,7 @@ use Rattle.local_evaluation.specs.declared.work.Jump.TheVariants.{Break, Continu
 use Rattle.local_evaluation.specs.Pieces.{piece_of, pending}
 use Rattle.local_evaluation.specs.Weights.{weight}
 use Rattle.local_evaluation.specs.Work.{scopes_of, way}
-use Rattle.local_evaluation.proofs.Leaving.{way_closes, no_way, behind_loop, behind_do, passes}
+use Rattle.local_evaluation.proofs.Leaving.{way_closes, no_way, after_body_of_loop, after_body_of_do, passes}
 use Rattle.local_evaluation.proofs.jump.leave.Goals as goal
 
 pub returns-then-not-close-clause-meaning : goal.returns-then-not-close-clause-meaning
@@ -39,24 +39,24 @@ loop-piece-preserved-else-not-close c = record {
   falls = λ t. let h = ap weight (c.in-Some.ensures.first t) in let i = c.loop-piece.invariant.falls t in omega arith;
 }
 
-pub returns-in_ok-put-in-Behind-clause-meaning : goal.returns-in_ok-put-in-Behind-clause-meaning
-returns-in_ok-put-in-Behind-clause-meaning c = λ t values.
+pub returns-in_ok-put-in-AfterBody-clause-meaning : goal.returns-in_ok-put-in-AfterBody-clause-meaning
+returns-in_ok-put-in-AfterBody-clause-meaning c = λ t values.
     let rest = pending t c.next.new.pieces.items in
     let scopes = scopes_of t c.loop-piece.scopes.items in
     let on : way Continue (ways (piece_of t c.in-Some.piece ∷ rest)) ≡ local (piece_of t c.in-Some.piece ∷ rest) =
-    elim c.in-Behind.is [ inl h ↦ rw h.1 (behind_loop t h.0 rest).0 | inr h ↦ rw h.3 (behind_do t h.0 h.1 h.2 rest).0 ]
+    elim c.in-AfterBody.is [ inl h ↦ rw h.1 (after_body_of_loop t h.0 rest).0 | inr h ↦ rw h.3 (after_body_of_do t h.0 h.1 h.2 rest).0 ]
     in
     c.loop-piece.invariant.meaning t values
     ∙ ap (λ ps. way c.args.jump (ways ps) values scopes) (c.in-Some.ensures.first t)
     ∙ ap (λ j. way j (ways (piece_of t c.in-Some.piece ∷ rest)) values scopes) c.in-Continue.is
     ∙ ap (λ f. f values scopes) on
-    ∙ ap (λ ps. local ps values scopes) (sym (c.in_ok-put-in-Behind.ensures t))
+    ∙ ap (λ ps. local ps values scopes) (sym (c.in_ok-put-in-AfterBody.ensures t))
 
-pub returns-in_ok-put-in-Behind-clause-falls : goal.returns-in_ok-put-in-Behind-clause-falls
-returns-in_ok-put-in-Behind-clause-falls c = λ t.
+pub returns-in_ok-put-in-AfterBody-clause-falls : goal.returns-in_ok-put-in-AfterBody-clause-falls
+returns-in_ok-put-in-AfterBody-clause-falls c = λ t.
     let h = ap weight (c.in-Some.ensures.first t) in
     let i = c.loop-piece.invariant.falls t in
-    let k = ap weight (c.in_ok-put-in-Behind.ensures t) in
+    let k = ap weight (c.in_ok-put-in-AfterBody.ensures t) in
     omega arith
 
 pub returns-in_default-jump-clause-meaning : goal.returns-in_default-jump-clause-meaning
@@ -64,7 +64,7 @@ returns-in_default-jump-clause-meaning c = λ t values.
     let rest = pending t c.next.new.pieces.items in
     let scopes = scopes_of t c.loop-piece.scopes.items in
     let on : way Break (ways (piece_of t c.in-Some.piece ∷ rest)) ≡ local rest =
-    elim c.in-Behind.is [ inl h ↦ rw h.1 (behind_loop t h.0 rest).1 | inr h ↦ rw h.3 (behind_do t h.0 h.1 h.2 rest).1 ]
+    elim c.in-AfterBody.is [ inl h ↦ rw h.1 (after_body_of_loop t h.0 rest).1 | inr h ↦ rw h.3 (after_body_of_do t h.0 h.1 h.2 rest).1 ]
     in
     c.loop-piece.invariant.meaning t values
     ∙ ap (λ ps. way c.args.jump (ways ps) values scopes) (c.in-Some.ensures.first t)
@@ -83,7 +83,7 @@ loop-piece-preserved c = record {
       c.loop-piece.invariant.meaning t values
       ∙ ap (λ ps. way c.args.jump (ways ps) values scopes) (c.in-Some.ensures.first t)
       ∙ ap (λ f. f values scopes)
-      (passes c.args.jump t c.in-Some.piece rest c.in_default-piece.not-Close c.in_default-piece.not-Behind c.in_default-piece.not-Until);
+      (passes c.args.jump t c.in-Some.piece rest c.in_default-piece.not-Close c.in_default-piece.not-AfterBody c.in_default-piece.not-Until);
   falls = λ t. let h = ap weight (c.in-Some.ensures.first t) in let i = c.loop-piece.invariant.falls t in omega arith;
 }
 

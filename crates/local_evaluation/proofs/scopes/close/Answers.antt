@@ -3,7 +3,7 @@ use Rattle.local_evaluation.specs.declared.work.Local.TheVariants.{Block, Variab
 use Rattle.resolved_tree.specs.Nodes.{Table, word}
 use Rattle.local_evaluation.specs.Values.{seen}
 use Rattle.local_evaluation.specs.Work.{scopes_of, entered}
-use Rattle.local_evaluation.proofs.Variables.{behind, is_open, scopes_push, closes, behind_declared, declared_opens, always_open}
+use Rattle.local_evaluation.proofs.Variables.{behind, is_open, scopes_push, closes, after_declared, declared_opens, always_open}
 use Rattle.local_evaluation.proofs.scopes.close.Goals as goal
 
 pub returns-in-Block : goal.returns-in-Block
@@ -26,7 +26,7 @@ loop-local-preserved c =
     let e : now ≡ mid ++ l ∷ [] = c.in-Some.ensures.items ∙ ap (λ x. mid ++ x ∷ []) c.in_default-local.is in
     let f : (t : Table) → scopes_of t now ≡ entered t l (scopes_of t mid) = λ t. ap (scopes_of t) e ∙ scopes_push t mid l in
     record {
-      rest = λ t. sym (behind_declared (word t c.in_default-local.field-0) (seen c.in_default-local.field-1) (scopes_of t mid))
+      rest = λ t. sym (after_declared (word t c.in_default-local.field-0) (seen c.in_default-local.field-1) (scopes_of t mid))
           ∙ ap behind (sym (f t)) ∙ c.loop-local.invariant.rest t;
       some = λ t. always_open (scopes_of t mid)
           ∙ sym (declared_opens c.loop-local.variables (word t c.in_default-local.field-0) (seen c.in_default-local.field-1) (scopes_of t mid))

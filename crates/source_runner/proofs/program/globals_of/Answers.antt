@@ -7,7 +7,7 @@ use Rattle.source_runner.specs.declared.store.Cells.{Cells}
 use Rattle.source_runner.specs.Stores.{cells_of, globals_of}
 use Rattle.resolved_tree.proofs.Kept.{grows_trans}
 use Rattle.source_runner.proofs.Defining.{next_definition}
-use Rattle.source_runner.proofs.Told.{told_some, told_none}
+use Rattle.source_runner.proofs.Reported.{reported_some, reported_none}
 use Rattle.source_runner.proofs.program.globals_of.Goals.{in-Some+in_ok-push, in_default}
 use Rattle.source_runner.proofs.program.globals_of.Goals as goal
 
@@ -27,13 +27,13 @@ loop-definition-preserved c =
           let told = c.in_ok-cells.ensures.cells u g in
           elim c.match-branch-2.branch [
             | in-Some+in_ok-push w ↦
-                told_some (cells_of u) cells_at_first cs c.match-branch-2.globals.items w.in-Some.cells before now own
+                reported_some (cells_of u) cells_at_first cs c.match-branch-2.globals.items w.in-Some.cells before now own
                 (ap (λ v. v.items) w.globals-is ∙ w.in_ok-push.ensures.items) longer so_far
                 (ap (option_map (cells_of u)) (sym w.in-Some.is) ∙ told)
             | in_default w ↦
                 let P : List Cells → Type 0 = λ xs. globals_of u xs ≡ filter_map cells_at_first now in
                 subst P (sym (ap (λ v. v.items) w.globals-is))
-                (told_none (cells_of u) cells_at_first cs before now own longer so_far (ap (option_map (cells_of u)) (sym w.in_default.is) ∙ told))
+                (reported_none (cells_of u) cells_at_first cs before now own longer so_far (ap (option_map (cells_of u)) (sym w.in_default.is) ∙ told))
           ];
     }
 

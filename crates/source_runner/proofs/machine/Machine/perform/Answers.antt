@@ -1,6 +1,6 @@
 use Rattle.std.proofs.Common.{refl}
 use Rattle.source_model.specs.Moves.{gone_on}
-use Rattle.source_runner.specs.declared.perform.Did.TheVariants.{On, Trap, Nothing}
+use Rattle.source_runner.specs.declared.shared_stops.Did.TheVariants.{On, Trap, Nothing}
 use Rattle.source_runner.specs.Programs.{table_of, text_of}
 use Rattle.source_runner.specs.Stores.{with_store}
 use Rattle.source_runner.specs.Machines.{standing_at}

@@ -4,17 +4,9 @@ use Rattle.local_evaluation.specs.Pieces.{stop_of}
 use Rattle.source_runner.specs.Programs.{table_of, text_of}
 use Rattle.source_runner.specs.Machines.{frame_at}
 use Rattle.source_runner.specs.Frames.{frames_of}
-use Rattle.source_runner.proofs.Stopping.{at_stop, moves_as, need_not_wait, not_of_threads, right_of_first, stop_as, waits, wrong_use}
-use Rattle.source_runner.proofs.Halted.{at_over, halted_thread}
+use Rattle.source_runner.proofs.Stopping.{at_stop, moves_as, not_of_threads, right_of_first, stop_as, wrong_use}
+use Rattle.source_runner.proofs.Halted.{halted_thread}
 use Rattle.source_runner.proofs.machine.Machine.stop.Goals as goal
-
-pub returns-then-must_wait : goal.returns-then-must_wait
-returns-then-must_wait c = λ w before but going same.
-    let t = table_of c.args.self.now.program in
-    moves_as _ w _ _ _
-    (waits (stop_of t c.args.stop) w c.args.slot before (frame_at t c.args.frame c.args.point) (frames_of t c.args.thread.below.items)
-    (sym (c.must_wait.ensures w but.all) ∙ c.if-must_wait.true))
-    (c.stay.ensures w before but (at_over _ _ _ _ _ _ going same))
 
 pub returns-then-not-is_right : goal.returns-then-not-is_right
 returns-then-not-is_right c = λ w before but going same.
@@ -24,9 +16,7 @@ returns-then-not-is_right c = λ w before but going same.
     let below = frames_of t c.args.thread.below.items in
     let wrong = right_of_first (text_of c.args.self.now.program) w c.args.frame.version (use_at s) _ but.all.table
     (sym (c.is_right.ensures but.all.program) ∙ c.if-not-is_right.true) in
-    moves_as _ w _ _ _
-    (need_not_wait s w c.args.slot before f below (sym (c.must_wait.ensures w but.all) ∙ c.if-must_wait.false)
-    ∙ wrong_use s w c.args.slot before f below (use_at s) wrong)
+    moves_as _ w _ _ _ (wrong_use s w c.args.slot before f below (use_at s) wrong)
     (c.misuse.ensures w before but (halted_thread _ _ _ true _ _ _ _ refl same))
 
 pub returns-in-Spawn : goal.returns-in-Spawn
@@ -35,8 +25,7 @@ returns-in-Spawn c = λ w before but going same.
     let s = stop_of (table_of m.program) c.args.stop in
     let right = right_of_first (text_of m.program) w c.args.frame.version (use_at s) _ but.all.table
     (sym (c.is_right.ensures but.all.program) ∙ c.if-not-is_right.false) in
-    let goes = sym (c.must_wait.ensures w but.all) ∙ c.if-must_wait.false in
-    moves_as _ w _ _ _ (stop_as m c.args.slot c.args.thread c.args.frame c.args.stop _ c.args.point w before c.in-Spawn.is goes right)
+    moves_as _ w _ _ _ (stop_as m c.args.slot c.args.thread c.args.frame c.args.stop _ c.args.point w before c.in-Spawn.is right)
     (c.spawn.ensures w before _ (at_stop m c.args.slot c.args.thread c.args.frame c.args.stop _ c.args.point w before c.in-Spawn.is but going same right))
 
 pub returns-in-Join : goal.returns-in-Join
@@ -45,8 +34,7 @@ returns-in-Join c = λ w before but going same.
     let s = stop_of (table_of m.program) c.args.stop in
     let right = right_of_first (text_of m.program) w c.args.frame.version (use_at s) _ but.all.table
     (sym (c.is_right.ensures but.all.program) ∙ c.if-not-is_right.false) in
-    let goes = sym (c.must_wait.ensures w but.all) ∙ c.if-must_wait.false in
-    moves_as _ w _ _ _ (stop_as m c.args.slot c.args.thread c.args.frame c.args.stop _ c.args.point w before c.in-Join.is goes right)
+    moves_as _ w _ _ _ (stop_as m c.args.slot c.args.thread c.args.frame c.args.stop _ c.args.point w before c.in-Join.is right)
     (c.join.ensures w before _ (at_stop m c.args.slot c.args.thread c.args.frame c.args.stop _ c.args.point w before c.in-Join.is but going same right))
 
 pub returns-in-Call : goal.returns-in-Call
@@ -55,8 +43,7 @@ returns-in-Call c = λ w before but going same.
     let s = stop_of (table_of m.program) c.args.stop in
     let right = right_of_first (text_of m.program) w c.args.frame.version (use_at s) _ but.all.table
     (sym (c.is_right.ensures but.all.program) ∙ c.if-not-is_right.false) in
-    let goes = sym (c.must_wait.ensures w but.all) ∙ c.if-must_wait.false in
-    moves_as _ w _ _ _ (stop_as m c.args.slot c.args.thread c.args.frame c.args.stop _ c.args.point w before c.in-Call.is goes right)
+    moves_as _ w _ _ _ (stop_as m c.args.slot c.args.thread c.args.frame c.args.stop _ c.args.point w before c.in-Call.is right)
     (c.call.ensures w before _ (at_stop m c.args.slot c.args.thread c.args.frame c.args.stop _ c.args.point w before c.in-Call.is but going same right))
 
 pub returns-in-Return : goal.returns-in-Return
@@ -65,8 +52,7 @@ returns-in-Return c = λ w before but going same.
     let s = stop_of (table_of m.program) c.args.stop in
     let right = right_of_first (text_of m.program) w c.args.frame.version (use_at s) _ but.all.table
     (sym (c.is_right.ensures but.all.program) ∙ c.if-not-is_right.false) in
-    let goes = sym (c.must_wait.ensures w but.all) ∙ c.if-must_wait.false in
-    moves_as _ w _ _ _ (stop_as m c.args.slot c.args.thread c.args.frame c.args.stop _ c.args.point w before c.in-Return.is goes right)
+    moves_as _ w _ _ _ (stop_as m c.args.slot c.args.thread c.args.frame c.args.stop _ c.args.point w before c.in-Return.is right)
     (c.give_back.ensures w before _ (at_stop m c.args.slot c.args.thread c.args.frame c.args.stop _ c.args.point w before c.in-Return.is but going same right))
 
 pub returns-in-Begin : goal.returns-in-Begin
@@ -75,8 +61,7 @@ returns-in-Begin c = λ w before but going same.
     let s = stop_of (table_of m.program) c.args.stop in
     let right = right_of_first (text_of m.program) w c.args.frame.version (use_at s) _ but.all.table
     (sym (c.is_right.ensures but.all.program) ∙ c.if-not-is_right.false) in
-    let goes = sym (c.must_wait.ensures w but.all) ∙ c.if-must_wait.false in
-    moves_as _ w _ _ _ (stop_as m c.args.slot c.args.thread c.args.frame c.args.stop _ c.args.point w before c.in-Begin.is goes right)
+    moves_as _ w _ _ _ (stop_as m c.args.slot c.args.thread c.args.frame c.args.stop _ c.args.point w before c.in-Begin.is right)
     (c.begin.ensures w before _ (at_stop m c.args.slot c.args.thread c.args.frame c.args.stop _ c.args.point w before c.in-Begin.is but going same right))
 
 pub returns-in-End : goal.returns-in-End
@@ -85,8 +70,7 @@ returns-in-End c = λ w before but going same.
     let s = stop_of (table_of m.program) c.args.stop in
     let right = right_of_first (text_of m.program) w c.args.frame.version (use_at s) _ but.all.table
     (sym (c.is_right.ensures but.all.program) ∙ c.if-not-is_right.false) in
-    let goes = sym (c.must_wait.ensures w but.all) ∙ c.if-must_wait.false in
-    moves_as _ w _ _ _ (stop_as m c.args.slot c.args.thread c.args.frame c.args.stop _ c.args.point w before c.in-End.is goes right)
+    moves_as _ w _ _ _ (stop_as m c.args.slot c.args.thread c.args.frame c.args.stop _ c.args.point w before c.in-End.is right)
     (c.end.ensures w before _ (at_stop m c.args.slot c.args.thread c.args.frame c.args.stop _ c.args.point w before c.in-End.is but going same right))
 
 pub returns-in_default : goal.returns-in_default
@@ -96,7 +80,6 @@ returns-in_default c = λ w before but going same.
     let s = stop_of t c.args.stop in
     let right = right_of_first (text_of m.program) w c.args.frame.version (use_at s) _ but.all.table
     (sym (c.is_right.ensures but.all.program) ∙ c.if-not-is_right.false) in
-    let goes = sym (c.must_wait.ensures w but.all) ∙ c.if-must_wait.false in
-    moves_as _ w _ _ _ (stop_as m c.args.slot c.args.thread c.args.frame c.args.stop c.args.stop c.args.point w before refl goes right)
+    moves_as _ w _ _ _ (stop_as m c.args.slot c.args.thread c.args.frame c.args.stop c.args.stop c.args.point w before refl right)
     (c.perform.ensures w before _ (at_stop m c.args.slot c.args.thread c.args.frame c.args.stop c.args.stop c.args.point w before refl but going same right)
     (not_of_threads t c.args.stop c.in_default.not-Spawn c.in_default.not-Join c.in_default.not-Call c.in_default.not-Return c.in_default.not-Begin c.in_default.not-End))

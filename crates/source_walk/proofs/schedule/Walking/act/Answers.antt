@@ -11,6 +11,6 @@ returns-then-has_ended-clause-goes c = λ text objects moves at.
 pub returns-clause-goes : goal.returns-clause-goes
 returns-clause-goes c = λ text objects moves at.
     let going = sym (c.has_ended.ensures (setup_of text objects) at.events at.guard at.holds) ∙ c.if-has_ended.false in
-    went text objects moves c.args.self.now c.act_behind.new.self at going c.requires.left c.act_behind.result
-    (c.act_behind.ensures.came (setup_of text objects) at.events at.guard at.last at.holds going at.first)
-    c.act_behind.ensures.same
+    went text objects moves c.args.self.now c.act_after.new.self at going c.requires.left c.act_after.result
+    (c.act_after.ensures.came (setup_of text objects) at.events at.guard at.last at.holds going at.first)
+    c.act_after.ensures.same

@@ -1,6 +1,6 @@
 use Rattle.std.proofs.Common.{◌≡◌, ◌∙◌, Ok, true, false, ap, refl, sym}
 use Rattle.source_walk.specs.Walking.{SameBut}
-use Rattle.source_walk.proofs.Turns.{acts_first, behind_turn, of_ok, turn}
+use Rattle.source_walk.proofs.Turns.{acts_first, after_turn, of_ok, turn}
 use Rattle.source_walk.proofs.schedule.Walking.act_within.Goals as goal
 
 pub returns-then-branch-clause-came : goal.returns-then-branch-clause-came
@@ -16,7 +16,7 @@ loop-slot-preserved c = record {
   came = λ setup events g h going.
       let at = c.loop-slot.invariant.came setup events g h going in
       let went = of_ok c.act_in.result false _ not (c.act_in.ensures.came setup events g at.0 going) in
-      (went.0, behind_turn g c.loop-slot.slot c.args.to c.loop-slot-test.true went.1 ∙ at.1);
+      (went.0, after_turn g c.loop-slot.slot c.args.to c.loop-slot-test.true went.1 ∙ at.1);
 }
   where
     not : c.act_in.result ≡ Ok false

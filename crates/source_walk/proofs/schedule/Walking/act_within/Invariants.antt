@@ -2,7 +2,7 @@ use Rattle.std.proofs.Common.{◌≡◌, ◌-◌, List, false}
 use Rattle.std.specs.List.{range_with_len}
 use Rattle.bytecode.specs.declared.run.Event.{Event}
 use Rattle.source_model.specs.Guards.{Guard, Setup, has_ended}
-use Rattle.source_model.specs.Journals.{first_act}
+use Rattle.source_model.specs.Schedules.{first_act}
 use Rattle.source_walk.specs.Walking.{Holds, SameBut}
 use Rattle.source_walk.proofs.schedule.Walking.act_within.Given as goal
 

@@ -1,4 +1,4 @@
-use Rattle.std.proofs.Common.{◌≡◌, ◌∙◌, Bool, true, false, Ok, ap}
+use Rattle.std.proofs.Common.{◌∙◌, false, Ok, ap}
 use Rattle.source_walk.specs.Walking.{GoesOn}
 use Rattle.source_walk.proofs.Turns.{of_ok}
 use Rattle.source_walk.proofs.schedule.Walking.go.Goals as goal

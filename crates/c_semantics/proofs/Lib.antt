@@ -1,0 +1,12 @@
+mod Segments
+mod Unions
+mod Sizes
+mod Landing
+mod Following
+mod FollowingStatements
+mod Paired
+mod Along
+mod Ascending
+mod Placed
+mod Examples
+mod PlacedExamples

@@ -1,0 +1,471 @@
+//! Stops that change threads.
+ghost use Rattle.std.specs.Prelude.{◌≡◌, ◌<◌, ◌∷◌, ℕ, drop, length, slice_index_or, slice_set, true, None, option_map, IfOk, IfSome, OnOk, MatchOption};
+ghost use Rattle.c_semantics.specs.Values.{Started as IsStartedValue};
+ghost use Rattle.std.specs.List.{position};
+ghost use Rattle.c_ints.specs.Number.{value_of};
+ghost use Rattle.c_semantics.specs.Threads.{Thread as SeenThread};
+ghost use Rattle.source_model.specs.Worlds.{World, in_slot, with_slot, Free as IsFree, Over as IsOver};
+ghost use Rattle.source_model.specs.Moves.{Standing, begin_at, call, end_at, finish_thread, goes_on, gone_on, join, join_slot, number_of, return, return_to, spawn};
+ghost use Rattle.local_evaluation.specs.declared.piece.Stop.TheVariants.{Spawn as AtSpawn, Join as AtJoin, Call as AtCall, Return as AtReturn, Begin as AtBegin, End as AtEnd};
+ghost use Rattle.source_runner.specs.declared.thread.Slot.TheVariants.{Free as FreeSlot};
+ghost use Rattle.source_runner.specs.Frames.{frames_of};
+ghost use Rattle.source_runner.specs.Joins.{is_free_slot, result_of};
+ghost use Rattle.source_runner.specs.Machines.{IsAtStop, IsPut, IsStarted, IsUser, Moves, Stands, StandsBut, enter_with, standing_at};
+ghost use Rattle.resolved_tree.specs.Nodes.{word};
+ghost use Rattle.source_runner.specs.Programs.{table_of, text_of};
+ghost use Rattle.local_evaluation.specs.Values.{seen, seen_thread};
+ghost use Rattle.local_evaluation.specs.Work.{newest};
+
+use crate::machine::{Finish, Machine};
+use crate::stack::{pop_frame, push_frame, take_arguments};
+use crate::thread::{Enter, Frame, Next, Slot, Thread};
+use bytecode::TrapKind;
+use c_ints::Int;
+use local_evaluation::stack::{discard, last, push};
+use local_evaluation::{Halt, Stop, ThreadRef, Value};
+use resolved_tree::{Word, later};
+use std::alloc::AllocError;
+
+/// The place of the least slot that is free.
+fn free_slot(slots: &[Slot]) -> Option<usize>
+    ensures least { result ≡ position is_free_slot slots.now }
+    ensures free { IfSome result (λ place. is_free_slot (slice_index_or slots.now place FreeSlot) ≡ true) }
+{
+    for place in 0..slots.len() {
+        if let Slot::Free = slots[place] {
+            return Some(place);
+        }
+    }
+    None
+}
+
+/// The int of a value; 0 where it's none.
+fn number_of(value: Value) -> Int
+    ensures { value_of result ≡ number_of (seen value) }
+{
+    match value {
+        Value::Number(n) => n,
+        Value::Reference(_) | Value::Started(_) => Int::I32(0),
+    }
+}
+
+/// What the newest value names, if it is a handle.
+fn handle(values: &[Value]) -> Option<Option<ThreadRef>>
+    ensures { MatchOption result ((s : Standing) → join s (newest values.now) ≡ None)
+        (λ named. newest values.now ≡ IsStartedValue (option_map seen_thread named) ∷ drop 1 (newest values.now)) }
+{
+    match last(values)? {
+        Value::Started(named) => Some(named),
+        Value::Number(_) | Value::Reference(_) => None,
+    }
+}
+
+/// The result of a named thread, if it ended and wasn't joined yet; the thread that asks was taken from `slot`.
+fn result_of(slots: &[Slot], slot: usize, named: ThreadRef) -> Option<Value>
+    ensures { result ≡ result_of slots.now slot named }
+{
+    if named.slot == slot {
+        return None;
+    }
+    match slots.get(named.slot) {
+        Some(Slot::Over(ended, value)) if *ended == named.serial => Some(*value),
+        _ => None,
+    }
+}
+
+impl Machine {
+    /// Starts a thread with the newest value in the least free slot. Where there is none, the handle names no thread.
+    pub(crate) fn spawn(
+        &mut self,
+        slot: u8,
+        thread: Thread,
+        frame: Frame,
+        name: Word,
+        point: u32,
+    ) -> Result<bool, AllocError>
+        requires { slot < length self.old.slots.items }
+        ensures { let t = table_of self.old.program in (w : World) (before user : SeenThread)
+            → IsAtStop self.old slot thread frame (AtSpawn name) point w before user
+            → Moves self.new w result (spawn (standing_at t w slot thread frame point user) (word t name) (newest frame.work.values.items)) }
+    {
+        match last(frame.work.values.as_slice()) {
+            Some(argument) => self.spawn_with(slot, thread, frame, name, argument, point),
+            None => self.stay(
+                slot,
+                thread,
+                Next::Halt(frame, Halt::At(Stop::Spawn(name), point)),
+            ),
+        }
+    }
+
+    /// The same with its argument.
+    fn spawn_with(
+        &mut self,
+        slot: u8,
+        thread: Thread,
+        frame: Frame,
+        name: Word,
+        argument: Value,
+        point: u32,
+    ) -> Result<bool, AllocError>
+        requires { slot < length self.old.slots.items }
+        ensures { let t = table_of self.old.program in (w : World) (before user : SeenThread)
+            → IsAtStop self.old slot thread frame (AtSpawn name) point w before user
+            → Moves self.new w result (spawn (standing_at t w slot thread frame point user) (word t name) (seen argument ∷ drop 1 (newest frame.work.values.items))) }
+    {
+        let mut frame = frame;
+        let started = self.start(slot, name, argument, frame.version)?;
+        discard(&mut frame.work.values);
+        push(&mut frame.work.values, Value::Started(started))?;
+        frame.standing = point;
+        self.go_on(slot, thread, frame)
+    }
+
+    /// Starts a thread with an argument in the least free slot, if one is free; that of the thread that moves isn't.
+    fn start(
+        &mut self,
+        slot: u8,
+        name: Word,
+        argument: Value,
+        version: usize,
+    ) -> Result<Option<ThreadRef>, AllocError>
+        ensures kept { OnOk result (self.new.program ≡ self.old.program) }
+        ensures within { OnOk result (length self.new.slots.items ≡ length self.old.slots.items) }
+        ensures started { let enter = enter_with (table_of self.old.program) name argument version in (w : World) (before : SeenThread)
+            → StandsBut self.old slot w before → IfOk result (λ started. IsStarted self.new slot w before enter started) }
+    {
+        match free_slot(self.slots.as_slice()) {
+            Some(place) => {
+                let serial = self.threads;
+                self.put(place, name, argument, version)?;
+                Ok(Some(ThreadRef {
+                    slot: place,
+                    serial,
+                }))
+            }
+            None => Ok(None),
+        }
+    }
+
+    /// Puts a new thread into a slot.
+    fn put(
+        &mut self,
+        place: usize,
+        name: Word,
+        argument: Value,
+        version: usize,
+    ) -> Result<(), AllocError>
+        requires { place < length self.old.slots.items }
+        ensures { OnOk result (IsPut self.old self.new place name argument version) }
+    {
+        let threads = later(self.threads)?;
+        let alloc = *self.slots.allocator();
+        let mut arguments = Vec::new(alloc);
+        arguments.push(argument)?;
+        let thread = Thread {
+            serial: self.threads,
+            below: Vec::new(alloc),
+            depth: 0,
+        };
+        let due = Enter {
+            function: name,
+            arguments,
+            version,
+        };
+        self.threads = threads;
+        self.slots[place] = Slot::Live(thread, Next::Enter(due));
+        Ok(())
+    }
+
+    /// Joins the thread that the newest value names.
+    pub(crate) fn join(
+        &mut self,
+        slot: u8,
+        thread: Thread,
+        frame: Frame,
+        point: u32,
+    ) -> Result<bool, AllocError>
+        requires { slot < length self.old.slots.items }
+        ensures { let t = table_of self.old.program in (w : World) (before user : SeenThread)
+            → IsAtStop self.old slot thread frame AtJoin point w before user
+            → Moves self.new w result (join (standing_at t w slot thread frame point user) (newest frame.work.values.items)) }
+    {
+        match handle(frame.work.values.as_slice()) {
+            Some(named) => self.join_handle(slot, thread, frame, named, point),
+            None => self.stay(slot, thread, Next::Halt(frame, Halt::At(Stop::Join, point))),
+        }
+    }
+
+    /// Joins the thread that a handle names, if it names one.
+    fn join_handle(
+        &mut self,
+        slot: u8,
+        thread: Thread,
+        frame: Frame,
+        named: Option<ThreadRef>,
+        point: u32,
+    ) -> Result<bool, AllocError>
+        requires { slot < length self.old.slots.items }
+        ensures { let t = table_of self.old.program in (w : World) (before user : SeenThread)
+            → IsAtStop self.old slot thread frame AtJoin point w before user
+            → Moves self.new w result (join (standing_at t w slot thread frame point user) (IsStartedValue (option_map seen_thread named) ∷ drop 1 (newest frame.work.values.items))) }
+    {
+        match named {
+            Some(named) => self.join_named(slot, thread, frame, named, point),
+            None => self.trap(
+                slot,
+                thread,
+                Next::Halt(frame, Halt::Nothing),
+                TrapKind::Join,
+            ),
+        }
+    }
+
+    /// Joins a thread: its slot is free again, and its result is the newest value.
+    fn join_named(
+        &mut self,
+        slot: u8,
+        thread: Thread,
+        frame: Frame,
+        named: ThreadRef,
+        point: u32,
+    ) -> Result<bool, AllocError>
+        requires { slot < length self.old.slots.items }
+        ensures { let t = table_of self.old.program in (w : World) (before user : SeenThread)
+            → IsAtStop self.old slot thread frame AtJoin point w before user
+            → Moves self.new w result (join_slot (standing_at t w slot thread frame point user) (seen_thread named) (drop 1 (newest frame.work.values.items)) (in_slot w named.slot)) }
+    {
+        match result_of(self.slots.as_slice(), slot as usize, named) {
+            Some(value) => self.take_result(slot, thread, frame, named, value, point),
+            None => self.trap(
+                slot,
+                thread,
+                Next::Halt(frame, Halt::Nothing),
+                TrapKind::Join,
+            ),
+        }
+    }
+
+    /// Takes the result of a thread that ended.
+    fn take_result(
+        &mut self,
+        slot: u8,
+        thread: Thread,
+        frame: Frame,
+        named: ThreadRef,
+        value: Value,
+        point: u32,
+    ) -> Result<bool, AllocError>
+        requires { slot < length self.old.slots.items }
+        ensures { let t = table_of self.old.program in (w : World) (before user : SeenThread)
+            → IsAtStop self.old slot thread frame AtJoin point w before user → (named.slot ≡ slot → ⊥)
+            → Moves self.new w result (goes_on (standing_at t w slot thread frame point user) (with_slot named.slot IsFree w) (seen value ∷ drop 1 (newest frame.work.values.items))) }
+    {
+        let mut frame = frame;
+        self.set_free(named.slot);
+        discard(&mut frame.work.values);
+        push(&mut frame.work.values, value)?;
+        frame.standing = point;
+        self.go_on(slot, thread, frame)
+    }
+
+    /// Makes a slot free, if there is one of that number.
+    fn set_free(&mut self, place: usize)
+        ensures same { self.new ≡ record self.old { slots = self.new.slots } }
+        ensures slots { self.new.slots.items ≡ slice_set self.old.slots.items place FreeSlot }
+    {
+        if place < self.slots.len() {
+            self.slots[place] = Slot::Free;
+        }
+    }
+
+    /// Calls a function, whose enter is the next move; its arguments are the newest values.
+    pub(crate) fn call(
+        &mut self,
+        slot: u8,
+        thread: Thread,
+        frame: Frame,
+        name: Word,
+        count: usize,
+        point: u32,
+    ) -> Result<bool, AllocError>
+        requires { slot < length self.old.slots.items }
+        ensures { let t = table_of self.old.program in (w : World) (before user : SeenThread)
+            → IsAtStop self.old slot thread frame (AtCall name count) point w before user
+            → Moves self.new w result (call (standing_at t w slot thread frame point user) (word t name) count (newest frame.work.values.items)) }
+    {
+        let mut frame = frame;
+        let mut thread = thread;
+        let arguments = take_arguments(&mut frame.work.values, count)?;
+        let due = Enter {
+            function: name,
+            arguments,
+            version: frame.version,
+        };
+        frame.standing = point;
+        push_frame(&mut thread.below, frame)?;
+        self.keep(slot, thread, Next::Enter(due));
+        Ok(true)
+    }
+
+    /// Returns the newest value to the frame that called, or ends the thread with it.
+    pub(crate) fn give_back(
+        &mut self,
+        slot: u8,
+        thread: Thread,
+        frame: Frame,
+        point: u32,
+    ) -> Result<bool, AllocError>
+        requires { slot < length self.old.slots.items }
+        ensures { let t = table_of self.old.program in (w : World) (before user : SeenThread)
+            → IsAtStop self.old slot thread frame AtReturn point w before user
+            → Moves self.new w result (return (standing_at t w slot thread frame point user) (newest frame.work.values.items)) }
+    {
+        match last(frame.work.values.as_slice()) {
+            Some(value) => self.give(slot, thread, frame, value),
+            None => self.stay(
+                slot,
+                thread,
+                Next::Halt(frame, Halt::At(Stop::Return, point)),
+            ),
+        }
+    }
+
+    /// Returns a value to the frame that called, or ends the thread with it.
+    fn give(
+        &mut self,
+        slot: u8,
+        thread: Thread,
+        frame: Frame,
+        value: Value,
+    ) -> Result<bool, AllocError>
+        requires { slot < length self.old.slots.items }
+        ensures { let t = table_of self.old.program in (w : World) (before user : SeenThread) (point : ℕ) → StandsBut self.old slot w before
+            → IsUser (text_of self.old.program) thread user → IsUser (text_of self.old.program) thread before
+            → Moves self.new w result (return_to (standing_at t w slot thread frame point user) (seen value) (frames_of t thread.below.items)) }
+    {
+        let mut thread = thread;
+        match pop_frame(&mut thread.below) {
+            Some(caller) => {
+                let mut caller = caller;
+                push(&mut caller.work.values, value)?;
+                self.go_on(slot, thread, caller)
+            }
+            None => self.finish(slot, thread, frame, value),
+        }
+    }
+
+    /// A thread's first call returned: of slot 0, which is main's, the run ends; else the thread.
+    fn finish(
+        &mut self,
+        slot: u8,
+        thread: Thread,
+        frame: Frame,
+        value: Value,
+    ) -> Result<bool, AllocError>
+        requires { slot < length self.old.slots.items }
+        ensures { (w : World) (before user : SeenThread) (point : ℕ) → StandsBut self.old slot w before
+            → IsUser (text_of self.old.program) thread user → IsUser (text_of self.old.program) thread before
+            → Moves self.new w result (finish_thread (standing_at (table_of self.old.program) w slot thread frame point user) (seen value) slot) }
+    {
+        if slot == 0 {
+            self.finish = Some(Finish::Finished(number_of(value)));
+            self.keep(slot, thread, Next::Halt(frame, Halt::Nothing));
+        } else {
+            self.leave(slot, thread.serial, value);
+        }
+        Ok(true)
+    }
+
+    /// A thread ends with a result.
+    fn leave(&mut self, slot: u8, serial: usize, value: Value)
+        requires { slot < length self.old.slots.items }
+        ensures { (w : World) (before : SeenThread) → StandsBut self.old slot w before
+            → Stands self.new (with_slot slot (IsOver serial (seen value)) w) }
+    {
+        self.slots[slot as usize] = Slot::Over(serial, value);
+    }
+
+    /// Begins a transaction.
+    pub(crate) fn begin(
+        &mut self,
+        slot: u8,
+        thread: Thread,
+        frame: Frame,
+        point: u32,
+    ) -> Result<bool, AllocError>
+        requires { slot < length self.old.slots.items }
+        ensures { let t = table_of self.old.program in (w : World) (before user : SeenThread)
+            → IsAtStop self.old slot thread frame AtBegin point w before user
+            → Moves self.new w result (begin_at (standing_at t w slot thread frame point user) user.depth (gone_on (standing_at t w slot thread frame point user) (newest frame.work.values.items))) }
+    {
+        let mut thread = thread;
+        let mut frame = frame;
+        thread.depth = later(thread.depth)?;
+        frame.standing = point;
+        self.go_on(slot, thread, frame)
+    }
+
+    /// Ends the innermost transaction; the record of the outermost one is closed.
+    pub(crate) fn end(
+        &mut self,
+        slot: u8,
+        thread: Thread,
+        frame: Frame,
+        point: u32,
+    ) -> Result<bool, AllocError>
+        requires { slot < length self.old.slots.items }
+        ensures { let t = table_of self.old.program in (w : World) (before user : SeenThread)
+            → IsAtStop self.old slot thread frame AtEnd point w before user
+            → Moves self.new w result (end_at (standing_at t w slot thread frame point user) user.depth (gone_on (standing_at t w slot thread frame point user) (newest frame.work.values.items))) }
+    {
+        match thread.depth {
+            0 => self.stay(slot, thread, Next::Halt(frame, Halt::At(Stop::End, point))),
+            1 => self.close(slot, thread, frame, point),
+            _ => self.end_inner(slot, thread, frame, point),
+        }
+    }
+
+    /// Ends an inner transaction.
+    fn end_inner(
+        &mut self,
+        slot: u8,
+        thread: Thread,
+        frame: Frame,
+        point: u32,
+    ) -> Result<bool, AllocError>
+        requires slot { slot < length self.old.slots.items }
+        requires depth { 1 < thread.depth }
+        ensures { let t = table_of self.old.program in (w : World) (before user : SeenThread)
+            → IsAtStop self.old slot thread frame AtEnd point w before user
+            → Moves self.new w result (end_at (standing_at t w slot thread frame point user) user.depth (gone_on (standing_at t w slot thread frame point user) (newest frame.work.values.items))) }
+    {
+        let mut thread = thread;
+        let mut frame = frame;
+        thread.depth -= 1;
+        frame.standing = point;
+        self.go_on(slot, thread, frame)
+    }
+
+    /// Ends an outermost transaction.
+    fn close(
+        &mut self,
+        slot: u8,
+        thread: Thread,
+        frame: Frame,
+        point: u32,
+    ) -> Result<bool, AllocError>
+        requires slot { slot < length self.old.slots.items }
+        requires depth { thread.depth ≡ 1 }
+        ensures { let t = table_of self.old.program in (w : World) (before user : SeenThread)
+            → IsAtStop self.old slot thread frame AtEnd point w before user
+            → Moves self.new w result (end_at (standing_at t w slot thread frame point user) user.depth (gone_on (standing_at t w slot thread frame point user) (newest frame.work.values.items))) }
+    {
+        let mut thread = thread;
+        let mut frame = frame;
+        self.closed.push(slot)?;
+        thread.depth = 0;
+        frame.standing = point;
+        self.go_on(slot, thread, frame)
+    }
+}
