@@ -1,0 +1,7 @@
+mod Examples
+pub mod EventLines
+pub mod Found
+pub mod Newlines
+mod Numbers
+pub mod Pages
+pub mod Reading
