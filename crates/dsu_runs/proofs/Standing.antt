@@ -1,0 +1,156 @@
+-- How a run stands: whether it is stuck, and how it ends.
+use Rattle.std.proofs.Common.{◌≡◌, ℕ, zero, suc, ◌+◌, ◌<◌, Bool, true, false, List, [], ◌∷◌, slice_index_or, Option, Some, None, refl, sym, ◌∙◌, ap, arith}
+use Rattle.std.specs.Prelude.{◌&&◌, ◌||◌, ◌==◌, not, length, if◌then◌else◌}
+use Rattle.std.specs.Option.{is_some}
+use Rattle.std.specs.List.{list_any, range_with_len}
+use Rattle.std.proofs.lemmas.Bool.{true≢false, false≢true}
+use Rattle.std.proofs.lemmas.Bool.Decides.{nat_tests}
+use Rattle.bytecode.specs.declared.run.Event.TheVariants.{Move, CheckIn}
+use Rattle.bytecode.specs.declared.run.Ending.{Ending}
+use Rattle.source_model.specs.Worlds.{World, Finish}
+use Rattle.source_model.specs.Worlds as world
+use Rattle.source_model.specs.Runs.{can_move, some_can_move}
+use Rattle.source_model.specs.Worlds.{Free, alive_in, in_slot, is_finished}
+use Rattle.source_model.specs.Guards.{Guard, Seat, empty_seat, has_ended, seat_of}
+use Rattle.source_model.specs.Schedules.{act_of}
+use Rattle.source_model.specs.Endings.{seats_wait}
+use Rattle.dsu_runs.specs.Engines.{finish_of}
+
+-- whether the thread in a slot is at a check-in or can move
+abbrev pub acts_in : Guard → ℕ → Bool
+acts_in g t = (seat_of g t).at_check_in || can_move g.world t
+
+-- seats and slots of which one is at a check-in or can move, and none
+at_one : (ss : List Seat) (t : ℕ) → (slice_index_or ss t empty_seat).at_check_in ≡ true → list_any (λ s. s.at_check_in) ss ≡ true
+at_one [] t at = absurd (false≢true at)
+at_one (s ∷ ss) zero at = ap (λ b. b || list_any (λ x. x.at_check_in) ss) at
+at_one (s ∷ ss) (suc t) at = or_true s.at_check_in (list_any (λ x. x.at_check_in) ss) (at_one ss t at)
+  where
+    or_true : (a b : Bool) → b ≡ true → (a || b) ≡ true
+    or_true true b e = refl
+    or_true false b e = e
+
+at_none : (ss : List Seat) → ((k : ℕ) → k < length ss → (slice_index_or ss k empty_seat).at_check_in ≡ false)
+    → list_any (λ s. s.at_check_in) ss ≡ false
+at_none [] h = refl
+at_none (s ∷ ss) h =
+    ap (λ b. b || list_any (λ x. x.at_check_in) ss) (h 0 (positive (length ss)))
+    ∙ at_none ss (λ k below. h (suc k) (one_more k (length ss) below))
+  where
+    positive : (n : ℕ) → 0 < suc n
+    positive n = omega arith
+
+    one_more : (a b : ℕ) → a < b → suc a < suc b
+    one_more a b lt = omega (arith, lt)
+
+moves_none : (w : World) (a n : ℕ) → ((k : ℕ) → k < n → can_move w (a + k) ≡ false) → list_any (can_move w) (range_with_len a n) ≡ false
+moves_none w a zero h = refl
+moves_none w a (suc n) h =
+    ap (λ b. b || list_any (can_move w) (range_with_len (a + 1) n)) (ap (can_move w) (sym (no_more a)) ∙ h 0 (positive n))
+    ∙ moves_none w (a + 1) n (λ k below. ap (can_move w) (sym (further a k)) ∙ h (suc k) (one_more k n below))
+  where
+    no_more : (m : ℕ) → m + 0 ≡ m
+    no_more m = omega arith
+
+    positive : (m : ℕ) → 0 < suc m
+    positive m = omega arith
+
+    further : (m i : ℕ) → m + suc i ≡ (m + 1) + i
+    further m i = omega arith
+
+    one_more : (i m : ℕ) → i < m → suc i < suc m
+    one_more i m lt = omega (arith, lt)
+
+or_right : (a b : Bool) → b ≡ true → (a || b) ≡ true
+or_right true b e = refl
+or_right false b e = e
+
+moves_one : (w : World) (a n k : ℕ) → k < n → can_move w (a + k) ≡ true → list_any (can_move w) (range_with_len a n) ≡ true
+moves_one w a zero k below can = absurd (omega (arith, below))
+moves_one w a (suc n) zero below can =
+    ap (λ b. b || list_any (can_move w) (range_with_len (a + 1) n)) (ap (can_move w) (no_more a) ∙ can)
+  where
+    no_more : (m : ℕ) → m ≡ m + 0
+    no_more m = omega arith
+moves_one w a (suc n) (suc k) below can =
+    or_right (can_move w a) (list_any (can_move w) (range_with_len (a + 1) n))
+    (moves_one w (a + 1) n k (omega (arith, below)) (ap (can_move w) (further a k) ∙ can))
+  where
+    further : (m i : ℕ) → (m + 1) + i ≡ m + suc i
+    further m i = omega arith
+
+neither : (a b : Bool) → (a || b) ≡ false → (a ≡ false) × (b ≡ false)
+neither false false e = (refl, refl)
+neither false true e = absurd (true≢false e)
+neither true b e = absurd (true≢false e)
+
+from_first : (k : ℕ) → 0 + k ≡ k
+from_first k = omega arith
+
+-- a run is stuck where no slot acts
+pub stuck : (g : Guard) → length g.seats ≡ length g.world.slots → ((k : ℕ) → k < length g.seats → acts_in g k ≡ false)
+    → true ≡ (seats_wait g.seats && not (some_can_move g.world))
+stuck g same none =
+    sym (both (list_any (λ s. s.at_check_in) g.seats) (some_can_move g.world)
+    (at_none g.seats (λ k below. (neither (seat_of g k).at_check_in (can_move g.world k) (none k below)).0))
+    (ap (λ n. list_any (can_move g.world) (range_with_len 0 n)) (sym same)
+    ∙ moves_none g.world 0 (length g.seats) (λ k below.
+    ap (can_move g.world) (from_first k) ∙ (neither (seat_of g k).at_check_in (can_move g.world k) (none k below)).1)))
+  where
+    both : (a b : Bool) → a ≡ false → b ≡ false → (not a && not b) ≡ true
+    both false false e f = refl
+    both true b e f = absurd (true≢false e)
+    both false true e f = absurd (true≢false f)
+
+-- and it isn't where one does
+pub not_stuck : (g : Guard) (t : ℕ) → length g.seats ≡ length g.world.slots → t < length g.seats → acts_in g t ≡ true
+    → false ≡ (seats_wait g.seats && not (some_can_move g.world))
+not_stuck g t same below acts = by (seat_of g t).at_check_in refl acts
+  where
+    at : list_any (λ s. s.at_check_in) g.seats ≡ true → false ≡ (seats_wait g.seats && not (some_can_move g.world))
+    at e = sym (ap (λ b. not b && not (some_can_move g.world)) e)
+
+    no : (a : Bool) → false ≡ (not a && not true)
+    no true = refl
+    no false = refl
+
+    can : some_can_move g.world ≡ true → false ≡ (seats_wait g.seats && not (some_can_move g.world))
+    can e = no (list_any (λ s. s.at_check_in) g.seats) ∙ sym (ap (λ b. seats_wait g.seats && not b) e)
+
+    by : (b : Bool) → (seat_of g t).at_check_in ≡ b → (b || can_move g.world t) ≡ true
+        → false ≡ (seats_wait g.seats && not (some_can_move g.world))
+    by true is e = at (at_one g.seats t is)
+    by false is e =
+        can (ap (λ n. list_any (can_move g.world) (range_with_len 0 n)) (sym same)
+        ∙ moves_one g.world 0 (length g.seats) t below (ap (can_move g.world) (from_first t) ∙ e))
+
+-- what a thread can do that is at no check-in
+pub act_going : (g : Guard) (t : ℕ) (b : Bool) → (seat_of g t).at_check_in ≡ false → can_move g.world t ≡ b
+    → act_of g t ≡ (if b then Some (Move t) else None)
+act_going g t b at can =
+    ap (λ x. if x then Some (CheckIn t) else (if can_move g.world t then Some (Move t) else None)) at
+    ∙ ap (λ x. if x then Some (Move t) else None) can
+
+-- one slot more that can't act
+pub one_slot_more : (g : Guard) (slot : ℕ) → ((k : ℕ) → k < slot → acts_in g k ≡ false) → acts_in g slot ≡ false
+    → (k : ℕ) → k < slot + 1 → acts_in g k ≡ false
+one_slot_more g slot before none k below = by (k == slot) refl
+  where
+    less : (i n : ℕ) → i < n + 1 → (i == n) ≡ false → i < n
+    less i n lt e = grind (arith, nat_tests, lt, e)
+
+    same : (i n : ℕ) → (i == n) ≡ true → n ≡ i
+    same i n e = grind (arith, nat_tests, e)
+
+    by : (b : Bool) → (k == slot) ≡ b → acts_in g k ≡ false
+    by true is = ap (acts_in g) (sym (same k slot is)) ∙ none
+    by false is = before k (less k slot below is)
+
+-- a run goes on whose engine has no ending for it
+pub still_going : (g : Guard) (o : Option Ending) → o ≡ finish_of g.world.finish → is_some o ≡ false → has_ended g ≡ false
+still_going g o is none = by g.world.finish (sym (ap is_some is) ∙ none)
+  where
+    by : (f : Option Finish) → is_some (finish_of f) ≡ false → is_some f ≡ false
+    by None e = refl
+    by (Some (world.Finished r)) e = e
+    by (Some (world.Trapped kind t)) e = e

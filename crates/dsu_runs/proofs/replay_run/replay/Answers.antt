@@ -1,0 +1,125 @@
+use Rattle.std.proofs.Common.{refl, sym, subst, arith}
+use Rattle.std.specs.Prelude.{slice_index_or}
+use Rattle.bytecode.specs.declared.run.Event.TheVariants.{Move}
+use Rattle.source_model.specs.Endings.{ending, int_ending}
+use Rattle.dsu_runs.specs.Replays.{Replayed}
+use Rattle.dsu_runs.proofs.Coming.{Tries}
+use Rattle.dsu_runs.proofs.Happening.{any_rules}
+use Rattle.dsu_runs.proofs.Replaying.{count, failed, finished, lacks, line_there, no_room, one_more, refused, starts}
+use Rattle.dsu_runs.proofs.replay_run.replay.Goals as goal
+
+pub returns-in_default : goal.returns-in_default
+returns-in_default g c =
+    let e = g.E.Engine in
+    no_room e.setup e.is_at e.told e.faults c.args.engine c.args.events.now (record { engine = c.args.engine; history = c.new.result }) refl
+    c.new.ensures.items
+
+pub loop-line-init : goal.loop-line-init
+loop-line-init g c =
+    let e = g.E.Engine in
+    starts e.setup e.is_at e.told e.faults c.args.engine c.args.events.now (record { engine = c.args.engine; history = c.in-Ok.history }) refl
+    c.in-Ok.ensures.items c.in-Ok.ensures.capacity c.requires.start
+
+pub loop-line-preserved : goal.loop-line-preserved
+loop-line-preserved g c =
+    let e = g.E.Engine in
+    let m = c.make.ensures in
+    let lines = c.args.events.now in
+    let n = c.loop-line.line-index in
+    let old = c.loop-line.running in
+    let new = c.make.new.self in
+    let line = slice_index_or lines n (0, Move 0) in
+    let tries : Tries e.setup e.is_at e.told e.faults old new line.1 c.make.result = record {
+      same = m.same;
+      made = m.made;
+      history = m.history;
+      room = m.room;
+      later = m.later;
+      cause = m.cause;
+      moves = m.moves;
+    } in
+    one_more e.setup e.is_at e.told e.faults c.args.engine lines n old new line c.make.result c.requires.no_offers c.loop-line.invariant
+    (line_there lines n c.loop-line-test.true) tries c.in-Done.is
+
+pub make-requires : goal.make-requires
+make-requires g c =
+    let e = g.E.Engine in
+    let at = c.loop-line.invariant in
+    let long = count e.setup e.is_at e.told e.faults c.args.engine c.args.events.now c.loop-line.line-index c.loop-line.running at in
+    omega (arith, long, at.room, c.loop-line-test.true)
+
+pub returns-in-CannotHappen : goal.returns-in-CannotHappen
+returns-in-CannotHappen g c =
+    let e = g.E.Engine in
+    let m = c.make.ensures in
+    let lines = c.args.events.now in
+    let n = c.loop-line.line-index in
+    let old = c.loop-line.running in
+    let new = c.make.new.self in
+    let line = slice_index_or lines n (0, Move 0) in
+    let tries : Tries e.setup e.is_at e.told e.faults old new line.1 c.make.result = record {
+      same = m.same;
+      made = m.made;
+      history = m.history;
+      room = m.room;
+      later = m.later;
+      cause = m.cause;
+      moves = m.moves;
+    } in
+    subst (Replayed e.setup e.is_at e.told e.faults c.args.engine lines) (sym c.stop.ensures)
+    (refused e.setup e.is_at e.told e.faults c.args.engine lines n old new line c.make.result c.requires.no_offers c.loop-line.invariant
+    (line_there lines n c.loop-line-test.true) tries c.in-CannotHappen.is)
+
+pub returns-in-SinkFailed : goal.returns-in-SinkFailed
+returns-in-SinkFailed g c =
+    let e = g.E.Engine in
+    let m = c.make.ensures in
+    let lines = c.args.events.now in
+    let n = c.loop-line.line-index in
+    let old = c.loop-line.running in
+    let new = c.make.new.self in
+    let line = slice_index_or lines n (0, Move 0) in
+    let tries : Tries e.setup e.is_at e.told e.faults old new line.1 c.make.result = record {
+      same = m.same;
+      made = m.made;
+      history = m.history;
+      room = m.room;
+      later = m.later;
+      cause = m.cause;
+      moves = m.moves;
+    } in
+    subst (Replayed e.setup e.is_at e.told e.faults c.args.engine lines) (sym c.stop-in-SinkFailed.ensures)
+    (failed e.setup e.is_at e.told e.faults c.args.engine lines n old new line c.make.result c.requires.no_offers c.loop-line.invariant
+    (line_there lines n c.loop-line-test.true) tries c.in-SinkFailed.is)
+
+pub returns-in-Memory : goal.returns-in-Memory
+returns-in-Memory g c =
+    let e = g.E.Engine in
+    let m = c.make.ensures in
+    let lines = c.args.events.now in
+    let n = c.loop-line.line-index in
+    let old = c.loop-line.running in
+    let new = c.make.new.self in
+    let line = slice_index_or lines n (0, Move 0) in
+    let tries : Tries e.setup e.is_at e.told e.faults old new line.1 c.make.result = record {
+      same = m.same;
+      made = m.made;
+      history = m.history;
+      room = m.room;
+      later = m.later;
+      cause = m.cause;
+      moves = m.moves;
+    } in
+    subst (Replayed e.setup e.is_at e.told e.faults c.args.engine lines) (sym c.stop-in-Memory.ensures)
+    (lacks e.setup e.is_at e.told e.faults c.args.engine lines n old new line c.make.result c.requires.no_offers c.loop-line.invariant
+    (line_there lines n c.loop-line-test.true) tries c.in-Memory.is)
+
+pub returns : goal.returns
+returns g c =
+    let e = g.E.Engine in
+    let at = c.loop-line.invariant in
+    let seats =
+    c.seats_fit_their_slots.ensures any_rules (e.setup c.args.engine) c.loop-line.running.history.items at.guard (at.came.legal any_rules) in
+    subst (Replayed e.setup e.is_at e.told e.faults c.args.engine c.args.events.now) (sym (c.end.ensures at.guard at.there seats.count))
+    (finished e.setup e.is_at e.told e.faults c.args.engine c.args.events.now c.loop-line.line-index c.loop-line.running
+    (int_ending (ending at.guard)) at c.loop-line-test.false refl)

@@ -1,0 +1,64 @@
+-- What an engine says of a run, by the guard that it is at.
+use Rattle.std.specs.Prelude.{◌≡◌, ℕ, ◌≤◌, Bool, List, ◌++◌, length, take, Option, Some, None, if◌then◌else◌}
+use Rattle.bytecode.specs.declared.run.Event.{Event}
+use Rattle.bytecode.specs.declared.run.Ending.{Ending}
+use Rattle.bytecode.specs.declared.run.Ending.TheVariants.{Trap, Finished}
+use Rattle.source_model.specs.Worlds.{Finish}
+use Rattle.source_model.specs.Worlds as world
+use Rattle.source_model.specs.Runs.{lives}
+use Rattle.source_model.specs.Guards.{Guard, Rules, Setup, seat_of}
+use Rattle.source_model.specs.Journals as journal
+use Rattle.source_model.specs.Endings.{int_ending}
+use Rattle.dsu_runs.specs.declared.engine.Made.{Made}
+use Rattle.dsu_runs.specs.declared.engine.Made.TheVariants.{Done, CannotHappen, SinkFailed}
+use Rattle.dsu_runs.specs.declared.engine.Stands.{Stands}
+use Rattle.dsu_runs.specs.declared.engine.Stands.TheVariants.{NoThread, AtCheckIn, Going}
+
+-- the ending of a run that has finished or trapped
+abbrev pub finish_of : Option Finish → Option Ending
+finish_of None = None
+finish_of (Some (world.Finished r)) = Some (int_ending (Finished r))
+finish_of (Some (world.Trapped kind t)) = Some (Trap kind t)
+
+-- how the thread in a slot stands, by whether its seat is at a check-in and whether it lives
+abbrev pub standing_by : Bool → Bool → Stands
+standing_by at_check_in alive = if at_check_in then AtCheckIn else (if alive then Going else NoThread)
+
+abbrev pub standing_of : Guard → ℕ → Stands
+standing_of g t = standing_by (seat_of g t).at_check_in (lives g.world t)
+
+-- what a sink shows grew by what was printed from one guard to another; it says so by what was printed in all, so that
+-- two such steps in a row are one
+abbrev pub Grew : Guard → Guard → Option (List ℕ) → Option (List ℕ) → Type 0
+Grew g after told now = (before : List ℕ) → told ≡ Some (before ++ g.world.output) → now ≡ Some (before ++ after.world.output)
+
+-- it grew by a prefix of what was printed from one guard to another
+abbrev pub GrewPartly : Guard → Guard → Option (List ℕ) → Option (List ℕ) → Type 0
+GrewPartly g after told now =
+    (before : List ℕ) → told ≡ Some (before ++ g.world.output)
+    → (n : ℕ) × (length g.world.output ≤ n) × (now ≡ Some (before ++ take n after.world.output))
+
+-- an event was made: the guard after it, at which the engine is
+pub record Makes (at : Guard → Type 0) (setup : Setup) (e : Event) (g : Guard) (told now : Option (List ℕ)) : Type 0 where
+  pub after : Guard
+  pub happens : (rules : Rules) → journal.happens rules setup e g ≡ Some after
+  pub there : at after
+  pub grew : Grew g after told now
+
+-- an event can't happen, and the engine stays
+pub record Refuses (at : Guard → Type 0) (setup : Setup) (e : Event) (g : Guard) (told now : Option (List ℕ)) : Type 0 where
+  pub never : (rules : Rules) → journal.happens rules setup e g ≡ None
+  pub stays : at g
+  pub silent : now ≡ told
+
+-- an event was made, and only a prefix of what it printed could be written
+pub record Fails (setup : Setup) (e : Event) (g : Guard) (told now : Option (List ℕ)) : Type 0 where
+  pub after : Guard
+  pub happens : (rules : Rules) → journal.happens rules setup e g ≡ Some after
+  pub grew : GrewPartly g after told now
+
+-- what came of an event at a guard
+abbrev pub MakesAt : (at : Guard → Type 0) → Setup → Event → Guard → Option (List ℕ) → Option (List ℕ) → Made → Type 0
+MakesAt at setup e g told now Done = Makes at setup e g told now
+MakesAt at setup e g told now CannotHappen = Refuses at setup e g told now
+MakesAt at setup e g told now SinkFailed = Fails setup e g told now

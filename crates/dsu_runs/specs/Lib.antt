@@ -1,0 +1,5 @@
+pub mod Engines
+pub mod Turns
+pub mod Ran
+pub mod Solo
+pub mod Replays

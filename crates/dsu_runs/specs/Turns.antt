@@ -1,0 +1,112 @@
+-- What comes of one event, and of one turn of the solo schedule.
+use Rattle.std.specs.Prelude.{◌≡◌, ℕ, ◌+◌, ◌≤◌, List, [], ◌∷◌, ◌++◌, length, true, false, Option, Some, None, Result, Ok, Err, if◌then◌else◌}
+use Rattle.std.specs.declared.alloc.AllocError.{AllocError}
+use Rattle.std.specs.Option.{option_or}
+use Rattle.std.specs.Vec.{vec_capacity}
+use Rattle.dsu_io.specs.Causes.{Rose}
+use Rattle.bytecode.specs.declared.run.Event.{Event}
+use Rattle.source_model.specs.Guards.{Guard, Setup, has_ended}
+use Rattle.source_model.specs.Schedules.{acted_by, first_act, makes_move, move_count, slots_after}
+use Rattle.dsu_runs.specs.Engines.{Fails, Makes, Refuses}
+use Rattle.dsu_runs.specs.declared.engine.Made.{Made}
+use Rattle.dsu_runs.specs.declared.engine.Made.TheVariants as made
+use Rattle.dsu_runs.specs.declared.ran.Ran.{Ran}
+use Rattle.dsu_runs.specs.declared.ran.StopCause.{StopCause}
+use Rattle.dsu_runs.specs.declared.running.Running.{Running}
+use Rattle.dsu_runs.specs.declared.running.Step.{Step}
+use Rattle.dsu_runs.specs.declared.running.Step.TheVariants.{Done, CannotHappen, SinkFailed, Memory}
+use Rattle.dsu_runs.specs.declared.solo_run.SoloRun.{SoloRun}
+
+-- what a schedule hands back of a run that it stops
+abbrev pub ran_of : {E : Type 0} → Running E → StopCause → Ran E
+ran_of running cause = record { engine = running.engine; history = running.history; cause = cause }
+
+-- what came of an event, out of memory among it
+abbrev pub step_by : Result Made AllocError → Step
+step_by (Ok made.Done) = Done
+step_by (Ok made.CannotHappen) = CannotHappen
+step_by (Ok made.SinkFailed) = SinkFailed
+step_by (Err e) = Memory
+
+-- the events so far, with one that was made
+abbrev pub history_after : Event → List Event → Step → List Event
+history_after e es Done = es ++ e ∷ []
+history_after e es CannotHappen = es
+history_after e es SinkFailed = es ++ e ∷ []
+history_after e es Memory = es
+
+-- what came of an event at a guard; out of memory nothing was printed
+abbrev pub Steps : (at : Guard → Type 0) → Setup → Event → Guard → Option (List ℕ) → Option (List ℕ) → Step → Type 0
+Steps at setup e g told now Done = Makes at setup e g told now
+Steps at setup e g told now CannotHappen = Refuses at setup e g told now
+Steps at setup e g told now SinkFailed = Fails setup e g told now
+Steps at setup e g told now Memory = now ≡ told
+
+-- the slot that comes first after the one that acted last
+abbrev pub first_after : Option ℕ → ℕ
+first_after None = 0
+first_after (Some slot) = slot + 1
+
+-- what the solo schedule has next where no offer is open or due
+abbrev pub thread_next : Guard → Option ℕ → Option Event
+thread_next g last = if has_ended g then None else first_act g (slots_after (length g.seats) last)
+
+-- an engine is at a guard of a run that goes on, and no offer is open
+pub record GoesAt {E : Type 0} (is_at : Guard → E → Type 0) (g : Guard) (engine : E) : Type 0 where
+  pub there : is_at g engine
+  pub going : has_ended g ≡ false
+  pub none_open : g.open_offer ≡ None
+
+-- the event that was next was made
+pub record Acts {E : Type 0} (is_at : Guard → E → Type 0) (told : E → Option (List ℕ)) (setup : Setup) (g : Guard)
+    (next : Option Event) (old new : SoloRun E) : Type 0 where
+  pub event : Event
+  pub due : next ≡ Some event
+  pub makes : Makes (λ x. is_at x new.running.engine) setup event g (told old.running.engine) (told new.running.engine)
+  pub history : new.running.history.items ≡ old.running.history.items ++ event ∷ []
+  pub first : (last : Option ℕ) → new.first ≡ first_after (option_or (acted_by event) last)
+  pub left : new.left + move_count (event ∷ []) ≡ old.left
+
+-- none was next
+pub record Waits {E : Type 0} (is_at : Guard → E → Type 0) (told : E → Option (List ℕ)) (g : Guard)
+    (next : Option Event) (old new : SoloRun E) : Type 0 where
+  pub none : next ≡ None
+  pub stays : is_at g new.running.engine
+  pub silent : told new.running.engine ≡ told old.running.engine
+
+-- the move that was next was made, and only a prefix of what it printed could be written
+pub record Breaks {E : Type 0} (told : E → Option (List ℕ)) (setup : Setup) (g : Guard) (next : Option Event)
+    (old new : SoloRun E) : Type 0 where
+  pub event : Event
+  pub due : next ≡ Some event
+  pub fails : Fails setup event g (told old.running.engine) (told new.running.engine)
+  pub moves : makes_move event ≡ true
+  pub history : new.running.history.items ≡ old.running.history.items ++ event ∷ []
+  pub left : new.left + move_count (event ∷ []) ≡ old.left
+
+-- out of memory: nothing was made
+pub record Lacks {E : Type 0} (told : E → Option (List ℕ)) (old new : SoloRun E) : Type 0 where
+  pub silent : told new.running.engine ≡ told old.running.engine
+  pub history : new.running.history.items ≡ old.running.history.items
+
+-- what came of a turn in which an event is next, or none
+abbrev pub Turned : {E : Type 0} (is_at : Guard → E → Type 0) (told : E → Option (List ℕ)) → Setup → Guard → Option Event
+    → SoloRun E → SoloRun E → Step → Type 0
+Turned is_at told setup g next old new Done = Acts is_at told setup g next old new
+Turned is_at told setup g next old new CannotHappen = Waits is_at told g next old new
+Turned is_at told setup g next old new SinkFailed = Breaks told setup g next old new
+Turned is_at told setup g next old new Memory = Lacks told old new
+
+-- nothing but the engine changed
+pub record SameBut {E : Type 0} (old new : SoloRun E) : Type 0 where
+  pub history : new.running.history.items ≡ old.running.history.items
+  pub first : new.first ≡ old.first
+  pub left : new.left ≡ old.left
+
+-- what holds of each turn
+pub record Keeps {E : Type 0} (setup : E → Setup) (faults : E → ℕ) (old new : SoloRun E) (step : Step) : Type 0 where
+  pub same : setup new.running.engine ≡ setup old.running.engine
+  pub room : vec_capacity old.running.history ≤ vec_capacity new.running.history
+  pub later : faults old.running.engine ≤ faults new.running.engine
+  pub rose : step ≡ SinkFailed → Rose (faults old.running.engine) (faults new.running.engine)
+  pub still : step ≡ CannotHappen → SameBut old new

@@ -1,0 +1,23 @@
+use bytecode::{Ending, Event};
+
+/// Why a schedule made no further event.
+#[derive(Clone, Copy, Debug, PartialEq, Eq)]
+pub enum StopCause {
+    /// The run ended so.
+    Ended(Ending),
+    /// What the last event printed couldn't be written.
+    SinkFailed,
+    /// The event of that line of the journal can't happen.
+    CannotHappen(u32),
+    /// Out of memory.
+    Memory,
+}
+
+/// What a schedule hands back.
+#[derive(Drop)]
+pub struct Ran<E> {
+    pub engine: E,
+    /// The events that were made, the first one first.
+    pub history: Vec<Event>,
+    pub cause: StopCause,
+}

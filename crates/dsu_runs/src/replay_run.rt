@@ -1,0 +1,35 @@
+ghost use Rattle.std.specs.Prelude.{◌≡◌, []};
+ghost use Rattle.source_model.specs.Guards.{first_guard};
+ghost use Rattle.dsu_runs.specs.Replays.{Replayed};
+
+use crate::running::{Running, Step};
+use crate::{Engine, Ran, StopCause};
+use bytecode::Event;
+use source_model::seats_fit_their_slots;
+use std::alloc::Global;
+
+/// Makes the events of a journal, each with its line, up to the first that can't happen.
+pub fn replay<E: Engine + Drop>(alloc: Global, engine: E, events: &[(u32, Event)]) -> Ran<E>
+    requires start { E.is_at (first_guard (E.setup engine)) engine }
+    requires no_offers { (E.setup engine).offers ≡ [] }
+    ensures { Replayed E.setup E.is_at E.told E.faults engine events.now result }
+{
+    seats_fit_their_slots();
+    let Ok(history) = Vec::with_capacity(alloc, events.len()) else {
+        return Ran {
+            engine,
+            history: Vec::new(alloc),
+            cause: StopCause::Memory,
+        };
+    };
+    let mut running = Running { engine, history };
+    for (line, event) in events {
+        match running.make(*event) {
+            Step::Done => {}
+            Step::CannotHappen => return running.stop(StopCause::CannotHappen(*line)),
+            Step::SinkFailed => return running.stop(StopCause::SinkFailed),
+            Step::Memory => return running.stop(StopCause::Memory),
+        }
+    }
+    running.end()
+}

@@ -1,0 +1,113 @@
+ghost use Rattle.std.specs.Prelude.{◌≡◌, ◌≤◌, ◌<◌, length, [], ◌∷◌, ◌++◌, true, IfOk, OnErr, Ok, None};
+ghost use Rattle.std.specs.Vec.{vec_capacity};
+ghost use Rattle.dsu_io.specs.Causes.{Rose};
+ghost use Rattle.source_model.specs.Guards.{Guard};
+ghost use Rattle.source_model.specs.Schedules.{makes_move};
+ghost use Rattle.source_model.specs.Endings.{ending as ending_of, int_ending};
+ghost use Rattle.dsu_runs.specs.Engines.{MakesAt};
+ghost use Rattle.dsu_runs.specs.Turns.{Steps, history_after, ran_of, step_by};
+
+use crate::ending::ending;
+use crate::{Engine, Made, Ran, StopCause};
+use bytecode::Event;
+use std::alloc::AllocError;
+
+/// What came of an event.
+#[derive(Clone, Copy)]
+pub(crate) enum Step {
+    Done,
+    CannotHappen,
+    SinkFailed,
+    Memory,
+}
+
+/// A run on its way.
+#[derive(Drop)]
+pub(crate) struct Running<E> {
+    pub engine: E,
+    /// The events that were made, the first one first.
+    pub history: Vec<Event>,
+}
+
+impl<E: Engine> Running<E> {
+    /// Makes an event, and keeps it.
+    pub fn make(&mut self, event: Event) -> Step
+        requires { length self.old.history.items < vec_capacity self.old.history }
+        ensures same { E.setup self.new.engine ≡ E.setup self.old.engine }
+        ensures made { (g : Guard) → E.is_at g self.old.engine → (E.setup self.old.engine).offers ≡ [] → g.open_offer ≡ None
+            → Steps (λ x. E.is_at x self.new.engine) (E.setup self.old.engine) event g
+            (E.told self.old.engine) (E.told self.new.engine) result }
+        ensures history { self.new.history.items ≡ history_after event self.old.history.items result }
+        ensures room { vec_capacity self.old.history ≤ vec_capacity self.new.history }
+        ensures later { E.faults self.old.engine ≤ E.faults self.new.engine }
+        ensures cause { result ≡ Step.SinkFailed → Rose (E.faults self.old.engine) (E.faults self.new.engine) }
+        ensures moves { result ≡ Step.SinkFailed → makes_move event ≡ true }
+    {
+        let step = step_of(make(&mut self.engine, event));
+        match step {
+            Step::Done | Step::SinkFailed => keep(&mut self.history, event),
+            Step::CannotHappen | Step::Memory => {}
+        }
+        step
+    }
+
+    /// The run at its end, with how it ended.
+    pub fn end(self) -> Ran<E>
+        ensures { (g : Guard) → E.is_at g self.engine → length g.seats ≡ length g.world.slots
+            → result ≡ ran_of self (StopCause.Ended (int_ending (ending_of g))) }
+    {
+        let ending = ending(&self.engine);
+        self.stop(StopCause::Ended(ending))
+    }
+
+    /// The run as it is, with the cause for which no more is made.
+    pub fn stop(self, cause: StopCause) -> Ran<E>
+        ensures { result ≡ ran_of self cause }
+    {
+        let Running { engine, history } = self;
+        Ran {
+            engine,
+            history,
+            cause,
+        }
+    }
+}
+
+/// What came of an event, out of memory among it.
+fn step_of(made: Result<Made, AllocError>) -> Step
+    ensures { result ≡ step_by made }
+{
+    match made {
+        Ok(Made::Done) => Step::Done,
+        Ok(Made::CannotHappen) => Step::CannotHappen,
+        Ok(Made::SinkFailed) => Step::SinkFailed,
+        Err(_) => Step::Memory,
+    }
+}
+
+/// Has an engine make an event. In a run without offers none can be opened, decided or withdrawn.
+fn make<E: Engine>(engine: &mut E, event: Event) -> Result<Made, AllocError>
+    ensures same { E.setup engine.new ≡ E.setup engine.old }
+    ensures made { (g : Guard) → E.is_at g engine.old → (E.setup engine.old).offers ≡ [] → g.open_offer ≡ None
+        → IfOk result
+        (MakesAt (λ x. E.is_at x engine.new) (E.setup engine.old) event g (E.told engine.old) (E.told engine.new)) }
+    ensures silent { OnErr result (E.told engine.new ≡ E.told engine.old) }
+    ensures later { E.faults engine.old ≤ E.faults engine.new }
+    ensures cause { result ≡ Ok Made.SinkFailed → Rose (E.faults engine.old) (E.faults engine.new) }
+    ensures moves { result ≡ Ok Made.SinkFailed → makes_move event ≡ true }
+{
+    match event {
+        Event::Move(slot) => engine.act(slot),
+        Event::CheckIn(slot) => Ok(engine.check_in(slot)),
+        Event::Offer(_) | Event::Decide(_) | Event::Withdraw(_) => Ok(Made::CannotHappen),
+    }
+}
+
+/// Keeps an event, for which there is room.
+fn keep(history: &mut Vec<Event>, event: Event)
+    requires { length history.old.items < vec_capacity history.old }
+    ensures items { history.new.items ≡ history.old.items ++ event ∷ [] }
+    ensures room { vec_capacity history.old ≤ vec_capacity history.new }
+{
+    let _kept = history.push(event);
+}

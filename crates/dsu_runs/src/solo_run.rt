@@ -1,0 +1,164 @@
+ghost use Rattle.std.specs.Prelude.{◌≡◌, ◌-◌, length, ◌<◌, [], ℕ, true, false, None, Option};
+ghost use Rattle.std.specs.List.{range_with_len};
+ghost use Rattle.std.specs.Vec.{vec_capacity};
+ghost use Rattle.source_model.specs.Guards.{Guard, first_guard, seat_of};
+ghost use Rattle.source_model.specs.Schedules.{act_of, first_act, slots_after};
+ghost use Rattle.dsu_runs.specs.Turns.{GoesAt, Keeps, Turned, first_after, thread_next};
+ghost use Rattle.dsu_runs.specs.Solo.{RanSolo};
+
+use crate::running::{Running, Step};
+use crate::{Engine, Ran, Stands, StopCause};
+use bytecode::Event;
+use source_model::{seats_fit_their_slots, solo_schedule_goes_to_the_end};
+use std::alloc::Global;
+
+/// A run by the solo schedule on its way.
+#[derive(Drop)]
+pub(crate) struct SoloRun<E> {
+    running: Running<E>,
+    /// The slot whose turn is next.
+    first: u8,
+    /// How many moves may still be made.
+    left: u32,
+}
+
+/// Makes the events of the solo schedule until the run has ended, no thread can act, or so many moves were made.
+pub fn solo<E: Engine + Drop>(alloc: Global, engine: E, moves: u32) -> Ran<E>
+    requires start { E.is_at (first_guard (E.setup engine)) engine }
+    requires no_offers { (E.setup engine).offers ≡ [] }
+    ensures { RanSolo E.setup E.is_at E.told E.faults engine moves result }
+{
+    seats_fit_their_slots();
+    solo_schedule_goes_to_the_end();
+    // A check-in comes only after a move that led to it, so there are at most as many.
+    let Ok(history) = Vec::with_capacity(alloc, 2 * moves as usize) else {
+        return Ran {
+            engine,
+            history: Vec::new(alloc),
+            cause: StopCause::Memory,
+        };
+    };
+    let mut solo = SoloRun {
+        running: Running { engine, history },
+        first: 0,
+        left: moves,
+    };
+    while solo.left > 0 {
+        match solo.act() {
+            Step::Done => {}
+            Step::CannotHappen => return solo.running.end(),
+            Step::SinkFailed => return solo.running.stop(StopCause::SinkFailed),
+            Step::Memory => return solo.running.stop(StopCause::Memory),
+        }
+    }
+    solo.running.end()
+}
+
+impl<E: Engine> SoloRun<E> {
+    /// The next event, if there is one.
+    fn act(&mut self) -> Step
+        requires left { 0 < self.old.left }
+        requires room { length self.old.running.history.items < vec_capacity self.old.running.history }
+        ensures turned { (g : Guard) (last : Option ℕ) → E.is_at g self.old.running.engine → g.open_offer ≡ None
+            → (E.setup self.old.running.engine).offers ≡ [] → self.old.first ≡ first_after last
+            → Turned E.is_at E.told (E.setup self.old.running.engine) g (thread_next g last) self.old self.new result }
+        ensures kept { Keeps E.setup E.faults self.old self.new result }
+    {
+        if self.running.engine.finish().is_some() {
+            return Step::CannotHappen;
+        }
+        self.act_in_turn()
+    }
+
+    /// The first of the slots in order after the one that acted last acts, if one can.
+    fn act_in_turn(&mut self) -> Step
+        requires left { 0 < self.old.left }
+        requires room { length self.old.running.history.items < vec_capacity self.old.running.history }
+        ensures turned { (g : Guard) (last : Option ℕ) → GoesAt E.is_at g self.old.running.engine
+            → (E.setup self.old.running.engine).offers ≡ [] → self.old.first ≡ first_after last
+            → Turned E.is_at E.told (E.setup self.old.running.engine) g (first_act g (slots_after (length g.seats) last))
+            self.old self.new result }
+        ensures kept { Keeps E.setup E.faults self.old self.new result }
+    {
+        let first = self.first;
+        let slots = self.running.engine.slots();
+        match self.act_within(first, slots) {
+            Step::CannotHappen => self.act_within(0, first),
+            step => step,
+        }
+    }
+
+    /// The first of these slots acts that can.
+    fn act_within(&mut self, from: u8, to: u8) -> Step
+        requires left { 0 < self.old.left }
+        requires room { length self.old.running.history.items < vec_capacity self.old.running.history }
+        ensures turned { (g : Guard) → GoesAt E.is_at g self.old.running.engine
+            → (E.setup self.old.running.engine).offers ≡ []
+            → Turned E.is_at E.told (E.setup self.old.running.engine) g (first_act g (range_with_len from (to - from)))
+            self.old self.new result }
+        ensures kept { Keeps E.setup E.faults self.old self.new result }
+    {
+        for slot in from..to {
+            match self.act_in(slot) {
+                Step::CannotHappen => {}
+                step => return step,
+            }
+        }
+        Step::CannotHappen
+    }
+
+    /// The thread in a slot passes its check-in, or makes its move, if it can.
+    fn act_in(&mut self, slot: u8) -> Step
+        requires left { 0 < self.old.left }
+        requires room { length self.old.running.history.items < vec_capacity self.old.running.history }
+        requires within { slot < 255 }
+        ensures turned { (g : Guard) → GoesAt E.is_at g self.old.running.engine
+            → (E.setup self.old.running.engine).offers ≡ []
+            → Turned E.is_at E.told (E.setup self.old.running.engine) g (act_of g slot) self.old self.new result }
+        ensures kept { Keeps E.setup E.faults self.old self.new result }
+    {
+        match self.running.engine.stands(slot) {
+            Stands::NoThread => Step::CannotHappen,
+            Stands::AtCheckIn => self.check_in(slot),
+            Stands::Going => self.make_move(slot),
+        }
+    }
+
+    /// The thread in a slot, which is at a check-in, passes it.
+    fn check_in(&mut self, slot: u8) -> Step
+        requires room { length self.old.running.history.items < vec_capacity self.old.running.history }
+        requires within { slot < 255 }
+        ensures turned { (g : Guard) → GoesAt E.is_at g self.old.running.engine
+            → (E.setup self.old.running.engine).offers ≡ [] → (seat_of g slot).at_check_in ≡ true
+            → Turned E.is_at E.told (E.setup self.old.running.engine) g (act_of g slot) self.old self.new result }
+        ensures kept { Keeps E.setup E.faults self.old self.new result }
+    {
+        let step = self.running.make(Event::CheckIn(slot));
+        match step {
+            Step::Done => self.first = slot + 1,
+            Step::CannotHappen | Step::SinkFailed | Step::Memory => {}
+        }
+        step
+    }
+
+    /// The thread in a slot, which is at no check-in, makes its move, if it can.
+    fn make_move(&mut self, slot: u8) -> Step
+        requires left { 0 < self.old.left }
+        requires room { length self.old.running.history.items < vec_capacity self.old.running.history }
+        requires within { slot < 255 }
+        ensures turned { (g : Guard) → GoesAt E.is_at g self.old.running.engine
+            → (E.setup self.old.running.engine).offers ≡ [] → (seat_of g slot).at_check_in ≡ false
+            → Turned E.is_at E.told (E.setup self.old.running.engine) g (act_of g slot) self.old self.new result }
+        ensures kept { Keeps E.setup E.faults self.old self.new result }
+    {
+        let step = self.running.make(Event::Move(slot));
+        match step {
+            Step::Done | Step::SinkFailed => {
+                self.first = slot + 1;
+                self.left -= 1;
+            }
+            Step::CannotHappen | Step::Memory => {}
+        }
+        step
+    }
+}
