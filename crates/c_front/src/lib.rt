@@ -7,12 +7,15 @@
 //!
 //! - `fault`: what may be wrong with a text
 //! - `read`: the call
+//! - `laws`: what holds of every text's first fault
 #![tactic(auto)]
 
 mod fault;
+mod laws;
 mod read;
 #[cfg(test)]
 mod tests;
 
 pub use fault::{FaultKind, TextFault};
+pub use laws::faults_are_within_their_texts;
 pub use read::read_text;

@@ -1,10 +1,11 @@
 -- A format is read from the prefix: what is left of it takes what is left of the arguments.
 use Rattle.std.proofs.Common.{◌≡◌, ℕ, ◌-◌, ◌≤◌, nat_eq, length, drop, length-drop, arith, true, false, ◌&&◌, List, [], ◌∷◌, ◌++◌, Option, Some, None, option_map, refl, ◌∙◌, ap}
 use Rattle.c_ints.specs.declared.kind.Kind.{Kind}
-use Rattle.c_types.specs.declared.format.Reading.{Reading}
-use Rattle.c_types.specs.declared.format.Reading.TheVariants.{Text, Percent, Long, Bad}
+use Rattle.c_format.specs.declared.reading.Reading.{Reading}
+use Rattle.c_format.specs.declared.reading.Reading.TheVariants.{Text, Percent, Long, Bad}
+use Rattle.c_format.specs.Formats.{read, taken, kinds}
 use Rattle.c_types.specs.declared.found.Part.{Part}
-use Rattle.c_types.specs.Formats.{read, taken, kinds, is_promoted_to, are_taken, take_all}
+use Rattle.c_types.specs.Formats.{is_promoted_to, are_taken, take_all}
 
 -- the kinds of a format, by those of all but its first byte
 kinds_more : (r : Reading) (c : ℕ) (cs : List ℕ) →

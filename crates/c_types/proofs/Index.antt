@@ -1,6 +1,6 @@
 -- What is found by a table is the first of its list.
-use Rattle.std.proofs.Common.{◌≡◌, ℕ, zero, suc, ◌+◌, ◌<◌, Bool, true, false, ◌||◌, ltb, List, [], ◌∷◌, ◌++◌, map, take, drop, length, get_or, Option, None, Some, is_some, refl, sym, ap, ◌∙◌, arith, bytes_eq, if◌then◌else◌, option_map, option_and_then, slice_get}
-use Rattle.std.specs.Option.{option_or}
+use Rattle.std.proofs.Common.{◌≡◌, ℕ, zero, suc, min, ◌+◌, ◌<◌, Bool, true, false, ◌||◌, ltb, List, [], ◌∷◌, ◌++◌, map, take, drop, length, get_or, Option, None, Some, is_some, refl, sym, ap, ◌∙◌, arith, bytes_eq, codes, if◌then◌else◌, option_map, option_and_then, slice_get}
+use Rattle.std.specs.Option.{option_or, option_map_or}
 use Rattle.std.proofs.lemmas.Bool.Decides.{nat_tests}
 use Rattle.std.proofs.lemmas.List.{at_drop_more}
 use Rattle.std.proofs.lemmas.Option.{slice_get-map}
@@ -14,8 +14,8 @@ use Rattle.c_tree.specs.declared.def.DefKind.{DefKind}
 use Rattle.c_tree.specs.declared.def.DefKind.TheVariants as kind
 use Rattle.c_types.specs.declared.key.Key.TheVariants as by
 use Rattle.c_types.specs.Expressions.{member}
-use Rattle.c_types.specs.Lookup.{name_of, is_named, defines_tag, declares_tag, definition_of, struct_of, members_in, members_of, is_tag}
-use Rattle.c_types.specs.Index.{is_key, key_of, keys, place_of, stands_before, with_name, with_names, table_of, own_members, member_keys, member_tables}
+use Rattle.c_types.specs.Lookup.{name_of, full_name, is_named, defines_tag, declares_tag, definition_of, declared_as, struct_of, members_in, members_of, is_tag}
+use Rattle.c_types.specs.Index.{is_key, key_of, keys, place_of, earlier, stands_before, with_name, with_names, table_of, own_members, member_keys, member_tables}
 
 module _ {T : Type 0} where
   or_none : (o : Option T) → option_or o None ≡ o
@@ -144,14 +144,14 @@ step f xs i x tables next below is made =
     ∙ ap (λ y. with_names (map f (drop (i + 1) xs)) (suc i) (with_name (f y) i tables)) is
     ∙ sym (at_drop_more (λ ys. with_names (map f ys) i tables) xs i x below)
 
--- definitions that two tests tell alike
-module _ (p q : Def → Bool) (alike : (d : Def) → p d ≡ q d) where
-  same_find : (ds : List Def) → find p ds ≡ find q ds
+-- what two tests tell alike
+module _ {A : Type 0} (p q : A → Bool) (alike : (d : A) → p d ≡ q d) where
+  same_find : (ds : List A) → find p ds ≡ find q ds
   same_find [] = refl
   same_find (d ∷ ds) =
       ap (λ b. if b then Some d else find p ds) (alike d) ∙ ap (λ o. if q d then Some d else o) (same_find ds)
 
-  same_any : (ds : List Def) → list_any p ds ≡ list_any q ds
+  same_any : (ds : List A) → list_any p ds ≡ list_any q ds
   same_any [] = refl
   same_any (d ∷ ds) = ap (λ b. b || list_any p ds) (alike d) ∙ ap (λ b. q d || b) (same_any ds)
 
@@ -187,6 +187,86 @@ tag_alike tag (kind.Global d) = refl
 tag_alike tag (kind.Array a) = refl
 tag_alike tag (kind.TransformStruct t) = refl
 tag_alike tag (kind.TransformGlobal global e) = refl
+
+or_false : (b : Bool) → b ≡ (b || false)
+or_false true = refl
+or_false false = refl
+
+zero_is_least : (j : ℕ) → min 0 j ≡ 0
+zero_is_least j = omega arith
+
+least_is_zero : (i : ℕ) → min i 0 ≡ 0
+least_is_zero i = omega arith
+
+earlier_alone : (o : Option ℕ) → earlier o None ≡ o
+earlier_alone None = refl
+earlier_alone (Some i) = refl
+
+both_on : (o p : Option ℕ) → earlier (option_map suc o) (option_map suc p) ≡ option_map suc (earlier o p)
+both_on None p = refl
+both_on (Some i) None = refl
+both_on (Some i) (Some j) = ap Some (omega arith)
+
+module _ {A : Type 0} (f g : A → Option Bytes) (name : Bytes) where
+  one_on : (x : A) (xs : List A) (o : Option ℕ) → option_and_then (slice_get (x ∷ xs)) (option_map suc o) ≡ option_and_then (slice_get xs) o
+  one_on x xs None = refl
+  one_on x xs (Some i) = refl
+
+  -- what is at the earlier of the first places of two names is the first that has either name
+  found_by_two : (other : Bytes) (xs : List A) →
+      option_and_then (slice_get xs) (earlier (place_of name (map f xs)) (place_of other (map g xs)))
+      ≡ find (λ x. is_key name (f x) || is_key other (g x)) xs
+  found_by_two other [] = refl
+  found_by_two other (x ∷ xs) = by (is_key name (f x)) (is_key other (g x)) (place_of name (map f xs)) (place_of other (map g xs)) (found_by_two other xs)
+    where
+      by : (b c : Bool) (o p : Option ℕ) → option_and_then (slice_get xs) (earlier o p) ≡ find (λ y. is_key name (f y) || is_key other (g y)) xs →
+          option_and_then (slice_get (x ∷ xs)) (earlier (if b then Some 0 else option_map suc o) (if c then Some 0 else option_map suc p))
+          ≡ (if b || c then Some x else find (λ y. is_key name (f y) || is_key other (g y)) xs)
+      by true true o p rest = refl
+      by true false o None rest = refl
+      by true false o (Some j) rest = ap (slice_get (x ∷ xs)) (zero_is_least (suc j))
+      by false true None p rest = refl
+      by false true (Some i) p rest = ap (slice_get (x ∷ xs)) (least_is_zero (suc i))
+      by false false o p rest = ap (option_and_then (slice_get (x ∷ xs))) (both_on o p) ∙ one_on x xs (earlier o p) ∙ rest
+
+  -- the same where there may be no other name
+  found_by_either : (other : Option Bytes) (xs : List A) →
+      option_and_then (slice_get xs) (earlier (place_of name (map f xs)) (option_and_then (λ k. place_of k (map g xs)) other))
+      ≡ find (λ x. is_key name (f x) || option_map_or (λ k. is_key k (g x)) other false) xs
+  found_by_either None xs =
+      ap (option_and_then (slice_get xs)) (earlier_alone (place_of name (map f xs)))
+      ∙ found f name xs
+      ∙ same_find (λ x. is_key name (f x)) (λ x. is_key name (f x) || false) (λ x. or_false (is_key name (f x))) xs
+  found_by_either (Some other) xs = found_by_two other xs
+
+no_struct : (b : Bool) (tag : Option Bytes) → (b || option_map_or (λ own. false) tag false) ≡ b
+no_struct true None = refl
+no_struct true (Some tag) = refl
+no_struct false None = refl
+no_struct false (Some tag) = refl
+
+module _ (name : Bytes) (own : Option Bytes) (is : (tag : Bytes) → bytes_eq name (codes "struct " ++ tag) ≡ option_map_or (λ t. bytes_eq t tag) own false) where
+  full_alike : (made : DefKind) →
+      (is_key name (key_of by.Name made) || option_map_or (λ t. is_key t (key_of by.Struct made)) own false)
+      ≡ option_map_or (bytes_eq name) (full_name made) false
+  full_alike (kind.Struct tag members) = sym (is tag.text)
+  full_alike (kind.Forward tag) = no_struct false own
+  full_alike (kind.Mutex other) = no_struct (bytes_eq name other.text) own
+  full_alike (kind.Function f) = no_struct (bytes_eq name f.name.text) own
+  full_alike (kind.Prototype p) = no_struct false own
+  full_alike (kind.Global d) = no_struct (bytes_eq name d.name.text) own
+  full_alike (kind.Array a) = no_struct (bytes_eq name a.name.text) own
+  full_alike (kind.TransformStruct t) = no_struct false own
+  full_alike (kind.TransformGlobal global e) = no_struct false own
+
+  -- what is at the earlier place of a name and of the tag in it is the first of that full name
+  pub declared_found : (ds : List Def) →
+      option_and_then (slice_get ds) (earlier (place_of name (keys by.Name ds)) (option_and_then (λ t. place_of t (keys by.Struct ds)) own))
+      ≡ declared_as ds name
+  declared_found ds =
+      found_by_either (λ d. key_of by.Name d.kind) (λ d. key_of by.Struct d.kind) name own ds
+      ∙ same_find (λ d. is_key name (key_of by.Name d.kind) || option_map_or (λ t. is_key t (key_of by.Struct d.kind)) own false)
+      (λ d. option_map_or (bytes_eq name) (full_name d.kind) false) (λ d. full_alike d.kind) ds
 
 -- what is found by a name is the definition that declares it
 pub named_found : (ds : List Def) (name : Bytes) → find (λ d. is_key name (key_of by.Name d.kind)) ds ≡ definition_of ds name

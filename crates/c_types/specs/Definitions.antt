@@ -3,6 +3,7 @@ use Rattle.std.specs.Prelude.{ℕ, ◌+◌, Bool, true, false, not, nat_le, int_
 use Rattle.std.specs.List.{list_any}
 use Rattle.std.specs.Str.{bytes_eq}
 use Rattle.c_ints.specs.Number.{value_of}
+use Rattle.name_sets.specs.Limit.{most_names}
 use Rattle.c_tree.specs.BareExpr.{Bytes}
 use Rattle.c_tree.specs.declared.name.Name.{Name}
 use Rattle.c_tree.specs.declared.name.CType.{CType}
@@ -35,8 +36,8 @@ use Rattle.c_types.specs.TransformSyntax.{transforms_struct, is_transforming, is
 
 -- Limits. What goes past one is reported at the first token of the definition.
 
--- tokens of a function, its parameters, its variables with the parameters; fields of a struct; the operand need; names of
--- a text; the cells of all globals and arrays, and the length of an array
+-- tokens of a function, its parameters, its variables with the parameters; fields of a struct; the operand need; the cells
+-- of all globals and arrays, and the length of an array. The names of a text have the limit of `name_sets`
 abbrev pub max_tokens : ℕ
 max_tokens = 4096
 
@@ -51,9 +52,6 @@ max_fields = 16
 
 abbrev pub max_need : ℕ
 max_need = 64
-
-abbrev pub max_names : ℕ
-max_names = 2048
 
 abbrev pub max_cells : ℕ
 max_cells = 65536
@@ -148,7 +146,7 @@ tagged_twice before tag = unless (is_none (members_of before tag.text)) Declared
 
 -- the names up to and with the definition are too many
 abbrev pub many_names : List Def → Def → List Fault
-many_names before d = unless (nat_le (names_of (before ++ d ∷ [])) max_names) OverLimit d.place
+many_names before d = unless (nat_le (names_of (before ++ d ∷ [])) most_names) OverLimit d.place
 
 -- the cells up to and with it are too many
 abbrev pub many_cells : List Def → Def → List Fault

@@ -1,6 +1,6 @@
 -- The tables by which a text's names are found without going through it, for the contracts of private functions. A table
 -- is a list of names, each with the place of a definition or member in its list.
-use Rattle.std.specs.Prelude.{◌≡◌, ℕ, suc, Bool, false, nat_lt, List, [], ◌∷◌, map, Option, Some, None, is_some, option_map, if◌then◌else◌}
+use Rattle.std.specs.Prelude.{◌≡◌, ℕ, suc, min, Bool, false, nat_lt, List, [], ◌∷◌, map, Option, Some, None, is_some, option_map, if◌then◌else◌}
 use Rattle.std.specs.List.{list_any}
 use Rattle.std.specs.Str.{bytes_eq}
 use Rattle.c_scope.specs.Tables.{look_up_first, declared}
@@ -44,6 +44,12 @@ new_key (Some name) others = if list_any (is_key name) others then 0 else 1
 abbrev pub place_of : Bytes → List (Option Bytes) → Option ℕ
 place_of name [] = None
 place_of name (k ∷ ks) = if is_key name k then Some 0 else option_map suc (place_of name ks)
+
+-- the earlier of two places, where there are any
+abbrev pub earlier : Option ℕ → Option ℕ → Option ℕ
+earlier None second = second
+earlier (Some first) None = Some first
+earlier (Some first) (Some second) = Some (min first second)
 
 -- it is a place before another
 abbrev pub stands_before : Option ℕ → ℕ → Bool

@@ -1,6 +1,7 @@
 -- What names stand for (6.2.1, 6.2.3). A name of the text's first level is known in the whole text. Where it is declared
 -- twice, the first declaration is meant: the later one has a fault.
-use Rattle.std.specs.Prelude.{Bool, true, false, List, map, Option, Some, None, option_and_then, is_some, if◌then◌else◌}
+use Rattle.std.specs.Prelude.{Bool, true, false, List, map, ◌++◌, Option, Some, None, option_map, option_and_then, is_some, codes, if◌then◌else◌}
+use Rattle.std.specs.Option.{option_map_or}
 use Rattle.std.specs.List.{list_any, find}
 use Rattle.std.specs.Str.{bytes_eq}
 use Rattle.c_scope.specs.Tables.{look_up_first, innermost, declared}
@@ -73,6 +74,15 @@ struct_of text tag = find (λ d. defines_tag tag d.kind) text
 -- the members of the struct of a tag; none where it isn't defined
 abbrev pub members_of : List Def → Bytes → Option (List Binding)
 members_of text tag = option_and_then (λ d. members_in d.kind) (struct_of text tag)
+
+-- the full name of a definition that declares something at run time: a struct with members has its tag after `struct`
+abbrev pub full_name : DefKind → Option Bytes
+full_name (kind.Struct tag members) = Some (codes "struct " ++ tag.text)
+full_name made = option_map (λ name. name.text) (name_of made)
+
+-- the first of some definitions that has a full name
+abbrev pub declared_as : List Def → Bytes → Option Def
+declared_as text name = find (λ d. option_map_or (bytes_eq name) (full_name d.kind) false) text
 
 -- a definition declares the tag: `struct T { .. };` or `struct T;`
 abbrev pub declares_tag : Bytes → DefKind → Bool

@@ -9,8 +9,9 @@ ghost use Rattle.c_types.specs.TransformSyntax.{of_global, of_struct};
 use crate::fault::{Fault, TypeKind, unless};
 use crate::key::{Key, key_of};
 use crate::known::Known;
-use crate::limits::{MOST_CELLS, MOST_NAMES};
+use crate::limits::MOST_CELLS;
 use c_tree::{Def, DefKind, Name};
+use name_sets::MOST_NAMES;
 
 /// More cells than are allowed; greater numbers aren't told apart.
 const TOO_MANY: u64 = MOST_CELLS + 1;

@@ -1,9 +1,12 @@
-ghost use Rattle.std.specs.Prelude.{◌≡◌, ◌+◌, [], ◌∷◌, IfOk, OnOk, take, option_copied, option_and_then, option_map};
+ghost use Rattle.std.specs.Prelude.{◌≡◌, ◌+◌, false, [], ◌∷◌, ◌++◌, IfOk, OnOk, take, option_copied, option_and_then, option_map, codes};
 ghost use Rattle.std.specs.List.{find, list_any, slice_get};
+ghost use Rattle.std.specs.Option.{option_map_or};
+ghost use Rattle.std.specs.Str.{bytes_eq};
 ghost use Rattle.c_scope.specs.Tables.{innermost};
+ghost use Rattle.c_tree.specs.BareExpr.{Bytes};
 ghost use Rattle.c_types.specs.Expressions.{member};
-ghost use Rattle.c_types.specs.Index.{is_key, key_of, keys, member_keys, member_tables, with_name, own_members, place_of, stands_before, table_of};
-ghost use Rattle.c_types.specs.Lookup.{definition_of, is_known, is_tag, members_of, struct_of};
+ghost use Rattle.c_types.specs.Index.{earlier, is_key, key_of, keys, member_keys, member_tables, with_name, own_members, place_of, stands_before, table_of};
+ghost use Rattle.c_types.specs.Lookup.{declared_as, definition_of, is_known, is_tag, members_of, struct_of};
 
 use crate::key::{Key, key_of};
 use crate::lookup::members_in;
@@ -254,6 +257,25 @@ impl<'a> Known<'a> {
         self.find_by(Key::Struct, tag)
     }
 
+    /// The first place of a tag's struct, where there is a tag.
+    fn place_of_struct(&self, tag: Option<&str>) -> Option<usize>
+        ensures { result ≡ option_and_then (λ tag. place_of tag (keys Key.Struct self.now)) (option_copied tag.entry) }
+    {
+        match tag {
+            Some(tag) => self.place_of(Key::Struct, tag),
+            None => None,
+        }
+    }
+
+    /// The first definition of a full name: that of a struct with members is `struct` with its tag after a blank, and that of
+    /// a function, a global, an array or a mutex is its own. One look into each of two tables.
+    pub fn declared(&self, name: &str) -> Option<&'a Def>
+        ensures { option_copied result ≡ declared_as self.now name.now }
+    {
+        let tagged = self.place_of_struct(tag_in(name));
+        self.at(earlier(self.place_of(Key::Name, name), tagged))
+    }
+
     /// The members of a tag's struct, where it is defined.
     pub(crate) fn members_of(&self, tag: &str) -> Option<&'a List<Binding>>
         ensures { option_copied result ≡ members_of self.now tag.now }
@@ -275,6 +297,25 @@ impl<'a> Known<'a> {
         ensures { option_copied result ≡ option_and_then (λ members. member members name.now) (members_of self.now tag.now) }
     {
         self.member_at(self.place_of(Key::Struct, tag), name)
+    }
+}
+
+/// The tag in the full name of a struct; another name has none.
+fn tag_in(name: &str) -> Option<&str>
+    ensures { (tag : Bytes) → bytes_eq name.now (codes "struct " ++ tag)
+        ≡ option_map_or (λ own. bytes_eq own tag) (option_copied result) false }
+{
+    name.strip_prefix("struct ")
+}
+
+/// The earlier of two places, where there are any.
+fn earlier(first: Option<usize>, second: Option<usize>) -> Option<usize>
+    ensures { result ≡ earlier first second }
+{
+    match (first, second) {
+        (Some(first), Some(second)) => Some(first.min(second)),
+        (Some(first), None) => Some(first),
+        (None, second) => second,
     }
 }
 

@@ -1,4 +1,5 @@
-//! The limits of a text. What goes past one is reported at the first token of its definition.
+//! The limits of a text, but for that of its names, which is `name_sets::MOST_NAMES`. What goes past one is reported at the
+//! first token of its definition.
 
 /// Tokens of a function, from its result type to its closing brace.
 pub(crate) const MOST_TOKENS: u32 = 4096;
@@ -14,9 +15,6 @@ pub(crate) const MOST_FIELDS: usize = 16;
 
 /// The operand need of an expression.
 pub(crate) const MOST_NEED: u32 = 64;
-
-/// Names of a text.
-pub(crate) const MOST_NAMES: usize = 2048;
 
 /// Cells of all globals and arrays of a text.
 pub(crate) const MOST_CELLS: u64 = 65_536;

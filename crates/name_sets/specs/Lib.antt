@@ -1,5 +1,6 @@
 pub mod IdSet
 pub mod Least
+pub mod Limit
 pub mod NameLists
 pub mod Row
 pub mod RowBack

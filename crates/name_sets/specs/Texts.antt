@@ -4,10 +4,11 @@ use Rattle.std.specs.List.{list_any}
 use Rattle.std.specs.Cmp.Lexicographic.{slice_cmp}
 use Rattle.std.specs.Ordering.{nat_cmp}
 use Rattle.std.specs.declared.cmp.Ordering.TheVariants.{Less}
+use Rattle.name_sets.specs.Limit.{most_names}
 
 -- at most 2,048 texts, none of them twice
 pub record IsTable (texts : List (List ℕ)) : Type 0 where
-  pub few : length texts ≤ 2048
+  pub few : length texts ≤ most_names
   pub distinct : (a b : ℕ) (text : List ℕ) → slice_get texts a ≡ Some text → slice_get texts b ≡ Some text → a ≡ b
 
 -- the texts once this one is added: one that is there stays in its place, and another goes last

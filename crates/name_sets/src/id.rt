@@ -1,6 +1,7 @@
 //! Numbers that stand for names.
 ghost use Rattle.std.specs.Prelude.{◌≡◌, ℕ, ◌<◌};
 ghost use Rattle.std.specs.Option.{SomeIff};
+ghost use Rattle.name_sets.specs.Limit.{most_names};
 
 use std::marker::Model;
 
@@ -18,7 +19,7 @@ impl Model for NameId {
 
     ghost view = { λ id. id.index };
 
-    ghost invariant = { λ id. id.index < 2048 };
+    ghost invariant = { λ id. id.index < most_names };
 
     ghost inverse = { λ n. record { index = n } };
 }
@@ -26,7 +27,7 @@ impl Model for NameId {
 impl NameId {
     /// The id with this number, or `None` if there is none.
     pub fn new(index: usize) -> Option<NameId>
-        ensures { SomeIff result (index < 2048) index }
+        ensures { SomeIff result (index < most_names) index }
     {
         if index < MOST_NAMES {
             Some(NameId::at(index))
@@ -38,14 +39,14 @@ impl NameId {
     /// The number, which is the place in the table.
     pub fn index(self) -> usize
         ensures value { result ≡ self }
-        ensures bound { result < 2048 }
+        ensures bound { result < most_names }
     {
         self.index as usize
     }
 
     /// The id with a number that is known to be one.
     pub(crate) fn at(index: usize) -> NameId
-        requires { index < 2048 }
+        requires { index < most_names }
         ensures { result ≡ index }
     {
         NameId {

@@ -1,6 +1,7 @@
 //! The table of texts.
 ghost use Rattle.std.specs.Prelude.{◌≡◌, ℕ, ◌<◌, ◌≤◌, ◌↔◌, ◌⊎◌, List, [], map, length, Contains, Some, slice_get, string_bytes, IsTrue, IsOk, IsErrOf, IfOk, IfSome, IfNone, OnOk, OnErr};
 ghost use Rattle.std.specs.Bool.{OnFalse};
+ghost use Rattle.name_sets.specs.Limit.{most_names};
 ghost use Rattle.name_sets.specs.Texts.{IsTable, with_text, IsBefore};
 
 use crate::{MOST_NAMES, NameId};
@@ -58,7 +59,7 @@ impl Names {
         ensures id { IfOk result (λ id. slice_get self.new id ≡ Some text.now) }
         ensures present { Contains self.old text.now → IsOk result }
         ensures full { IsErrOf result NamesFault.Full
-            ↔ ((length self.old ≡ 2048) × (¬ Contains self.old text.now)) }
+            ↔ ((length self.old ≡ most_names) × (¬ Contains self.old text.now)) }
         ensures fault { OnErr result (self.new ≡ self.old) }
     {
         if let Some(id) = self.find(text) {

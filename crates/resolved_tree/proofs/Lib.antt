@@ -1,3 +1,4 @@
+mod Declared
 mod Growing
 pub mod Kept
 mod Naming

@@ -1,14 +1,14 @@
 -- What is known while a function is resolved: the definitions of its text, and its local variables.
 use Rattle.std.specs.Prelude.{List, map, reverse}
+use Rattle.c_tree.specs.declared.def.Def.{Def}
 use Rattle.c_tree.specs.BareDef.{BareBinding}
 use Rattle.c_tree.specs.Bare.{bare_type, bare_def}
 use Rattle.c_semantics.specs.Texts.{Definitions, definition}
-use Rattle.resolved_tree.specs.declared.resolve.known.Known.{Known}
 use Rattle.resolved_tree.specs.declared.resolve.known.Local.{Local}
 
 -- the definitions by name
-abbrev pub known_of : Known → Definitions
-known_of k = definition (map bare_def k.definitions.now)
+abbrev pub known_of : List Def → Definitions
+known_of text = definition (map bare_def text)
 
 -- a local variable
 abbrev pub binding_of : Local → BareBinding

@@ -17,5 +17,5 @@ mod types;
 
 pub use block::statements;
 pub use found::{value_type, word};
-pub use known::{Known, name_of_struct};
+pub use known::name_of_struct;
 pub use statement::resolve_body;

@@ -40,6 +40,11 @@ impl Trees {
         }
     }
 
+    /// The allocator of the table.
+    pub(crate) fn allocator(&self) -> Global {
+        *self.entries.allocator()
+    }
+
     /// The word of a name or of a format, which is added if it isn't there. Lack of memory changes nothing.
     pub fn word(&mut self, text: &str) -> Result<Word, AllocError>
         ensures table { OnOk result (table self.new

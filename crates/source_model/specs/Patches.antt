@@ -3,6 +3,7 @@ use Rattle.std.specs.Prelude.{ℕ, suc, ◌==◌, nat_le, nat_lt, Bool, false, n
 use Rattle.std.specs.Option.{option_or}
 use Rattle.c_tree.specs.BareExpr.{Bytes}
 use Rattle.c_tree.specs.BareDef.{BareDef, Mutex, Function, Global, Array}
+use Rattle.name_sets.specs.Limit.{most_names}
 use Rattle.name_sets.specs.NameLists.{name_set}
 use Rattle.c_semantics.specs.Texts.{definition, names}
 use Rattle.source_model.specs.declared.patch.NotPatch.{NotPatch}
@@ -10,12 +11,9 @@ use Rattle.source_model.specs.declared.patch.NotPatch.TheVariants.{Versions, Nam
 use Rattle.c_semantics.specs.SourceTexts.{Text}
 use Rattle.c_semantics.specs.Store.{Body, brought_bodies, all_check_ins, all_tokens}
 
--- the limits
+-- the limits; the names have that of `name_sets`
 abbrev pub version_limit : ℕ
 version_limit = 64
-
-abbrev pub name_limit : ℕ
-name_limit = 2048
 
 abbrev pub check_in_limit : ℕ
 check_in_limit = 63000
@@ -63,7 +61,7 @@ not_patch wrong bodies versions q =
     let p = last_definitions versions in
     let n = length versions in
     option_or (cause_if (nat_le version_limit n) Versions)
-    (option_or (cause_if (nat_lt name_limit (length (all_names (versions ++ q ∷ [])))) Names)
+    (option_or (cause_if (nat_lt most_names (length (all_names (versions ++ q ∷ [])))) Names)
     (option_or (option_map Kind (other_kind p q.definitions))
     (option_or (option_map Transform (wrong p q))
     (cause_if (is_full (bodies ++ brought_bodies (suc n) p q)) StoreFull))))

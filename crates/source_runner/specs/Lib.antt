@@ -1,5 +1,4 @@
 pub mod Definitions
-pub mod Formats
 pub mod Frames
 pub mod Joins
 pub mod Listed

@@ -1,27 +1,13 @@
 //! What `printf` writes.
 ghost use Rattle.std.specs.Prelude.{◌≡◌, ◌∷◌, ◌++◌, List, map, drop, IfOk, OnOk};
 ghost use Rattle.c_semantics.specs.Values.{Value as SeenValue};
-ghost use Rattle.source_model.specs.Printing.{written, shown, others, printed};
-ghost use Rattle.source_runner.specs.Formats.{reading_of};
+ghost use Rattle.source_model.specs.Printing.{is_literal, written, shown, others, printed};
 ghost use Rattle.local_evaluation.specs.Values.{seen};
 
+use c_format::Reading;
 use itoa::Buffer;
 use local_evaluation::Value;
 use std::alloc::AllocError;
-
-/// Whether the byte before was part of a conversion that isn't complete.
-#[derive(Clone, Copy)]
-enum Reading {
-    Plain,
-    Conversion,
-}
-
-/// How the next byte of a format is read, and how many arguments were used.
-#[derive(Clone, Copy)]
-struct Progress {
-    reading: Reading,
-    used: usize,
-}
 
 /// Adds what a format and its arguments print (C11 7.21.6.1). Where memory runs out, a prefix of it was added.
 pub(crate) fn print(
@@ -31,50 +17,45 @@ pub(crate) fn print(
 ) -> Result<(), AllocError>
     ensures { OnOk result (output.new.items ≡ output.old.items ++ printed format.now (map seen arguments.now)) }
 {
-    let mut progress = Progress {
-        reading: Reading::Plain,
-        used: 0,
-    };
+    let mut reading = Reading::Text;
+    let mut used = 0;
     for byte in format.as_bytes() {
-        progress = print_byte(output, *byte, arguments, progress)?;
+        used = print_byte(output, *byte, reading, arguments, used)?;
+        reading = reading.read(*byte);
     }
     Ok(())
 }
 
-/// Adds what one byte of a format prints.
+/// Adds what one byte of a format prints, and gives how many arguments are used with it.
 fn print_byte(
     output: &mut Vec<u8>,
     byte: u8,
+    reading: Reading,
     arguments: &[Value],
-    progress: Progress,
-) -> Result<Progress, AllocError>
-    ensures bytes { let w = written (reading_of progress.reading) byte (drop progress.used (map seen arguments.now)) in
-        OnOk result (output.new.items ≡ output.old.items ++ w.bytes) }
-    ensures reading { let w = written (reading_of progress.reading) byte (drop progress.used (map seen arguments.now)) in
-        IfOk result (λ next. reading_of next.reading ≡ w.reading) }
-    ensures arguments { let w = written (reading_of progress.reading) byte (drop progress.used (map seen arguments.now)) in
-        IfOk result (λ next. drop next.used (map seen arguments.now) ≡ w.arguments) }
+    used: usize,
+) -> Result<usize, AllocError>
+    ensures bytes { OnOk result (output.new.items ≡ output.old.items ++ (written reading byte (drop used (map seen arguments.now))).bytes) }
+    ensures arguments { IfOk result (λ now. drop now (map seen arguments.now) ≡ (written reading byte (drop used (map seen arguments.now))).arguments) }
 {
-    let used = progress.used;
-    match (progress.reading, byte) {
-        (Reading::Plain, b'%') | (Reading::Conversion, b'l') => Ok(Progress {
-            reading: Reading::Conversion,
-            used,
-        }),
-        (Reading::Plain, _) | (Reading::Conversion, b'%') => {
-            output.push(byte)?;
-            Ok(Progress {
-                reading: Reading::Plain,
-                used,
-            })
+    match reading.taken(byte) {
+        Some(_) => print_argument(output, arguments, used),
+        None => {
+            if is_literal(reading, byte) {
+                output.push(byte)?;
+            }
+            Ok(used)
         }
-        (Reading::Conversion, _) => {
-            let used = print_argument(output, arguments, used)?;
-            Ok(Progress {
-                reading: Reading::Plain,
-                used,
-            })
-        }
+    }
+}
+
+/// Whether a byte of a format stands for itself.
+fn is_literal(reading: Reading, byte: u8) -> bool
+    ensures { result ≡ is_literal reading byte }
+{
+    match reading {
+        Reading::Text => byte != b'%',
+        Reading::Percent => byte == b'%',
+        Reading::Long | Reading::Bad => false,
     }
 }
 

@@ -26,10 +26,10 @@ use crate::store::Cells;
 use crate::thread::{Enter, Frame};
 use c_ints::Kind;
 use c_tree::{Binding as Declared, Def, DefKind, Function};
-use c_types::Typed;
+use c_types::{Known, Typed};
 use local_evaluation::stack::put;
 use local_evaluation::{Local, Piece, Stop, Value, Work};
-use resolved_tree::resolve::{Known, name_of_struct, resolve_body, statements, value_type, word};
+use resolved_tree::resolve::{name_of_struct, resolve_body, statements, value_type, word};
 use resolved_tree::{NodeId, StatementsNode, Trees, ValueType, Word, sum};
 use std::alloc::{AllocError, Global};
 
@@ -328,10 +328,10 @@ fn definitions_of(
     ensures definitions { IfOk result (λ ds. (u : Table) → Grows (table trees.new) u → AreDefinitions u (map bare_def text.now) ds.items) }
     ensures grows { Grows (table trees.old) (table trees.new) }
 {
-    let known = Known::of(alloc, text);
+    let known = Known::of(alloc, text)?;
     let mut definitions = Vec::new(alloc);
     for definition in text {
-        if let Some(made) = definition_of(trees, &known, definition)? {
+        if let Some(made) = definition_of(alloc, trees, &known, definition)? {
             definitions.push(made)?;
         }
     }
@@ -401,6 +401,7 @@ fn named_cells(
 
 /// What a definition defines, if it defines a name.
 fn definition_of(
+    alloc: Global,
     trees: &mut Trees,
     known: &Known,
     definition: &Def,
@@ -411,23 +412,23 @@ fn definition_of(
 {
     match &definition.kind {
         DefKind::Function(function) => {
-            let made = function_of(trees, known, function)?;
+            let made = function_of(alloc, trees, known, function)?;
             Ok(Some(made))
         }
         DefKind::Struct(tag, members) => {
-            let made = struct_of(known.alloc, trees, tag.text.as_str(), members.as_slice())?;
+            let made = struct_of(alloc, trees, tag.text.as_str(), members.as_slice())?;
             Ok(Some(made))
         }
         DefKind::Mutex(name) => {
-            let made = plain(known.alloc, trees, name.text.as_str())?;
+            let made = plain(alloc, trees, name.text.as_str())?;
             Ok(Some(made))
         }
         DefKind::Global(declaration) => {
-            let made = plain(known.alloc, trees, declaration.name.text.as_str())?;
+            let made = plain(alloc, trees, declaration.name.text.as_str())?;
             Ok(Some(made))
         }
         DefKind::Array(array) => {
-            let made = plain(known.alloc, trees, array.name.text.as_str())?;
+            let made = plain(alloc, trees, array.name.text.as_str())?;
             Ok(Some(made))
         }
         DefKind::Forward(_)
@@ -439,6 +440,7 @@ fn definition_of(
 
 /// A function.
 fn function_of(
+    alloc: Global,
     trees: &mut Trees,
     known: &Known,
     function: &Function,
@@ -449,14 +451,14 @@ fn function_of(
 {
     let body = resolve_body(trees, known, function)?;
     let name = word(trees, function.name.text.as_str())?;
-    let parameters = bindings(known.alloc, trees, function.parameters.as_slice())?;
+    let parameters = bindings(alloc, trees, function.parameters.as_slice())?;
     let result = returned(trees, function)?;
     Ok(Definition {
         name,
         parameters,
         body,
         result,
-        members: Vec::new(known.alloc),
+        members: Vec::new(alloc),
     })
 }
 

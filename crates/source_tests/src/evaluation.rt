@@ -2,9 +2,10 @@
 use c_front::read_text;
 use c_ints::Int;
 use c_tree::DefKind;
+use c_types::Known;
 use local_evaluation::{Halt, Local, Piece, Stop, Value, Work, evaluate};
 use resolved_tree::Trees;
-use resolved_tree::resolve::{Known, resolve_body};
+use resolved_tree::resolve::resolve_body;
 use std::alloc::{AllocError, Global};
 use std::test::Fail;
 
@@ -16,8 +17,8 @@ fn work_of(alloc: Global, trees: &mut Trees, text: &str) -> Result<Work, Fail> {
     let Ok(typed) = read_text(alloc, text.as_bytes()) else {
         return Err(Fail::new("the text has a fault"));
     };
-    let known = Known::of(alloc, typed.program().definitions.as_slice());
-    let Some(main) = known.definition("main") else {
+    let known = Known::of(alloc, typed.program().definitions.as_slice())?;
+    let Some(main) = known.definition_of("main") else {
         return Err(Fail::new("there is no main"));
     };
     let DefKind::Function(function) = &main.kind else {

@@ -14,11 +14,12 @@ ghost use Rattle.resolved_tree.specs.Trees.{table};
 use crate::node::{ExpressionNode, Node, NodeId, StatementNode, StatementsNode};
 use crate::resolve::expression::resolve;
 use crate::resolve::found::{converted, expression, tree, value_type, word};
-use crate::resolve::known::{Known, Local};
+use crate::resolve::known::Local;
 use crate::resolve::names::type_or_int;
 use crate::trees::Trees;
 use c_ints::Int;
 use c_tree::{CType, Declaration, Expr, Stmt, StmtNode};
+use c_types::Known;
 use std::alloc::{AllocError, Global};
 
 /// A new tree of a statement.
@@ -167,7 +168,7 @@ fn initial<'a>(
 {
     match &declaration.initial {
         Some(value) => {
-            let mut inner = copied(known.alloc, locals)?;
+            let mut inner = copied(trees.allocator(), locals)?;
             declare_local(&mut inner, declaration)?;
             let to = Some(&declaration.declared);
             let id = assigned(trees, known, inner.as_slice(), to, value)?;

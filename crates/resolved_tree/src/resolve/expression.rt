@@ -13,12 +13,13 @@ ghost use Rattle.resolved_tree.specs.Trees.{table};
 use crate::node::NodeId;
 use crate::resolve::form::{Many, One, Two, made_of_many, made_of_one, made_of_two};
 use crate::resolve::found::{Found, tree};
-use crate::resolve::known::{Known, Local};
+use crate::resolve::known::Local;
 use crate::resolve::names::variable;
 use crate::resolve::operator::{calloc, choice, constant, init_mutex, lock, unlock};
 use crate::trees::Trees;
 use c_ints::Int;
 use c_tree::{Expr, ExprNode};
+use c_types::Known;
 use dsu_io::{Boxed, List};
 use std::alloc::AllocError;
 
@@ -190,7 +191,7 @@ fn all(
     ensures within { IfOk result (λ ids. IsIn (table trees.new) (each_node ids.items)) }
     ensures grows { Grows (table trees.old) (table trees.new) }
 {
-    let mut ids = Vec::new(known.alloc);
+    let mut ids = Vec::new(trees.allocator());
     for expr in list.as_slice() {
         let found = resolve(trees, known, locals, expr)?;
         let id = tree(trees, found)?;

@@ -10,7 +10,6 @@ ghost use Rattle.resolved_tree.specs.Trees.{table};
 use crate::node::{NodeId, StatementNode};
 use crate::resolve::block::statement;
 use crate::resolve::found::Found;
-use crate::resolve::known::Known;
 use crate::resolve::names::{call, create, element, field, print};
 use crate::resolve::operator::{
     and, assignment, binary, cast, free, join, join_into, or, step, unary, update,
@@ -18,6 +17,7 @@ use crate::resolve::operator::{
 use crate::trees::Trees;
 use c_ints::{BinOp, UnOp};
 use c_tree::{CType, StepOp};
+use c_types::Known;
 use std::alloc::AllocError;
 
 /// A form of one part.

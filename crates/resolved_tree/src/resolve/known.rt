@@ -3,19 +3,12 @@ ghost use Rattle.std.specs.Prelude.{◌≡◌, map, option_map, IfOk, string_byt
 ghost use Rattle.std.specs.Option.{option_map_or};
 ghost use Rattle.c_tree.specs.Bare.{bare_type, bare_def, bare_binding};
 ghost use Rattle.c_semantics.specs.Names.{struct_name};
-ghost use Rattle.c_semantics.specs.Texts.{defined, defines, int, global_type, result_type, parameters_of, members_of, bound};
+ghost use Rattle.c_semantics.specs.Texts.{int, global_type, result_type, parameters_of, members_of, bound};
 ghost use Rattle.resolved_tree.specs.Known.{known_of, locals_of};
 
 use c_tree::{Binding, CType, Def, DefKind};
+use c_types::Known;
 use std::alloc::{AllocError, Global};
-
-/// What the definitions of a text say of its names.
-#[derive(Drop)]
-pub struct Known<'a> {
-    /// Where names are kept that are put together.
-    pub alloc: Global,
-    definitions: &'a [Def],
-}
 
 /// A local variable, by the tree that declares it.
 #[derive(Clone, Copy)]
@@ -24,95 +17,61 @@ pub(crate) struct Local<'a> {
     pub name: &'a str,
 }
 
-/// Whether a definition is that of a name.
-fn defines_name(definition: &Def, name: &str) -> bool
-    ensures { result ≡ defines name.now (bare_def definition.now) }
+/// The definition of a name; a struct's is `struct` with its tag after a blank.
+fn definition<'a>(known: &Known<'a>, name: &str) -> Option<&'a Def>
+    ensures { option_map (λ d. bare_def d.now) result ≡ known_of known.now name.now }
 {
-    match &definition.kind {
-        DefKind::Struct(tag, _) => {
-            name.strip_prefix("struct ")
-                .is_some_and(|rest| rest == tag.text.as_str())
-        }
-        DefKind::Mutex(own) => own.text.as_str() == name,
-        DefKind::Function(function) => function.name.text.as_str() == name,
-        DefKind::Global(declaration) => declaration.name.text.as_str() == name,
-        DefKind::Array(array) => array.name.text.as_str() == name,
-        DefKind::Forward(_)
-        | DefKind::Prototype(_)
-        | DefKind::TransformStruct(_)
-        | DefKind::TransformGlobal(_, _) => false,
+    known.declared(name)
+}
+
+/// The type of a global variable or of an array's elements; where there is none it is `int`.
+pub(crate) fn global_type<'a>(known: &Known<'a>, name: &str) -> Option<&'a CType>
+    ensures { option_map_or (λ type. bare_type type.now) result int ≡ global_type (known_of known.now name.now) }
+{
+    match &definition(known, name)?.kind {
+        DefKind::Global(declaration) => Some(&declaration.declared),
+        DefKind::Array(array) => Some(&array.element),
+        _ => None,
     }
 }
 
-impl<'a> Known<'a> {
-    /// What the definitions of a text say.
-    pub fn of(alloc: Global, definitions: &'a [Def]) -> Known<'a>
-        ensures { result.definitions.now ≡ definitions.now }
-    {
-        Known { alloc, definitions }
+/// The type of a function's value; where there is none it is `int`.
+pub(crate) fn result_type<'a>(known: &Known<'a>, name: &str) -> Option<&'a CType>
+    ensures { option_map_or (λ type. bare_type type.now) result int ≡ result_type (known_of known.now name.now) }
+{
+    match &definition(known, name)?.kind {
+        DefKind::Function(function) => function.result.as_ref(),
+        _ => None,
     }
+}
 
-    /// The definition of a name; a struct's is `struct` with its tag after a blank.
-    pub fn definition(&self, name: &str) -> Option<&'a Def>
-        ensures { option_map (λ d. bare_def d.now) result ≡ known_of self.now name.now }
-    {
-        for definition in self.definitions {
-            if defines_name(definition, name) {
-                return Some(definition);
-            }
-        }
-        None
+/// The parameters of a function.
+pub(crate) fn parameters<'a>(known: &Known<'a>, name: &str) -> &'a [Binding]
+    ensures { map bare_binding result.now ≡ parameters_of (known_of known.now name.now) }
+{
+    match definition(known, name) {
+        Some(
+            Def {
+                kind: DefKind::Function(function),
+                ..
+            },
+        ) => function.parameters.as_slice(),
+        _ => &[],
     }
+}
 
-    /// The type of a global variable or of an array's elements; where there is none it is `int`.
-    pub(crate) fn global_type(&self, name: &str) -> Option<&'a CType>
-        ensures { option_map_or (λ type. bare_type type.now) result int ≡ global_type (known_of self.now name.now) }
-    {
-        match &self.definition(name)?.kind {
-            DefKind::Global(declaration) => Some(&declaration.declared),
-            DefKind::Array(array) => Some(&array.element),
-            _ => None,
-        }
-    }
-
-    /// The type of a function's value; where there is none it is `int`.
-    pub(crate) fn result_type(&self, name: &str) -> Option<&'a CType>
-        ensures { option_map_or (λ type. bare_type type.now) result int ≡ result_type (known_of self.now name.now) }
-    {
-        match &self.definition(name)?.kind {
-            DefKind::Function(function) => function.result.as_ref(),
-            _ => None,
-        }
-    }
-
-    /// The parameters of a function.
-    pub(crate) fn parameters(&self, name: &str) -> &'a [Binding]
-        ensures { map bare_binding result.now ≡ parameters_of (known_of self.now name.now) }
-    {
-        match self.definition(name) {
-            Some(
-                Def {
-                    kind: DefKind::Function(function),
-                    ..
-                },
-            ) => function.parameters.as_slice(),
-            _ => &[],
-        }
-    }
-
-    /// The fields of a struct.
-    pub(crate) fn members(&self, name: &str) -> &'a [Binding]
-        ensures { map bare_binding result.now ≡ members_of (known_of self.now name.now) }
-    {
-        match self.definition(name) {
-            Some(
-                Def {
-                    kind: DefKind::Struct(_, members),
-                    ..
-                },
-            ) => members.as_slice(),
-            _ => &[],
-        }
+/// The fields of a struct.
+pub(crate) fn members<'a>(known: &Known<'a>, name: &str) -> &'a [Binding]
+    ensures { map bare_binding result.now ≡ members_of (known_of known.now name.now) }
+{
+    match definition(known, name) {
+        Some(
+            Def {
+                kind: DefKind::Struct(_, members),
+                ..
+            },
+        ) => members.as_slice(),
+        _ => &[],
     }
 }
 

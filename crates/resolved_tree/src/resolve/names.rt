@@ -14,12 +14,15 @@ ghost use Rattle.resolved_tree.specs.Trees.{table};
 
 use crate::node::{ArgumentsNode, ExpressionNode, Node, NodeId, Place, ValueType};
 use crate::resolve::found::{Found, expression, place, tree, value, value_type, word};
-use crate::resolve::known::{Known, Local, bound_in, local_type, name_of_struct};
+use crate::resolve::known::{
+    Local, bound_in, global_type, local_type, members, name_of_struct, parameters, result_type,
+};
 use crate::resolve::operator::tag;
 use crate::resolve::types::INT;
 use crate::trees::Trees;
 use crate::words::Word;
 use c_tree::{Binding, CType};
+use c_types::Known;
 use std::alloc::AllocError;
 
 /// A type of the text, or `int` where there is none.
@@ -57,7 +60,7 @@ pub(crate) fn variable(
             Ok(Found::Located(Place::Local(name), declared))
         }
         None => {
-            let declared = type_or_int(trees, known.global_type(name))?;
+            let declared = type_or_int(trees, global_type(known, name))?;
             let name = word(trees, name)?;
             Ok(Found::Located(Place::Global(name), declared))
         }
@@ -78,7 +81,7 @@ pub(crate) fn element(
     ensures grows { Grows (table trees.old) (table trees.new) }
 {
     let index = tree(trees, index)?;
-    let declared = type_or_int(trees, known.global_type(name))?;
+    let declared = type_or_int(trees, global_type(known, name))?;
     let name = word(trees, name)?;
     Ok(Found::Located(Place::Element(name, index), declared))
 }
@@ -96,8 +99,8 @@ fn member_type(
     ensures within { IfOk result (λ r. IsIn (table trees.new) (in_type r)) }
     ensures grows { Grows (table trees.old) (table trees.new) }
 {
-    let key = name_of_struct(known.alloc, trees.text(tag))?;
-    type_or_int(trees, bound_in(known.members(key.as_str()), name))
+    let key = name_of_struct(trees.allocator(), trees.text(tag))?;
+    type_or_int(trees, bound_in(members(known, key.as_str()), name))
 }
 
 /// A field of what a handle means, by the type of the handle (C11 6.5.2.3).
@@ -166,7 +169,7 @@ pub(crate) fn create(
 {
     let place = place(trees, thread)?;
     let value_tree = tree(trees, handed_over)?;
-    let passed = argument(trees, value_tree, parameter_at(known.parameters(name), 0))?;
+    let passed = argument(trees, value_tree, parameter_at(parameters(known, name), 0))?;
     let name = word(trees, name)?;
     value(trees, ExpressionNode::Create(place, name, passed), INT)
 }
@@ -231,8 +234,8 @@ pub(crate) fn call(
     ensures within { IfOk result (λ r. IsIn (table trees.new) (in_found r)) }
     ensures grows { Grows (table trees.old) (table trees.new) }
 {
-    let list = passed(trees, ids, known.parameters(name))?;
-    let declared = type_or_int(trees, known.result_type(name))?;
+    let list = passed(trees, ids, parameters(known, name))?;
+    let declared = type_or_int(trees, result_type(known, name))?;
     let name = word(trees, name)?;
     value(trees, ExpressionNode::Call(name, list), declared)
 }

@@ -17,9 +17,10 @@ use crate::resolve::block::{
     return_zero, statement,
 };
 use crate::resolve::form::{Guarded, Nested, made_of_guarded, made_of_nested};
-use crate::resolve::known::{Known, Local};
+use crate::resolve::known::Local;
 use crate::trees::Trees;
 use c_tree::{Binding, CType, Expr, Function, Stmt, StmtNode};
+use c_types::Known;
 use dsu_io::{Boxed, List};
 use std::alloc::{AllocError, Global};
 
@@ -55,7 +56,7 @@ fn resolve_statement<'a>(
             guarded(trees, known, returned, locals, a, e, Guarded::DoWhile)
         }
         StmtNode::For(first, test, step, a) => {
-            let mut scope = copied(known.alloc, locals)?;
+            let mut scope = copied(trees.allocator(), locals)?;
             let f = sequence(trees, known, returned, &mut scope, first)?;
             let x = evaluated_if(trees, known, scope.as_slice(), test)?;
             let y = evaluated_if(trees, known, scope.as_slice(), step)?;
@@ -147,7 +148,7 @@ fn block<'a>(
     ensures within { IfOk result (λ id. IsIn (table trees.new) (a_node id)) }
     ensures grows { Grows (table trees.old) (table trees.new) }
 {
-    let mut scope = copied(known.alloc, locals)?;
+    let mut scope = copied(trees.allocator(), locals)?;
     sequence(trees, known, returned, &mut scope, list)
 }
 
@@ -168,7 +169,7 @@ fn sequence<'a>(
     ensures within { IfOk result (λ id. IsIn (table trees.new) (a_node id)) }
     ensures grows { Grows (table trees.old) (table trees.new) }
 {
-    let mut ids = Vec::new(known.alloc);
+    let mut ids = Vec::new(trees.allocator());
     for stmt in list.as_slice() {
         let id = resolve_statement(trees, known, returned, locals.as_slice(), stmt)?;
         declare(locals, stmt)?;
@@ -214,7 +215,7 @@ pub fn resolve_body(
     ensures within { IfOk result (λ id. IsIn (table trees.new) (a_node id)) }
     ensures grows { Grows (table trees.old) (table trees.new) }
 {
-    let mut locals = parameters(known.alloc, function.parameters.as_slice())?;
+    let mut locals = parameters(trees.allocator(), function.parameters.as_slice())?;
     let returned = value_type(function);
     sequence(trees, known, returned, &mut locals, &function.body)
 }

@@ -1,6 +1,6 @@
 use Rattle.std.proofs.Common.{◌≡◌, drop, sym, ◌∙◌}
 use Rattle.std.proofs.lemmas.List.{drop_all}
-use Rattle.c_types.specs.declared.format.Reading.TheVariants.{Text}
+use Rattle.c_format.specs.declared.reading.Reading.TheVariants.{Text}
 use Rattle.c_types.proofs.Conversions.{at_end}
 use Rattle.c_types.proofs.format.fits_format.Goals as goal
 use Rattle.c_types.proofs.format.fits_format.Goals.{in-Text, in_default-matches}

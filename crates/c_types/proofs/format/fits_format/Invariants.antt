@@ -1,5 +1,6 @@
 use Rattle.std.proofs.Common.{◌≡◌, ◌≤◌, length, drop}
-use Rattle.c_types.specs.Formats.{fits_format, kinds, take_all}
+use Rattle.c_format.specs.Formats.{kinds}
+use Rattle.c_types.specs.Formats.{fits_format, take_all}
 use Rattle.c_types.proofs.format.fits_format.Given as goal
 
 abbrev pub invariant-loop-i : goal.invariant-loop-i
