@@ -11,7 +11,8 @@ use Rattle.source_runner.specs.declared.thread.Slot.{Slot}
 use Rattle.source_runner.specs.declared.thread.Slot.TheVariants.{Free}
 use Rattle.resolved_tree.specs.Nodes.{Table}
 use Rattle.source_runner.specs.Programs.{IsProgram, table_of, text_of}
-use Rattle.source_runner.specs.Stores.{globals_of, holders_of, objects_of}
+use Rattle.source_runner.specs.Globals.{globals_of}
+use Rattle.source_runner.specs.Stores.{holders_of, objects_of}
 use Rattle.source_runner.specs.Machines.{AreClosed, IsSlot, Stands, finish_of, slot_at}
 
 as_long : (k : ℕ) → length (replicate k world.Free) ≡ length (replicate k Free)
@@ -33,8 +34,8 @@ each text t first own k (suc n) is = free_at text t k n
 
 -- a machine that is at the start
 pub begun : (m : Machine) (limits : Limits) (first : Slot) → IsProgram m.program
-    → globals_of (table_of m.program) m.store.globals.items ≡ filter_map cells_at_first (text_of m.program)
-    → m.store.objects.items ≡ [] → m.store.capacity ≡ limits.objects → m.store.holders.items ≡ [] → m.store.output.items ≡ []
+    → globals_of m.store.globals.list.items ≡ filter_map cells_at_first (text_of m.program)
+    → m.store.objects.all.items ≡ [] → m.store.capacity ≡ limits.objects → m.store.holders.items ≡ [] → m.store.output.items ≡ []
     → m.slots.items ≡ first ∷ replicate (limits.slots - 1) Free → m.threads ≡ 1 → m.misused ≡ false → m.closed.items ≡ []
     → m.finish ≡ None
     → IsSlot (text_of m.program) (table_of m.program) false first (world.Live (started 0 main_enter))
@@ -45,10 +46,10 @@ begun m limits first sound globals objects capacity holders output slots threads
     table = refl;
     store =
         ap (λ gs. record w { globals = gs }) (sym globals)
-        ∙ ap (λ os. record w { globals = globals_of t m.store.globals.items; objects = objects_of t os }) (sym objects)
-        ∙ ap (λ c. record w { globals = globals_of t m.store.globals.items; objects = objects_of t m.store.objects.items; capacity = c }) (sym capacity)
-        ∙ ap (λ hs. record w { globals = globals_of t m.store.globals.items; objects = objects_of t m.store.objects.items; capacity = m.store.capacity; holders = holders_of t hs }) (sym holders)
-        ∙ ap (λ out. record w { globals = globals_of t m.store.globals.items; objects = objects_of t m.store.objects.items; capacity = m.store.capacity; holders = holders_of t m.store.holders.items; output = out }) (sym output);
+        ∙ ap (λ os. record w { globals = globals_of m.store.globals.list.items; objects = objects_of t os }) (sym objects)
+        ∙ ap (λ c. record w { globals = globals_of m.store.globals.list.items; objects = objects_of t m.store.objects.all.items; capacity = c }) (sym capacity)
+        ∙ ap (λ hs. record w { globals = globals_of m.store.globals.list.items; objects = objects_of t m.store.objects.all.items; capacity = m.store.capacity; holders = holders_of t hs }) (sym holders)
+        ∙ ap (λ out. record w { globals = globals_of m.store.globals.list.items; objects = objects_of t m.store.objects.all.items; capacity = m.store.capacity; holders = holders_of t m.store.holders.items; output = out }) (sym output);
     threads = sym threads;
     misused = sym misused;
     closed = subst (λ cs. AreClosed text cs []) (sym closed) tt;

@@ -44,6 +44,11 @@ field_changed t fs i d name value within same =
     ∙ map-append (field_of t) (take i fs) (x ∷ drop (suc i) fs)
     ∙ ap (λ l. fields_of t (take i fs) ++ l) (sym changed)
 
+-- one of the items where there are some
+pub an_item : {X : Type 0} (xs : List X) (n : ℕ) → n < length xs → X
+an_item (x ∷ xs) n within = x
+an_item [] n within = absurd (omega (arith, within))
+
 -- an object changed
 pub object_changed : (t : Table) (w : World) (list : List Object) (n : ℕ) (new : Object) (x : world.Object)
     → w.objects ≡ objects_of t list → object_of t new ≡ x
@@ -114,13 +119,13 @@ abbrev pub made_object : List BareDef → Bytes → world.Object
 made_object text tag = record { tag = tag; fields = zero_fields (members_of (definition text (struct_name tag))); live = true }
 
 pub allocates : (t : Table) (text : List BareDef) (slot : ℕ) (old new : Store) (tag : Bytes) (values after : List Value)
-    → (count_by (λ o. o.live) (objects_of t old.objects.items) ≡ old.capacity → ⊥)
-    → objects_of t new.objects.items ≡ objects_of t old.objects.items ++ made_object text tag ∷ []
-    → ((w : World) → with_store t new w ≡ record (with_store t old w) { objects = objects_of t new.objects.items })
-    → newest after ≡ Reference (Some (length (objects_of t old.objects.items))) ∷ newest values
+    → (count_by (λ o. o.live) (objects_of t old.objects.all.items) ≡ old.capacity → ⊥)
+    → objects_of t new.objects.all.items ≡ objects_of t old.objects.all.items ++ made_object text tag ∷ []
+    → ((w : World) → with_store t new w ≡ record (with_store t old w) { objects = objects_of t new.objects.all.items })
+    → newest after ≡ Reference (Some (length (objects_of t old.objects.all.items))) ∷ newest values
     → Performs t text slot (New tag) old values On new after
 allocates t text slot old new tag values after room added changed left =
-    let os = objects_of t old.objects.items in
+    let os = objects_of t old.objects.all.items in
     let more = Reference (Some (length os)) ∷ newest values in
     goes t text slot (New tag) old new values after (λ w. record w { objects = os ++ made_object text tag ∷ [] }) more
     (λ s at defined.

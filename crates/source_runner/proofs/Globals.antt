@@ -1,10 +1,10 @@
 -- Globals by name.
-use Rattle.std.proofs.Common.{◌≡◌, ℕ, suc, ◌+◌, ◌<◌, ◌≤◌, Bool, true, false, not, ◌&&◌, cond, if◌then◌else◌, ℤ, pos, negsuc, List, [], ◌∷◌, length, map, get_or, set, Option, Some, None, find, bytes_eq, unsigned_abs, nat_lt, slice_get, slice_set, unwrap_or, refl, sym, ap, ◌∙◌, arith}
+use Rattle.std.proofs.Common.{◌≡◌, ℕ, suc, ◌+◌, ◌<◌, Bool, true, false, not, ◌&&◌, cond, if◌then◌else◌, ℤ, pos, negsuc, List, [], ◌∷◌, length, map, get_or, set, Option, Some, None, find, bytes_eq, string_bytes, unsigned_abs, nat_lt, slice_get, slice_set, unwrap_or, refl, sym, ap, ◌∙◌, arith}
 use Rattle.std.specs.List.{position, position_or_len}
 use Rattle.std.specs.Option.{option_map_or}
-use Rattle.std.proofs.lemmas.Bool.{ltb-true, ltb-false, le-ltb}
-use Rattle.std.proofs.lemmas.List.{map-set, get_or-map, length-map, set_past}
-use Rattle.std.proofs.lemmas.List.Folds.{find_at}
+use Rattle.std.proofs.lemmas.Bool.{le-ltb}
+use Rattle.std.proofs.lemmas.List.{map-set, get_or-map, length-map, length-set, set_past}
+use Rattle.std.proofs.lemmas.List.Folds.{find_at, position_or_len-set}
 use Rattle.std.proofs.lemmas.Option.{cond_some, slice_get-get_or, slice_get_past}
 use Rattle.c_ints.specs.declared.int.Int.{Int}
 use Rattle.c_ints.specs.Number.{value_of}
@@ -22,32 +22,18 @@ use Rattle.local_evaluation.specs.declared.value.Value.TheVariants.{Number as Nu
 use Rattle.source_runner.specs.declared.store.Store.{Store}
 use Rattle.source_runner.specs.declared.shared_stops.Did.TheVariants.{On, Trap, Nothing}
 use Rattle.source_runner.specs.declared.store.Cells.{Cells}
-use Rattle.resolved_tree.specs.Nodes.{Table, word}
+use Rattle.source_runner.specs.declared.places.Places.{Places}
+use Rattle.source_runner.specs.Places.{place_in}
+use Rattle.resolved_tree.specs.Nodes.{Table}
 use Rattle.local_evaluation.specs.Values.{seen}
-use Rattle.source_runner.specs.Stores.{Performs, standing_with, with_store, cells_of, globals_of}
+use Rattle.source_runner.specs.Globals.{cells_of, globals_of}
+use Rattle.source_runner.specs.Stores.{Performs, standing_with, with_store}
 use Rattle.local_evaluation.specs.Work.{newest}
 use Rattle.source_runner.proofs.Performing.{goes}
+use Rattle.source_runner.proofs.Placed.{found_at, nowhere}
 
 abbrev pub named : Bytes → world.Cells → Bool
 named name g = bytes_eq name g.name
-
--- where a position was found, and where none was
-pub record At {X : Type 0} (p : X → Bool) (xs : List X) (i : ℕ) : Type 0 where
-  pub first : position_or_len p xs ≡ i
-  pub within : i < length xs
-
-pub found_at : {X : Type 0} (p : X → Bool) (xs : List X) (i : ℕ) → position p xs ≡ Some i → At p xs i
-found_at p xs i h =
-    let found = cond_some (nat_lt (position_or_len p xs) (length xs)) (position_or_len p xs) i h in
-    let within : position_or_len p xs < length xs = ltb-true (position_or_len p xs) (length xs) found.0 in
-    record { first = found.1; within = omega (arith, found.1) }
-
-pub nowhere : {X : Type 0} (p : X → Bool) (xs : List X) → position p xs ≡ None → length xs ≤ position_or_len p xs
-nowhere p xs h = by (nat_lt (position_or_len p xs) (length xs)) refl h
-  where
-    by : (b : Bool) → nat_lt (position_or_len p xs) (length xs) ≡ b → cond b (Some (position_or_len p xs)) None ≡ None → length xs ≤ position_or_len p xs
-    by true e h = cc
-    by false e h = ltb-false (position_or_len p xs) (length xs) e
 
 -- the cells of the first global of a name changed
 with_cells_first : (name : Bytes) (cells : List Seen) (gs : List world.Cells) (d : world.Cells)
@@ -71,30 +57,52 @@ with_cells_first name cells (g ∷ gs) d =
     by rest false = ap (λ l. g ∷ l) rest
 
 -- the global that was found is changed
-pub changed_at : (t : Table) (cs : List Cells) (name : Bytes) (place : ℕ) (d new : Cells) (cells : List Seen)
-    → position (named name) (globals_of t cs) ≡ Some place
+pub changed_at : (cs : List Cells) (name : Bytes) (place : ℕ) (d new : Cells) (cells : List Seen)
+    → position (named name) (globals_of cs) ≡ Some place
     → new.name ≡ (get_or cs place d).name → map seen new.cells.items ≡ cells
-    → globals_of t (set cs place new) ≡ with_cells_in name cells (globals_of t cs)
-changed_at t cs name place d new cells h same is =
-    let gs = globals_of t cs in
+    → globals_of (set cs place new) ≡ with_cells_in name cells (globals_of cs)
+changed_at cs name place d new cells h same is =
+    let gs = globals_of cs in
     let at = found_at (named name) gs place h in
-    let long = length-map cs (cells_of t) in
+    let long = length-map cs cells_of in
     let within : place < length cs = omega (arith, at.within, long) in
-    let kept : (get_or gs place (cells_of t d)).name ≡ word t new.name =
-    ap (λ g. g.name) (get_or-map (cells_of t) cs place d (cells_of t d) within) ∙ ap (word t) (sym same)
+    let kept : (get_or gs place (cells_of d)).name ≡ string_bytes new.name =
+    ap (λ g. g.name) (get_or-map cells_of cs place d (cells_of d) within) ∙ ap string_bytes (sym same)
     in
-    map-set (cells_of t) cs place new
+    map-set cells_of cs place new
     ∙ ap (λ n. set gs place (record { name = n; cells = map seen new.cells.items })) (sym kept)
-    ∙ ap (λ l. set gs place (record { name = (get_or gs place (cells_of t d)).name; cells = l })) is
-    ∙ sym (with_cells_first name cells gs (cells_of t d)
-    ∙ ap (λ i. set gs i (record { name = (get_or gs i (cells_of t d)).name; cells = cells })) at.first)
+    ∙ ap (λ l. set gs place (record { name = (get_or gs place (cells_of d)).name; cells = l })) is
+    ∙ sym (with_cells_first name cells gs (cells_of d)
+    ∙ ap (λ i. set gs i (record { name = (get_or gs i (cells_of d)).name; cells = cells })) at.first)
+
+-- it is one of them
+pub place_within : (cs : List Cells) (name : Bytes) (place : ℕ) → position (named name) (globals_of cs) ≡ Some place → place < length cs
+place_within cs name place h =
+    let at = found_at (named name) (globals_of cs) place h in
+    omega (arith, at.within, length-map cs cells_of)
+
+-- and stays where it was
+pub placed_kept : (cs : List Cells) (places : Places) (i : ℕ) (d new : Cells) → i < length cs → new.name ≡ (get_or cs i d).name
+    → ((name : Bytes) → place_in places name ≡ position (named name) (globals_of cs))
+    → (name : Bytes) → place_in places name ≡ position (named name) (globals_of (set cs i new))
+placed_kept cs places i d new within same placed name =
+    let gs = globals_of cs in
+    let other = cells_of new in
+    let first : position_or_len (named name) (set gs i other) ≡ position_or_len (named name) gs =
+    position_or_len-set (named name) gs i other (cells_of d)
+    (ap (λ s. bytes_eq name (string_bytes s)) same ∙ ap (named name) (sym (get_or-map cells_of cs i d (cells_of d) within)))
+    in
+    placed name
+    ∙ ap (λ n. cond (nat_lt n (length gs)) (Some n) None) (sym first)
+    ∙ ap (λ l. cond (nat_lt (position_or_len (named name) (set gs i other)) l) (Some (position_or_len (named name) (set gs i other))) None) (sym (length-set gs i other))
+    ∙ ap (position (named name)) (sym (map-set cells_of cs i new))
 
 -- where there is none, nothing changes
-pub changed_nowhere : (t : Table) (cs : List Cells) (name : Bytes) (cells : List Seen)
-    → position (named name) (globals_of t cs) ≡ None
-    → globals_of t cs ≡ with_cells_in name cells (globals_of t cs)
-changed_nowhere t cs name cells h =
-    let gs = globals_of t cs in
+pub changed_nowhere : (cs : List Cells) (name : Bytes) (cells : List Seen)
+    → position (named name) (globals_of cs) ≡ None
+    → globals_of cs ≡ with_cells_in name cells (globals_of cs)
+changed_nowhere cs name cells h =
+    let gs = globals_of cs in
     let d : world.Cells = record { name = name; cells = cells } in
     sym (with_cells_first name cells gs d ∙ set_past gs (position_or_len (named name) gs) _ (nowhere (named name) gs h))
 
@@ -102,22 +110,22 @@ changed_nowhere t cs name cells h =
 abbrev pub cells_found : Option world.Cells → List Seen
 cells_found g = option_map_or (λ g. g.cells) g []
 
-pub cells_at : (t : Table) (cs : List Cells) (name : Bytes) (place : ℕ) (d : Cells) (w : World)
-    → position (named name) (globals_of t cs) ≡ Some place → w.globals ≡ globals_of t cs
+pub cells_at : (cs : List Cells) (name : Bytes) (place : ℕ) (d : Cells) (w : World)
+    → position (named name) (globals_of cs) ≡ Some place → w.globals ≡ globals_of cs
     → cells_in w name ≡ map seen (get_or cs place d).cells.items
-cells_at t cs name place d w h is =
-    let gs = globals_of t cs in
+cells_at cs name place d w h is =
+    let gs = globals_of cs in
     let at = found_at (named name) gs place h in
-    let long = length-map cs (cells_of t) in
+    let long = length-map cs cells_of in
     let within : place < length cs = omega (arith, at.within, long) in
     ap (λ l. cells_found (find (named name) l)) is
-    ∙ ap cells_found (find_at (named name) gs ∙ ap (slice_get gs) at.first ∙ slice_get-get_or gs place (cells_of t d) at.within)
-    ∙ ap (λ g. g.cells) (get_or-map (cells_of t) cs place d (cells_of t d) within)
+    ∙ ap cells_found (find_at (named name) gs ∙ ap (slice_get gs) at.first ∙ slice_get-get_or gs place (cells_of d) at.within)
+    ∙ ap (λ g. g.cells) (get_or-map cells_of cs place d (cells_of d) within)
 
-pub cells_nowhere : (t : Table) (cs : List Cells) (name : Bytes) (w : World)
-    → position (named name) (globals_of t cs) ≡ None → w.globals ≡ globals_of t cs → cells_in w name ≡ []
-cells_nowhere t cs name w h is =
-    let gs = globals_of t cs in
+pub cells_nowhere : (cs : List Cells) (name : Bytes) (w : World)
+    → position (named name) (globals_of cs) ≡ None → w.globals ≡ globals_of cs → cells_in w name ≡ []
+cells_nowhere cs name w h is =
+    let gs = globals_of cs in
     ap (λ l. cells_found (find (named name) l)) is
     ∙ ap cells_found (find_at (named name) gs ∙ slice_get_past gs (position_or_len (named name) gs) (nowhere (named name) gs h))
 

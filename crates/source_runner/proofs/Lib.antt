@@ -1,6 +1,7 @@
 pub mod AfterMoves
 mod Beginning
 mod Calls
+mod Counting
 mod Defining
 mod Entering
 mod Enters
@@ -15,6 +16,7 @@ mod Listing
 mod Looking
 mod Newest
 mod Performing
+mod Placed
 mod Printing
 mod Ready
 mod Reported

@@ -1,10 +1,12 @@
 pub mod Definitions
 pub mod Frames
+pub mod Globals
 pub mod Joins
 pub mod Listed
 pub mod Loading
 pub mod Machines
 pub mod Makes
+pub mod Places
 pub mod Programs
 pub mod SourceRuns
 pub mod States

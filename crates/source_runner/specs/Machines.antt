@@ -24,6 +24,7 @@ use Rattle.source_runner.specs.declared.thread.Enter.{Enter}
 use Rattle.source_runner.specs.declared.thread.Next.{Next}
 use Rattle.source_runner.specs.declared.thread.Next.TheVariants as next
 use Rattle.source_runner.specs.declared.thread.Thread.{Thread}
+use Rattle.source_runner.specs.declared.thread.Stopped.{Stopped}
 use Rattle.source_runner.specs.declared.thread.Slot.{Slot}
 use Rattle.source_runner.specs.declared.thread.Slot.TheVariants.{Free, Live, Over}
 use Rattle.source_runner.specs.declared.machine.Finish.{Finish}
@@ -146,6 +147,13 @@ pub record IsAtStop (m : Machine) (slot : ℕ) (th : Thread) (f : Frame) (stop :
 abbrev pub standing_at : Table → World → ℕ → Thread → Frame → ℕ → SeenThread → Standing
 standing_at t w slot th f point user =
     record { world = w; slot = slot; thread = user; frame = frame_at t f point; below = frames_of t th.below.items }
+
+-- the same of a thread at a stop that is handed on
+abbrev pub IsStopped : Machine → Stopped → Stop → World → SeenThread → SeenThread → Type 0
+IsStopped m at stop w before user = IsAtStop m at.slot at.thread at.frame stop at.point w before user
+
+abbrev pub stands_at : Table → World → Stopped → SeenThread → Standing
+stands_at t w at user = standing_at t w at.slot at.thread at.frame at.point user
 
 -- the enter of a thread that is started with an argument
 abbrev pub enter_with : Table → Word → Value → ℕ → SeenEnter

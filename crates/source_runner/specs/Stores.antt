@@ -9,7 +9,6 @@ use Rattle.source_model.specs.Worlds.{World, now}
 use Rattle.source_model.specs.Worlds as world
 use Rattle.source_model.specs.Moves.{Standing, goes_on, traps, perform}
 use Rattle.local_evaluation.specs.declared.value.Value.{Value}
-use Rattle.source_runner.specs.declared.store.Cells.{Cells}
 use Rattle.source_runner.specs.declared.store.Field.{Field}
 use Rattle.source_runner.specs.declared.store.Object.{Object}
 use Rattle.source_runner.specs.declared.store.Held.{Held}
@@ -19,11 +18,9 @@ use Rattle.source_runner.specs.declared.shared_stops.Did.TheVariants.{On, Trap, 
 use Rattle.resolved_tree.specs.Nodes.{Table, word}
 use Rattle.local_evaluation.specs.Values.{seen}
 use Rattle.local_evaluation.specs.Work.{newest}
+use Rattle.source_runner.specs.Globals.{globals_of}
 
--- a global, a field, an object, a mutex that is held
-abbrev pub cells_of : Table → Cells → world.Cells
-cells_of t c = record { name = word t c.name; cells = map seen c.cells.items }
-
+-- a field, an object, a mutex that is held
 abbrev pub field_of : Table → Field → Variable
 field_of t f = record { name = word t f.name; value = seen f.value }
 
@@ -36,10 +33,7 @@ object_of t o = record { tag = word t o.tag; fields = fields_of t o.fields.items
 abbrev pub held_of : Table → Held → world.Held
 held_of t h = record { mutex = word t h.mutex; slot = h.slot }
 
--- globals, objects, and mutexes, of which the last that is kept was taken last
-abbrev pub globals_of : Table → List Cells → List world.Cells
-globals_of t cs = map (cells_of t) cs
-
+-- objects, and mutexes, of which the last that is kept was taken last
 abbrev pub objects_of : Table → List Object → List world.Object
 objects_of t os = map (object_of t) os
 
@@ -49,8 +43,8 @@ holders_of t hs = map (held_of t) (reverse hs)
 -- a world with what is shared
 abbrev pub with_store : Table → Store → World → World
 with_store t s w = record w {
-  globals = globals_of t s.globals.items;
-  objects = objects_of t s.objects.items;
+  globals = globals_of s.globals.list.items;
+  objects = objects_of t s.objects.all.items;
   capacity = s.capacity;
   holders = holders_of t s.holders.items;
   output = s.output.items;

@@ -15,12 +15,12 @@ ghost use Rattle.source_runner.specs.Makes.{can_make, has_values, is_handle, is_
 ghost use Rattle.resolved_tree.specs.Nodes.{Table};
 ghost use Rattle.local_evaluation.specs.Pieces.{stop_of};
 ghost use Rattle.source_runner.specs.Programs.{table_of, text_of};
-ghost use Rattle.source_runner.specs.States.{as_int, state_of};
+ghost use Rattle.source_runner.specs.States.{as_int, ending_of, state_of};
 ghost use Rattle.local_evaluation.specs.Work.{newest};
 
 use crate::machine::{Finish, Machine};
 use crate::thread::{Frame, Next, Slot, Thread};
-use bytecode::TrapKind;
+use bytecode::{Ending, TrapKind};
 use c_ints::{Int, Kind, convert};
 use local_evaluation::stack::last;
 use local_evaluation::{Halt, Stop, Value};
@@ -47,6 +47,17 @@ impl Machine {
             Some(Finish::Trapped(kind, slot)) => SourceState::Trap(kind, slot),
             None if self.some_lives() && !self.some_can_move() => SourceState::Stuck,
             None => SourceState::Going,
+        }
+    }
+
+    /// How the run has ended, if `main` returned or a thread trapped.
+    pub(crate) fn ending(&self) -> Option<Ending>
+        ensures { (w : World) → Stands self.now w → result ≡ ending_of w.finish }
+    {
+        match self.finish {
+            Some(Finish::Finished(n)) => Some(Ending::Finished(as_int(n))),
+            Some(Finish::Trapped(kind, slot)) => Some(Ending::Trap(kind, slot)),
+            None => None,
         }
     }
 

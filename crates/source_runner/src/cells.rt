@@ -9,42 +9,50 @@ ghost use Rattle.c_semantics.specs.Transformers.{first_cell};
 ghost use Rattle.source_model.specs.Worlds.{World, with_cells_in, cells_of as cells_in};
 ghost use Rattle.source_model.specs.Moves.{in_bounds};
 ghost use Rattle.resolved_tree.specs.Nodes.{word};
-ghost use Rattle.source_runner.specs.Stores.{Kept, Performs, globals_of};
+ghost use Rattle.source_runner.specs.Globals.{globals_of};
+ghost use Rattle.source_runner.specs.Stores.{Kept, Performs};
 ghost use Rattle.resolved_tree.specs.Trees.{table};
 ghost use Rattle.local_evaluation.specs.Values.{seen};
 ghost use Rattle.local_evaluation.specs.Work.{newest};
 
+use crate::places::Places;
 use crate::shared_stops::Did;
-use crate::store::{Cells, Store};
+use crate::store::{Cells, Globals, Store};
 use bytecode::TrapKind;
 use c_ints::Int;
 use local_evaluation::Value;
 use resolved_tree::{Trees, Word};
-use std::alloc::AllocError;
+use std::alloc::{AllocError, Global};
+
+/// Globals and arrays, found by their names.
+pub(crate) fn found_by_name(alloc: Global, list: Vec<Cells>) -> Result<Globals, AllocError>
+    ensures { IfOk result (λ globals. globals.list.items ≡ list.items) }
+{
+    let mut places = Places::new(alloc);
+    let mut left = list.len();
+    while left > 0 {
+        left -= 1;
+        places.put(list[left].name.as_str(), left)?;
+    }
+    Ok(Globals { list, places })
+}
 
 /// The place of the global of a name.
-fn place_of(trees: &Trees, globals: &[Cells], name: Word) -> Option<usize>
-    ensures { result ≡ position (λ g. bytes_eq (word (table trees.now) name) g.name) (globals_of (table trees.now) globals.now) }
+fn place_of(trees: &Trees, globals: &Globals, name: Word) -> Option<usize>
+    ensures { result ≡ position (λ g. bytes_eq (word (table trees.now) name) g.name) (globals_of globals.now.list.items) }
 {
-    for place in 0..globals.len() {
-        if trees.same(name, globals[place].name) {
-            return Some(place);
-        }
-    }
-    None
+    globals.places.find(trees.text(name))
 }
 
 /// The cells of a global; none where there is no such global.
-fn cells_of<'a>(trees: &Trees, globals: &'a [Cells], name: Word) -> &'a [Value]
-    ensures { (w : World) → w.globals ≡ globals_of (table trees.now) globals.now
+fn cells_of<'a>(trees: &Trees, globals: &'a Globals, name: Word) -> &'a [Value]
+    ensures { (w : World) → w.globals ≡ globals_of globals.now.list.items
         → map seen result.now ≡ cells_in w (word (table trees.now) name) }
 {
-    for global in globals {
-        if trees.same(name, global.name) {
-            return global.cells.as_slice();
-        }
+    match place_of(trees, globals, name) {
+        Some(place) => globals.list[place].cells.as_slice(),
+        None => &[],
     }
-    &[]
 }
 
 /// The first of some cells; the `int` 0 where there is none.
@@ -60,15 +68,15 @@ fn first_of(cells: &[Value]) -> Value
 /// Changes the value of a global variable, if there is one.
 fn set_global(
     trees: &Trees,
-    globals: &mut [Cells],
+    globals: &mut Globals,
     name: Word,
     value: Value,
 ) -> Result<(), AllocError>
-    ensures { OnOk result (globals_of (table trees.now) globals.new
-        ≡ with_cells_in (word (table trees.now) name) (seen value ∷ []) (globals_of (table trees.now) globals.old)) }
+    ensures { OnOk result (globals_of globals.new.list.items
+        ≡ with_cells_in (word (table trees.now) name) (seen value ∷ []) (globals_of globals.old.list.items)) }
 {
     if let Some(place) = place_of(trees, globals, name) {
-        let cells = &mut globals[place].cells;
+        let cells = &mut globals.list[place].cells;
         cells.clear();
         cells.push(value)?;
     }
@@ -96,18 +104,18 @@ fn element(cells: &[Value], index: Int) -> Option<Value>
 }
 
 /// Changes an element of an array. The answer is whether there is one with the index.
-fn set_element(trees: &Trees, globals: &mut [Cells], name: Word, index: Int, value: Value) -> bool
-    ensures inside { (w : World) → w.globals ≡ globals_of (table trees.now) globals.old
+fn set_element(trees: &Trees, globals: &mut Globals, name: Word, index: Int, value: Value) -> bool
+    ensures inside { (w : World) → w.globals ≡ globals_of globals.old.list.items
         → result ≡ in_bounds (value_of index) (cells_in w (word (table trees.now) name)) }
     ensures changed { let name = word (table trees.now) name in IsTrue result
-        → (w : World) → w.globals ≡ globals_of (table trees.now) globals.old → globals_of (table trees.now) globals.new
+        → (w : World) → w.globals ≡ globals_of globals.old.list.items → globals_of globals.new.list.items
         ≡ with_cells_in name (slice_set (cells_in w name) (unsigned_abs (value_of index)) (seen value)) w.globals }
-    ensures same { IsFalse result → globals_of (table trees.now) globals.new ≡ globals_of (table trees.now) globals.old }
+    ensures same { IsFalse result → globals_of globals.new.list.items ≡ globals_of globals.old.list.items }
 {
     let Some(place) = place_of(trees, globals, name) else {
         return false;
     };
-    let cells = &mut globals[place].cells;
+    let cells = &mut globals.list[place].cells;
     let Some(cell) = within(index, cells.len()) else {
         return false;
     };
@@ -125,7 +133,7 @@ pub(crate) fn read_global(
     ensures made { (text : List BareDef) (slot : ℕ) → IfOk result (λ did. Performs (table trees.now) text slot (ReadGlobal (word (table trees.now) name)) store.now values.old.items did store.now values.new.items) }
     ensures kept { IfOk result (λ did. Kept did store.now values.old.items store.now values.new.items) }
 {
-    values.push(first_of(cells_of(trees, store.globals.as_slice(), name)))?;
+    values.push(first_of(cells_of(trees, &store.globals, name)))?;
     Ok(Did::On)
 }
 
@@ -156,7 +164,7 @@ pub(crate) fn read_element(
     ensures made { (text : List BareDef) (slot : ℕ) → IfOk result (λ did. Performs (table trees.now) text slot (ReadElement (word (table trees.now) name)) store.now values.old did store.now values.new) }
     ensures kept { IfOk result (λ did. Kept did store.now values.old store.now values.new) }
 {
-    let cells = cells_of(trees, store.globals.as_slice(), name);
+    let cells = cells_of(trees, &store.globals, name);
     let [.., newest] = values else {
         return Ok(Did::Nothing);
     };

@@ -11,7 +11,7 @@ ghost use Rattle.local_evaluation.specs.declared.value.Value.TheVariants.{Starte
 ghost use Rattle.source_runner.specs.declared.thread.Slot.TheVariants.{Over};
 ghost use Rattle.source_runner.specs.declared.thread.Next.TheVariants.{Enter as Entering, Halt as Halting};
 ghost use Rattle.local_evaluation.specs.declared.work.Halt.TheVariants.{At as AtStop};
-ghost use Rattle.source_runner.specs.Machines.{Moves, IsAtStop, IsReady, IsThread, Stands, StandsBut, enter_of, frame_at, standing_at};
+ghost use Rattle.source_runner.specs.Machines.{Moves, IsReady, IsStopped, IsThread, Stands, StandsBut, enter_of, frame_at, stands_at};
 ghost use Rattle.source_runner.specs.Frames.{frames_of};
 ghost use Rattle.resolved_tree.specs.Nodes.{Table};
 ghost use Rattle.local_evaluation.specs.Pieces.{stop_of};
@@ -22,7 +22,7 @@ ghost use Rattle.local_evaluation.specs.Work.{newest};
 use crate::program::{Name, Program};
 use crate::shared_stops::{Did, perform};
 use crate::store::Store;
-use crate::thread::{Enter, Frame, Next, Slot, Thread};
+use crate::thread::{Enter, Frame, Next, Slot, Stopped, Thread};
 use bytecode::TrapKind;
 use c_ints::Int;
 use local_evaluation::{Halt, Stop, Value, evaluate};
@@ -240,7 +240,15 @@ impl Machine {
             → Moves self.new w result (in_frames w slot before before.frames) }
     {
         match halt {
-            Halt::At(stop, point) => self.stop(slot, thread, frame, stop, point),
+            Halt::At(stop, point) => {
+                let at = Stopped {
+                    slot,
+                    thread,
+                    frame,
+                    point,
+                };
+                self.stop(at, stop)
+            }
             Halt::Trap(kind) => self.trap(slot, thread, Next::Halt(frame, halt), kind),
             Halt::Nothing => self.stay(slot, thread, Next::Halt(frame, halt)),
         }
@@ -257,47 +265,43 @@ impl Machine {
     }
 
     /// A stop, if its use is right.
-    fn stop(
-        &mut self,
-        slot: u8,
-        thread: Thread,
-        frame: Frame,
-        stop: Stop,
-        point: u32,
-    ) -> Result<bool, AllocError>
-        requires { slot < length self.old.slots.items }
-        ensures { let t = table_of self.old.program in (w : World) (before : SeenThread) → StandsBut self.old slot w before → is_over w ≡ false
-            → IsThread (text_of self.old.program) t false thread (Halting frame (AtStop stop point)) before
-            → Moves self.new w result (stop_made (stop_of t stop) w slot before (frame_at t frame point) (frames_of t thread.below.items)) }
+    fn stop(&mut self, at: Stopped, stop: Stop) -> Result<bool, AllocError>
+        requires { at.slot < length self.old.slots.items }
+        ensures { let t = table_of self.old.program in (w : World) (before : SeenThread) → StandsBut self.old at.slot w before → is_over w ≡ false
+            → IsThread (text_of self.old.program) t false at.thread (Halting at.frame (AtStop stop at.point)) before
+            → Moves self.new w result (stop_made (stop_of t stop) w at.slot before (frame_at t at.frame at.point) (frames_of t at.thread.below.items)) }
     {
-        if !self.is_right(frame.version, stop) {
-            return self.misuse(slot, thread, Next::Halt(frame, Halt::At(stop, point)));
+        if !self.is_right(at.frame.version, stop) {
+            return self.misuse(
+                at.slot,
+                at.thread,
+                Next::Halt(at.frame, Halt::At(stop, at.point)),
+            );
         }
         match stop {
-            Stop::Spawn(name) => self.spawn(slot, thread, frame, name, point),
-            Stop::Join => self.join(slot, thread, frame, point),
-            Stop::Call(name, count) => self.call(slot, thread, frame, name, count, point),
-            Stop::Return => self.give_back(slot, thread, frame, point),
-            Stop::Begin => self.begin(slot, thread, frame, point),
-            Stop::End => self.end(slot, thread, frame, point),
-            _ => self.perform(slot, thread, frame, stop, point),
+            Stop::Spawn(name) => self.spawn(at, name),
+            Stop::Join => self.join(at),
+            Stop::Call(name, count) => self.call(at, name, count),
+            Stop::Return => self.give_back(at),
+            Stop::Begin => self.begin(at),
+            Stop::End => self.end(at),
+            _ => self.perform(at, stop),
         }
     }
 
     /// A stop that changes no other thread.
-    fn perform(
-        &mut self,
-        slot: u8,
-        thread: Thread,
-        frame: Frame,
-        stop: Stop,
-        point: u32,
-    ) -> Result<bool, AllocError>
-        requires { slot < length self.old.slots.items }
+    fn perform(&mut self, at: Stopped, stop: Stop) -> Result<bool, AllocError>
+        requires { at.slot < length self.old.slots.items }
         ensures { let t = table_of self.old.program in (w : World) (before user : SeenThread)
-            → IsAtStop self.old slot thread frame stop point w before user → is_threads (stop_of t stop) ≡ false
-            → Moves self.new w result (perform (stop_of t stop) (standing_at t w slot thread frame point user) (newest frame.work.values.items)) }
+            → IsStopped self.old at stop w before user → is_threads (stop_of t stop) ≡ false
+            → Moves self.new w result (perform (stop_of t stop) (stands_at t w at user) (newest at.frame.work.values.items)) }
     {
+        let Stopped {
+            slot,
+            thread,
+            frame,
+            point,
+        } = at;
         let mut frame = frame;
         match perform(
             &self.program,

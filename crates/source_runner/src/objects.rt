@@ -1,5 +1,5 @@
 //! Objects.
-ghost use Rattle.std.specs.Prelude.{◌≡◌, ◌∷◌, ◌<◌, ℕ, List, Option, length, unwrap_or, count_by, slice_index_or, IfOk, OnErr, MatchResult};
+ghost use Rattle.std.specs.Prelude.{◌≡◌, ◌∷◌, [], ◌++◌, ◌<◌, ℕ, true, List, Option, length, unwrap_or, slice_index_or, slice_set, IfOk, OnOk, OnErr, MatchResult};
 ghost use Rattle.c_tree.specs.BareExpr.{Bytes};
 ghost use Rattle.c_tree.specs.BareDef.{BareDef};
 ghost use Rattle.c_semantics.specs.Evaluation.{in_scope, with_value};
@@ -19,16 +19,17 @@ ghost use Rattle.local_evaluation.specs.Values.{seen, seen_object};
 use crate::cells::take_under;
 use crate::program::{Binding, Program};
 use crate::shared_stops::Did;
-use crate::store::{Field, Object, Store};
+use crate::store::{Field, Object, Objects, Store};
 use bytecode::TrapKind;
 use c_ints::Int;
 use local_evaluation::{ObjectId, Value};
-use resolved_tree::{Trees, Word};
+use resolved_tree::{Trees, Word, later};
 use std::alloc::{AllocError, Global};
 
 /// What a handle leads to: the number of an object that lives, or the trap of the null handle or of an ended object.
 fn reach(objects: &[Object], handle: Option<ObjectId>) -> Result<usize, TrapKind>
     ensures within { IfOk result (λ n. n < length objects.now) }
+    ensures live { IfOk result (λ n. (d : Object) → (slice_index_or objects.now n d).live ≡ true) }
     ensures reached { (t : Table) (s : Standing) (f : ℕ → SeenObject → Option World) → s.world.objects ≡ objects_of t objects.now
         → MatchResult result
         (λ n. (d : Object) → on_object s (seen_object handle) f ≡ f n (object_of t (slice_index_or objects.now n d)))
@@ -68,6 +69,16 @@ fn set_field(trees: &Trees, fields: &mut [Field], name: Word, value: Value)
     }
 }
 
+/// Changes the value of a field of an object, if it has such a field.
+fn set_field_of(trees: &Trees, objects: &mut Objects, number: usize, name: Word, value: Value)
+    requires { number < length objects.old.all.items }
+    ensures { let t = table trees.now in (d : Object) → let o = slice_index_or objects.old.all.items number d in
+        objects_of t objects.new.all.items ≡ slice_set (objects_of t objects.old.all.items) number
+        (record (object_of t o) { fields = with_value (word t name) (seen value) (fields_of t o.fields.items) }) }
+{
+    set_field(trees, &mut objects.all[number].fields, name, value);
+}
+
 /// Reads a field; the handle is the newest value.
 pub(crate) fn read_field(
     trees: &Trees,
@@ -84,9 +95,9 @@ pub(crate) fn read_field(
     let Value::Reference(handle) = *newest else {
         return Ok(Did::Nothing);
     };
-    match reach(store.objects.as_slice(), handle) {
+    match reach(store.objects.all.as_slice(), handle) {
         Ok(number) => {
-            *newest = field(trees, store.objects[number].fields.as_slice(), name);
+            *newest = field(trees, store.objects.all[number].fields.as_slice(), name);
             Ok(Did::On)
         }
         Err(kind) => Ok(Did::Trap(kind)),
@@ -109,27 +120,14 @@ pub(crate) fn write_field(
     let Value::Reference(handle) = under else {
         return Ok(Did::Nothing);
     };
-    match reach(store.objects.as_slice(), handle) {
+    match reach(store.objects.all.as_slice(), handle) {
         Ok(number) => {
-            set_field(trees, &mut store.objects[number].fields, name, value);
+            set_field_of(trees, &mut store.objects, number, name, value);
             take_under(values);
             Ok(Did::On)
         }
         Err(kind) => Ok(Did::Trap(kind)),
     }
-}
-
-/// How many objects live.
-fn live(objects: &[Object]) -> usize
-    ensures { (t : Table) → result ≡ count_by (λ o. o.live) (objects_of t objects.now) }
-{
-    let mut count = 0;
-    for object in objects {
-        if object.live {
-            count += 1;
-        }
-    }
-    count
 }
 
 /// The fields of a new object, each zero or null.
@@ -146,6 +144,20 @@ fn fresh(alloc: Global, members: &[Binding]) -> Result<Vec<Field>, AllocError>
     Ok(fields)
 }
 
+/// Adds an object, which lives.
+fn add(objects: &mut Objects, tag: Word, fields: Vec<Field>) -> Result<(), AllocError>
+    ensures { OnOk result (objects.new.all.items ≡ objects.old.all.items ++ record { tag = tag; fields = fields; live = true } ∷ []) }
+{
+    let live = later(objects.live)?;
+    objects.all.push(Object {
+        tag,
+        fields,
+        live: true,
+    })?;
+    objects.live = live;
+    Ok(())
+}
+
 /// Makes an object, or gives null where as many live as may.
 pub(crate) fn allocate(
     program: &Program,
@@ -156,35 +168,32 @@ pub(crate) fn allocate(
     ensures made { let t = table_of program.now in (slot : ℕ) → IsProgram program.now → IfOk result (λ did. Performs t (text_of program.now) slot (New (word t tag)) store.old values.old.items did store.new values.new.items) }
     ensures kept { IfOk result (λ did. Kept did store.old values.old.items store.new values.new.items) }
 {
-    if live(store.objects.as_slice()) == store.capacity {
+    if store.objects.live == store.capacity {
         values.push(Value::Reference(None))?;
         return Ok(Did::On);
     }
-    let fields = fresh(*store.objects.allocator(), program.members(tag))?;
-    let number = store.objects.len();
-    store.objects.push(Object {
-        tag,
-        fields,
-        live: true,
-    })?;
+    let fields = fresh(*store.objects.all.allocator(), program.members(tag))?;
+    let number = store.objects.all.len();
+    add(&mut store.objects, tag, fields)?;
     values.push(Value::Reference(Some(ObjectId(number))))?;
     Ok(Did::On)
 }
 
 /// Ends the object of a handle; of the null handle it does nothing.
-fn end(objects: &mut [Object], handle: Option<ObjectId>) -> Result<(), TrapKind>
-    ensures ended { (t : Table) (s : Standing) (rest : List SeenValue) → s.world.objects ≡ objects_of t objects.old
+fn end(objects: &mut Objects, handle: Option<ObjectId>) -> Result<(), TrapKind>
+    ensures ended { (t : Table) (s : Standing) (rest : List SeenValue) → s.world.objects ≡ objects_of t objects.old.all.items
         → MatchResult result
-        (λ _. released s (Reference (seen_object handle) ∷ rest) ≡ goes_on s (record s.world { objects = objects_of t objects.new }) (int_of 0 ∷ rest))
+        (λ _. released s (Reference (seen_object handle) ∷ rest) ≡ goes_on s (record s.world { objects = objects_of t objects.new.all.items }) (int_of 0 ∷ rest))
         (λ kind. released s (Reference (seen_object handle) ∷ rest) ≡ traps s kind) }
     ensures same { OnErr result (objects.new ≡ objects.old) }
 {
     let Some(_) = handle else {
         return Ok(());
     };
-    match reach(objects, handle) {
+    match reach(objects.all.as_slice(), handle) {
         Ok(number) => {
-            objects[number].live = false;
+            objects.all[number].live = false;
+            objects.live -= 1;
             Ok(())
         }
         Err(kind) => Err(kind),

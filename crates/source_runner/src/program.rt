@@ -1,5 +1,7 @@
 //! The definitions of a text by name, with the trees of its functions.
-ghost use Rattle.std.specs.Prelude.{◌≡◌, [], ◌∷◌, Some, IfOk, OnOk, map, filter_map, option_map, bytes_eq, codes, slice_get, unwrap_or};
+ghost use Rattle.std.specs.Prelude.{◌≡◌, [], ◌∷◌, Some, IfOk, OnOk, map, filter_map, option_map, bytes_eq, codes, slice_get, unwrap_or, if◌then◌else◌};
+ghost use Rattle.std.specs.List.{position};
+ghost use Rattle.c_tree.specs.BareExpr.{Bytes};
 ghost use Rattle.c_ints.specs.declared.kind.Kind.TheVariants.{I32};
 ghost use Rattle.c_tree.specs.BareDef.{Struct};
 ghost use Rattle.c_tree.specs.Bare.{bare_binding, bare_def, bare_function, bare_kind};
@@ -19,10 +21,13 @@ ghost use Rattle.local_evaluation.specs.Values.{seen};
 ghost use Rattle.local_evaluation.specs.Work.{scopes_of};
 ghost use Rattle.source_runner.specs.Definitions.{binding_of, bindings_of, IsPlain, Defines, DefinesIf, AreDefinitions};
 ghost use Rattle.source_runner.specs.Programs.{IsProgram, text_of, table_of};
-ghost use Rattle.source_runner.specs.Stores.{cells_of, globals_of};
+ghost use Rattle.source_runner.specs.Globals.{cells_of, globals_of};
+ghost use Rattle.source_runner.specs.Places.{place_in};
 
+use crate::cells::found_by_name;
 use crate::constant::initial_cells;
-use crate::store::Cells;
+use crate::places::Places;
+use crate::store::{Cells, Globals};
 use crate::thread::{Enter, Frame};
 use c_ints::Kind;
 use c_tree::{Binding as Declared, Def, DefKind, Function};
@@ -66,6 +71,9 @@ pub(crate) struct Program {
     text: Typed,
     trees: Trees,
     definitions: Vec<Definition>,
+    /// Where the first definition of a name is, and where that of the struct with a tag is.
+    names: Places,
+    tags: Places,
 }
 
 /// A text, ready to run, with what a run begins with.
@@ -73,7 +81,7 @@ pub(crate) struct Program {
 pub(crate) struct Loaded {
     pub program: Program,
     /// The globals and arrays, in the text's order, with their first values.
-    pub globals: Vec<Cells>,
+    pub globals: Globals,
     /// The name `main`.
     pub main: Word,
 }
@@ -82,45 +90,91 @@ pub(crate) struct Loaded {
 pub(crate) fn load(alloc: Global, text: Typed) -> Result<Loaded, AllocError>
     ensures text { IfOk result (λ loaded. text_of loaded.program ≡ map bare_def text.definitions) }
     ensures sound { IfOk result (λ loaded. IsProgram loaded.program) }
-    ensures globals { IfOk result (λ loaded. globals_of (table_of loaded.program) loaded.globals.items
+    ensures globals { IfOk result (λ loaded. globals_of loaded.globals.list.items
         ≡ filter_map cells_at_first (text_of loaded.program)) }
     ensures main { IfOk result (λ loaded. word_text (table_of loaded.program) loaded.main ≡ codes "main") }
 {
     let mut trees = Trees::new(alloc);
-    let (definitions, globals, main) = defined(
-        alloc,
-        &mut trees,
-        text.program().definitions.as_slice(),
-    )?;
+    let (definitions, main) = defined(alloc, &mut trees, text.program().definitions.as_slice())?;
+    let names = places_of_names(alloc, &trees, definitions.as_slice())?;
+    let tags = places_of_tags(alloc, &trees, definitions.as_slice())?;
+    let globals = globals_of(alloc, text.program().definitions.as_slice())?;
     Ok(Loaded {
         program: Program {
             text,
             trees,
             definitions,
+            names,
+            tags,
         },
-        globals,
+        globals: found_by_name(alloc, globals)?,
         main,
     })
 }
 
-/// The definitions of a text by name, its globals and arrays with their first values, and the name `main`.
+/// The definitions of a text, and the name `main`.
 fn defined(
     alloc: Global,
     trees: &mut Trees,
     text: &[Def],
-) -> Result<(Vec<Definition>, Vec<Cells>, Word), AllocError>
+) -> Result<(Vec<Definition>, Word), AllocError>
     ensures definitions { IfOk result (λ made. AreDefinitions (table trees.new) (map bare_def text.now) made.0.items) }
-    ensures globals { IfOk result (λ made. globals_of (table trees.new) made.1.items ≡ filter_map cells_at_first (map bare_def text.now)) }
-    ensures main { IfOk result (λ made. word_text (table trees.new) made.2 ≡ codes "main") }
+    ensures main { IfOk result (λ made. word_text (table trees.new) made.1 ≡ codes "main") }
 {
     let definitions = definitions_of(alloc, trees, text)?;
-    let globals = globals_of(alloc, trees, text)?;
     let main = word(trees, "main")?;
-    Ok((definitions, globals, main))
+    Ok((definitions, main))
+}
+
+/// Where the first definition of each name is.
+fn places_of_names(
+    alloc: Global,
+    trees: &Trees,
+    definitions: &[Definition],
+) -> Result<Places, AllocError>
+    ensures { IfOk result (λ places. (name : Bytes) → place_in places name
+        ≡ position (λ d. bytes_eq name (word_text (table trees.now) d.name)) definitions.now) }
+{
+    let mut places = Places::new(alloc);
+    let mut left = definitions.len();
+    while left > 0 {
+        left -= 1;
+        places.put(trees.text(definitions[left].name), left)?;
+    }
+    Ok(places)
+}
+
+/// Where the first definition of the struct with each tag is.
+fn places_of_tags(
+    alloc: Global,
+    trees: &Trees,
+    definitions: &[Definition],
+) -> Result<Places, AllocError>
+    ensures { IfOk result (λ places. (tag : Bytes) → place_in places tag
+        ≡ position (λ d. bytes_eq (struct_name tag) (word_text (table trees.now) d.name)) definitions.now) }
+{
+    let mut places = Places::new(alloc);
+    let mut left = definitions.len();
+    while left > 0 {
+        left -= 1;
+        put_tag(&mut places, trees.text(definitions[left].name), left)?;
+    }
+    Ok(places)
+}
+
+/// Gives the tag of a struct's name a place; another name has no tag.
+fn put_tag(places: &mut Places, name: &str, place: usize) -> Result<(), AllocError>
+    ensures { OnOk result ((tag : Bytes) → place_in places.new tag
+        ≡ (if bytes_eq (struct_name tag) name.now then Some place else place_in places.old tag)) }
+{
+    match name.strip_prefix("struct ") {
+        Some(tag) => places.put(tag, place),
+        None => Ok(()),
+    }
 }
 
 impl Program {
-    ghost use Rattle.std.specs.Prelude.{◌≡◌, IfOk, OnOk, IsTrue, ◌∷◌, ◌++◌, map, option_copied};
+    ghost use Rattle.std.specs.Prelude.{◌≡◌, IfOk, OnOk, IsTrue, ◌∷◌, ◌++◌, map, option_copied, slice_get};
     ghost use Rattle.c_tree.specs.Bare.{bare_def};
     ghost use Rattle.std.specs.Option.{is_some};
     ghost use Rattle.c_semantics.specs.Names.{struct_name};
@@ -237,7 +291,7 @@ impl Program {
 
     /// What is defined as a name, or as a struct with a tag.
     fn named(&self, name: Name) -> Option<&Definition>
-        ensures { option_copied result ≡ kept (table_of self.now) self.now.definitions.items (name_of (table_of self.now) name) }
+        ensures { IsProgram self.now → option_copied result ≡ kept (table_of self.now) self.now.definitions.items (name_of (table_of self.now) name) }
     {
         match name {
             Name::Plain(name) => self.find(name),
@@ -247,27 +301,29 @@ impl Program {
 
     /// What is defined as a name.
     pub(crate) fn find(&self, name: Word) -> Option<&Definition>
-        ensures { option_copied result ≡ kept (table_of self.now) self.now.definitions.items (word (table_of self.now) name) }
+        ensures { IsProgram self.now → option_copied result ≡ kept (table_of self.now) self.now.definitions.items (word (table_of self.now) name) }
     {
-        for definition in &self.definitions {
-            if self.trees.same(name, definition.name) {
-                return Some(definition);
-            }
+        match self.names.find(self.trees.text(name)) {
+            Some(place) => self.at(place),
+            None => None,
         }
-        None
     }
 
     /// The definition of the struct with a tag.
     pub(crate) fn find_struct(&self, tag: Word) -> Option<&Definition>
-        ensures { option_copied result ≡ kept (table_of self.now) self.now.definitions.items (struct_name (word (table_of self.now) tag)) }
+        ensures { IsProgram self.now → option_copied result ≡ kept (table_of self.now) self.now.definitions.items (struct_name (word (table_of self.now) tag)) }
     {
-        let tag = self.trees.text(tag);
-        for definition in &self.definitions {
-            if is_of_struct(self.trees.text(definition.name), tag) {
-                return Some(definition);
-            }
+        match self.tags.find(self.trees.text(tag)) {
+            Some(place) => self.at(place),
+            None => None,
         }
-        None
+    }
+
+    /// The definition at a place.
+    fn at(&self, place: usize) -> Option<&Definition>
+        ensures { option_copied result ≡ slice_get self.now.definitions.items place }
+    {
+        self.definitions.get(place)
     }
 
     /// The fields of the struct with a tag.
@@ -312,13 +368,6 @@ fn argument_at(declared: ValueType, arguments: &[Value], place: usize) -> Value
     }
 }
 
-/// Whether a name is that of the struct with a tag.
-fn is_of_struct(name: &str, tag: &str) -> bool
-    ensures { result ≡ bytes_eq (struct_name tag.now) name.now }
-{
-    name.strip_prefix("struct ").is_some_and(|rest| rest == tag)
-}
-
 /// What is defined in a text, in its order; its functions' trees are added to the table.
 fn definitions_of(
     alloc: Global,
@@ -338,15 +387,13 @@ fn definitions_of(
     Ok(definitions)
 }
 
-/// The globals and arrays of a text, in its order, with their first values; their names are added to the table.
-fn globals_of(alloc: Global, trees: &mut Trees, text: &[Def]) -> Result<Vec<Cells>, AllocError>
-    ensures cells { IfOk result (λ cells. (u : Table) → Grows (table trees.new) u
-        → globals_of u cells.items ≡ filter_map cells_at_first (map bare_def text.now)) }
-    ensures grows { Grows (table trees.old) (table trees.new) }
+/// The globals and arrays of a text, in its order, with their first values.
+fn globals_of(alloc: Global, text: &[Def]) -> Result<Vec<Cells>, AllocError>
+    ensures { IfOk result (λ cells. globals_of cells.items ≡ filter_map cells_at_first (map bare_def text.now)) }
 {
     let mut globals = Vec::new(alloc);
     for definition in text {
-        if let Some(cells) = cells_if(alloc, trees, definition)? {
+        if let Some(cells) = cells_if(alloc, definition)? {
             globals.push(cells)?;
         }
     }
@@ -354,23 +401,16 @@ fn globals_of(alloc: Global, trees: &mut Trees, text: &[Def]) -> Result<Vec<Cell
 }
 
 /// The cells of a definition, if it is a global variable or an array.
-fn cells_if(alloc: Global, trees: &mut Trees, definition: &Def) -> Result<Option<Cells>, AllocError>
-    ensures cells { IfOk result (λ made. (u : Table) → Grows (table trees.new) u
-        → option_map (cells_of u) made ≡ cells_at_first (bare_def definition.now)) }
-    ensures grows { Grows (table trees.old) (table trees.new) }
+fn cells_if(alloc: Global, definition: &Def) -> Result<Option<Cells>, AllocError>
+    ensures { IfOk result (λ made. option_map cells_of made ≡ cells_at_first (bare_def definition.now)) }
 {
     match &definition.kind {
         DefKind::Global(declaration) => {
-            let made = named_cells(
-                alloc,
-                trees,
-                declaration.name.text.as_str(),
-                &definition.kind,
-            )?;
+            let made = named_cells(alloc, declaration.name.text.as_str(), &definition.kind)?;
             Ok(Some(made))
         }
         DefKind::Array(array) => {
-            let made = named_cells(alloc, trees, array.name.text.as_str(), &definition.kind)?;
+            let made = named_cells(alloc, array.name.text.as_str(), &definition.kind)?;
             Ok(Some(made))
         }
         DefKind::Struct(_, _)
@@ -384,18 +424,11 @@ fn cells_if(alloc: Global, trees: &mut Trees, definition: &Def) -> Result<Option
 }
 
 /// The cells of a name.
-fn named_cells(
-    alloc: Global,
-    trees: &mut Trees,
-    name: &str,
-    kind: &DefKind,
-) -> Result<Cells, AllocError>
-    ensures cells { IfOk result (λ made. (u : Table) → Grows (table trees.new) u
-        → cells_of u made ≡ record { name = name.now; cells = initial_cells (bare_kind kind.now) }) }
-    ensures grows { Grows (table trees.old) (table trees.new) }
+fn named_cells(alloc: Global, name: &str, kind: &DefKind) -> Result<Cells, AllocError>
+    ensures { IfOk result (λ made. cells_of made ≡ record { name = name.now; cells = initial_cells (bare_kind kind.now) }) }
 {
+    let name = String::from_str(alloc, name)?;
     let cells = initial_cells(alloc, kind)?;
-    let name = word(trees, name)?;
     Ok(Cells { name, cells })
 }
 

@@ -3,9 +3,9 @@ ghost use Rattle.std.specs.Prelude.{◌≡◌, ◌<◌, [], List, true, false, m
 ghost use Rattle.c_tree.specs.BareDef.{BareDef};
 ghost use Rattle.source_model.specs.Waits.{waits_for};
 ghost use Rattle.source_model.specs.Worlds.{Limits, in_slot, is_over};
-ghost use Rattle.source_model.specs.Runs.{SourceMove as Made, is_live, source_run};
+ghost use Rattle.source_model.specs.Runs.{SourceMove as Made, can_move, is_live, source_run};
 ghost use Rattle.source_model.specs.Guards.{move_leads};
-ghost use Rattle.source_runner.specs.States.{as_int, state_of};
+ghost use Rattle.source_runner.specs.States.{as_int, ending_of, state_of};
 ghost use Rattle.source_runner.specs.declared.run.SourceMove.TheVariants.{Move};
 ghost use Rattle.source_model.specs.Spans.{spans};
 ghost use Rattle.source_runner.specs.Listed.{span_of};
@@ -18,6 +18,7 @@ use crate::program::load;
 use crate::spans::{Span, list_spans};
 use crate::start::start;
 use crate::waits::SourceWait;
+use bytecode::Ending;
 use c_types::Typed;
 use std::alloc::{AllocError, Global};
 
@@ -144,12 +145,28 @@ impl SourceRun {
         self.machine.state()
     }
 
+    /// How the run has ended, if `main` returned or a thread trapped.
+    pub fn ending(&self) -> Option<Ending>
+        ensures { (texts : List (List BareDef)) (limits : Limits) (moves : List Made) → IsRun texts limits moves self.now
+            → option_map (λ x. ending_of x.world.finish) (source_run texts limits moves) ≡ Some result }
+    {
+        self.machine.ending()
+    }
+
     /// Whether a thread lives in a slot.
     pub fn is_live(&self, slot: u8) -> bool
         ensures { (texts : List (List BareDef)) (limits : Limits) (moves : List Made) → IsRun texts limits moves self.now
             → option_map (λ x. is_live (in_slot x.world slot)) (source_run texts limits moves) ≡ Some result }
     {
         self.machine.is_live(slot as usize)
+    }
+
+    /// Whether the thread in a slot can move.
+    pub fn can_move(&self, slot: u8) -> bool
+        ensures { (texts : List (List BareDef)) (limits : Limits) (moves : List Made) → IsRun texts limits moves self.now
+            → option_map (λ x. can_move x.world slot) (source_run texts limits moves) ≡ Some result }
+    {
+        self.machine.can_move(slot as usize)
     }
 
     /// Whether the next move of the thread in a slot leads to a check-in: it enters, returns to a caller, begins or ends

@@ -11,7 +11,7 @@ ghost use Rattle.source_runner.specs.Programs.{text_of};
 
 use crate::machine::Machine;
 use crate::program::Loaded;
-use crate::store::Store;
+use crate::store::{Objects, Store};
 use crate::thread::{Enter, Next, Slot, Thread};
 use resolved_tree::Word;
 use std::alloc::{AllocError, Global};
@@ -67,7 +67,10 @@ pub(crate) fn start(
         program,
         store: Store {
             globals,
-            objects: Vec::new(alloc),
+            objects: Objects {
+                all: Vec::new(alloc),
+                live: 0,
+            },
             capacity: objects,
             holders: Vec::new(alloc),
             output: Vec::new(alloc),

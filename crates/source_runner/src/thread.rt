@@ -42,6 +42,17 @@ pub(crate) struct Thread {
     pub depth: usize,
 }
 
+/// A thread at a stop.
+#[derive(Drop)]
+pub(crate) struct Stopped {
+    pub slot: u8,
+    pub thread: Thread,
+    /// The frame that stops; those of the thread wait.
+    pub frame: Frame,
+    /// The number of the stop's point.
+    pub point: u32,
+}
+
 /// A slot.
 #[derive(Drop)]
 pub(crate) enum Slot {

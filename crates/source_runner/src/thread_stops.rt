@@ -10,7 +10,7 @@ ghost use Rattle.local_evaluation.specs.declared.piece.Stop.TheVariants.{Spawn a
 ghost use Rattle.source_runner.specs.declared.thread.Slot.TheVariants.{Free as FreeSlot};
 ghost use Rattle.source_runner.specs.Frames.{frames_of};
 ghost use Rattle.source_runner.specs.Joins.{is_free_slot, result_of};
-ghost use Rattle.source_runner.specs.Machines.{IsAtStop, IsPut, IsStarted, IsUser, Moves, Stands, StandsBut, enter_with, standing_at};
+ghost use Rattle.source_runner.specs.Machines.{IsPut, IsStarted, IsStopped, IsUser, Moves, Stands, StandsBut, enter_with, standing_at, stands_at};
 ghost use Rattle.resolved_tree.specs.Nodes.{word};
 ghost use Rattle.source_runner.specs.Programs.{table_of, text_of};
 ghost use Rattle.local_evaluation.specs.Values.{seen, seen_thread};
@@ -18,7 +18,7 @@ ghost use Rattle.local_evaluation.specs.Work.{newest};
 
 use crate::machine::{Finish, Machine};
 use crate::stack::{pop_frame, push_frame, take_arguments};
-use crate::thread::{Enter, Frame, Next, Slot, Thread};
+use crate::thread::{Enter, Frame, Next, Slot, Stopped, Thread};
 use bytecode::TrapKind;
 use c_ints::Int;
 use local_evaluation::stack::{discard, last, push};
@@ -75,44 +75,35 @@ fn result_of(slots: &[Slot], slot: usize, named: ThreadRef) -> Option<Value>
 
 impl Machine {
     /// Starts a thread with the newest value in the least free slot. Where there is none, the handle names no thread.
-    pub(crate) fn spawn(
-        &mut self,
-        slot: u8,
-        thread: Thread,
-        frame: Frame,
-        name: Word,
-        point: u32,
-    ) -> Result<bool, AllocError>
-        requires { slot < length self.old.slots.items }
+    pub(crate) fn spawn(&mut self, at: Stopped, name: Word) -> Result<bool, AllocError>
+        requires { at.slot < length self.old.slots.items }
         ensures { let t = table_of self.old.program in (w : World) (before user : SeenThread)
-            → IsAtStop self.old slot thread frame (AtSpawn name) point w before user
-            → Moves self.new w result (spawn (standing_at t w slot thread frame point user) (word t name) (newest frame.work.values.items)) }
+            → IsStopped self.old at (AtSpawn name) w before user
+            → Moves self.new w result (spawn (stands_at t w at user) (word t name) (newest at.frame.work.values.items)) }
     {
-        match last(frame.work.values.as_slice()) {
-            Some(argument) => self.spawn_with(slot, thread, frame, name, argument, point),
+        match last(at.frame.work.values.as_slice()) {
+            Some(argument) => self.spawn_with(at, name, argument),
             None => self.stay(
-                slot,
-                thread,
-                Next::Halt(frame, Halt::At(Stop::Spawn(name), point)),
+                at.slot,
+                at.thread,
+                Next::Halt(at.frame, Halt::At(Stop::Spawn(name), at.point)),
             ),
         }
     }
 
     /// The same with its argument.
-    fn spawn_with(
-        &mut self,
-        slot: u8,
-        thread: Thread,
-        frame: Frame,
-        name: Word,
-        argument: Value,
-        point: u32,
-    ) -> Result<bool, AllocError>
-        requires { slot < length self.old.slots.items }
+    fn spawn_with(&mut self, at: Stopped, name: Word, argument: Value) -> Result<bool, AllocError>
+        requires { at.slot < length self.old.slots.items }
         ensures { let t = table_of self.old.program in (w : World) (before user : SeenThread)
-            → IsAtStop self.old slot thread frame (AtSpawn name) point w before user
-            → Moves self.new w result (spawn (standing_at t w slot thread frame point user) (word t name) (seen argument ∷ drop 1 (newest frame.work.values.items))) }
+            → IsStopped self.old at (AtSpawn name) w before user
+            → Moves self.new w result (spawn (stands_at t w at user) (word t name) (seen argument ∷ drop 1 (newest at.frame.work.values.items))) }
     {
+        let Stopped {
+            slot,
+            thread,
+            frame,
+            point,
+        } = at;
         let mut frame = frame;
         let started = self.start(slot, name, argument, frame.version)?;
         discard(&mut frame.work.values);
@@ -178,69 +169,53 @@ impl Machine {
     }
 
     /// Joins the thread that the newest value names.
-    pub(crate) fn join(
-        &mut self,
-        slot: u8,
-        thread: Thread,
-        frame: Frame,
-        point: u32,
-    ) -> Result<bool, AllocError>
-        requires { slot < length self.old.slots.items }
+    pub(crate) fn join(&mut self, at: Stopped) -> Result<bool, AllocError>
+        requires { at.slot < length self.old.slots.items }
         ensures { let t = table_of self.old.program in (w : World) (before user : SeenThread)
-            → IsAtStop self.old slot thread frame AtJoin point w before user
-            → Moves self.new w result (join (standing_at t w slot thread frame point user) (newest frame.work.values.items)) }
+            → IsStopped self.old at AtJoin w before user
+            → Moves self.new w result (join (stands_at t w at user) (newest at.frame.work.values.items)) }
     {
-        match handle(frame.work.values.as_slice()) {
-            Some(named) => self.join_handle(slot, thread, frame, named, point),
-            None => self.stay(slot, thread, Next::Halt(frame, Halt::At(Stop::Join, point))),
+        match handle(at.frame.work.values.as_slice()) {
+            Some(named) => self.join_handle(at, named),
+            None => self.stay(
+                at.slot,
+                at.thread,
+                Next::Halt(at.frame, Halt::At(Stop::Join, at.point)),
+            ),
         }
     }
 
     /// Joins the thread that a handle names, if it names one.
-    fn join_handle(
-        &mut self,
-        slot: u8,
-        thread: Thread,
-        frame: Frame,
-        named: Option<ThreadRef>,
-        point: u32,
-    ) -> Result<bool, AllocError>
-        requires { slot < length self.old.slots.items }
+    fn join_handle(&mut self, at: Stopped, named: Option<ThreadRef>) -> Result<bool, AllocError>
+        requires { at.slot < length self.old.slots.items }
         ensures { let t = table_of self.old.program in (w : World) (before user : SeenThread)
-            → IsAtStop self.old slot thread frame AtJoin point w before user
-            → Moves self.new w result (join (standing_at t w slot thread frame point user) (IsStartedValue (option_map seen_thread named) ∷ drop 1 (newest frame.work.values.items))) }
+            → IsStopped self.old at AtJoin w before user
+            → Moves self.new w result (join (stands_at t w at user) (IsStartedValue (option_map seen_thread named) ∷ drop 1 (newest at.frame.work.values.items))) }
     {
         match named {
-            Some(named) => self.join_named(slot, thread, frame, named, point),
+            Some(named) => self.join_named(at, named),
             None => self.trap(
-                slot,
-                thread,
-                Next::Halt(frame, Halt::Nothing),
+                at.slot,
+                at.thread,
+                Next::Halt(at.frame, Halt::Nothing),
                 TrapKind::Join,
             ),
         }
     }
 
     /// Joins a thread: its slot is free again, and its result is the newest value.
-    fn join_named(
-        &mut self,
-        slot: u8,
-        thread: Thread,
-        frame: Frame,
-        named: ThreadRef,
-        point: u32,
-    ) -> Result<bool, AllocError>
-        requires { slot < length self.old.slots.items }
+    fn join_named(&mut self, at: Stopped, named: ThreadRef) -> Result<bool, AllocError>
+        requires { at.slot < length self.old.slots.items }
         ensures { let t = table_of self.old.program in (w : World) (before user : SeenThread)
-            → IsAtStop self.old slot thread frame AtJoin point w before user
-            → Moves self.new w result (join_slot (standing_at t w slot thread frame point user) (seen_thread named) (drop 1 (newest frame.work.values.items)) (in_slot w named.slot)) }
+            → IsStopped self.old at AtJoin w before user
+            → Moves self.new w result (join_slot (stands_at t w at user) (seen_thread named) (drop 1 (newest at.frame.work.values.items)) (in_slot w named.slot)) }
     {
-        match result_of(self.slots.as_slice(), slot as usize, named) {
-            Some(value) => self.take_result(slot, thread, frame, named, value, point),
+        match result_of(self.slots.as_slice(), at.slot as usize, named) {
+            Some(value) => self.take_result(at, named, value),
             None => self.trap(
-                slot,
-                thread,
-                Next::Halt(frame, Halt::Nothing),
+                at.slot,
+                at.thread,
+                Next::Halt(at.frame, Halt::Nothing),
                 TrapKind::Join,
             ),
         }
@@ -249,18 +224,21 @@ impl Machine {
     /// Takes the result of a thread that ended.
     fn take_result(
         &mut self,
-        slot: u8,
-        thread: Thread,
-        frame: Frame,
+        at: Stopped,
         named: ThreadRef,
         value: Value,
-        point: u32,
     ) -> Result<bool, AllocError>
-        requires { slot < length self.old.slots.items }
+        requires { at.slot < length self.old.slots.items }
         ensures { let t = table_of self.old.program in (w : World) (before user : SeenThread)
-            → IsAtStop self.old slot thread frame AtJoin point w before user → (named.slot ≡ slot → ⊥)
-            → Moves self.new w result (goes_on (standing_at t w slot thread frame point user) (with_slot named.slot IsFree w) (seen value ∷ drop 1 (newest frame.work.values.items))) }
+            → IsStopped self.old at AtJoin w before user → (named.slot ≡ at.slot → ⊥)
+            → Moves self.new w result (goes_on (stands_at t w at user) (with_slot named.slot IsFree w) (seen value ∷ drop 1 (newest at.frame.work.values.items))) }
     {
+        let Stopped {
+            slot,
+            thread,
+            frame,
+            point,
+        } = at;
         let mut frame = frame;
         self.set_free(named.slot);
         discard(&mut frame.work.values);
@@ -280,20 +258,18 @@ impl Machine {
     }
 
     /// Calls a function, whose enter is the next move; its arguments are the newest values.
-    pub(crate) fn call(
-        &mut self,
-        slot: u8,
-        thread: Thread,
-        frame: Frame,
-        name: Word,
-        count: usize,
-        point: u32,
-    ) -> Result<bool, AllocError>
-        requires { slot < length self.old.slots.items }
+    pub(crate) fn call(&mut self, at: Stopped, name: Word, count: usize) -> Result<bool, AllocError>
+        requires { at.slot < length self.old.slots.items }
         ensures { let t = table_of self.old.program in (w : World) (before user : SeenThread)
-            → IsAtStop self.old slot thread frame (AtCall name count) point w before user
-            → Moves self.new w result (call (standing_at t w slot thread frame point user) (word t name) count (newest frame.work.values.items)) }
+            → IsStopped self.old at (AtCall name count) w before user
+            → Moves self.new w result (call (stands_at t w at user) (word t name) count (newest at.frame.work.values.items)) }
     {
+        let Stopped {
+            slot,
+            thread,
+            frame,
+            point,
+        } = at;
         let mut frame = frame;
         let mut thread = thread;
         let arguments = take_arguments(&mut frame.work.values, count)?;
@@ -309,24 +285,18 @@ impl Machine {
     }
 
     /// Returns the newest value to the frame that called, or ends the thread with it.
-    pub(crate) fn give_back(
-        &mut self,
-        slot: u8,
-        thread: Thread,
-        frame: Frame,
-        point: u32,
-    ) -> Result<bool, AllocError>
-        requires { slot < length self.old.slots.items }
+    pub(crate) fn give_back(&mut self, at: Stopped) -> Result<bool, AllocError>
+        requires { at.slot < length self.old.slots.items }
         ensures { let t = table_of self.old.program in (w : World) (before user : SeenThread)
-            → IsAtStop self.old slot thread frame AtReturn point w before user
-            → Moves self.new w result (return (standing_at t w slot thread frame point user) (newest frame.work.values.items)) }
+            → IsStopped self.old at AtReturn w before user
+            → Moves self.new w result (return (stands_at t w at user) (newest at.frame.work.values.items)) }
     {
-        match last(frame.work.values.as_slice()) {
-            Some(value) => self.give(slot, thread, frame, value),
+        match last(at.frame.work.values.as_slice()) {
+            Some(value) => self.give(at.slot, at.thread, at.frame, value),
             None => self.stay(
-                slot,
-                thread,
-                Next::Halt(frame, Halt::At(Stop::Return, point)),
+                at.slot,
+                at.thread,
+                Next::Halt(at.frame, Halt::At(Stop::Return, at.point)),
             ),
         }
     }
@@ -387,18 +357,18 @@ impl Machine {
     }
 
     /// Begins a transaction.
-    pub(crate) fn begin(
-        &mut self,
-        slot: u8,
-        thread: Thread,
-        frame: Frame,
-        point: u32,
-    ) -> Result<bool, AllocError>
-        requires { slot < length self.old.slots.items }
+    pub(crate) fn begin(&mut self, at: Stopped) -> Result<bool, AllocError>
+        requires { at.slot < length self.old.slots.items }
         ensures { let t = table_of self.old.program in (w : World) (before user : SeenThread)
-            → IsAtStop self.old slot thread frame AtBegin point w before user
-            → Moves self.new w result (begin_at (standing_at t w slot thread frame point user) user.depth (gone_on (standing_at t w slot thread frame point user) (newest frame.work.values.items))) }
+            → IsStopped self.old at AtBegin w before user
+            → Moves self.new w result (begin_at (stands_at t w at user) user.depth (gone_on (stands_at t w at user) (newest at.frame.work.values.items))) }
     {
+        let Stopped {
+            slot,
+            thread,
+            frame,
+            point,
+        } = at;
         let mut thread = thread;
         let mut frame = frame;
         thread.depth = later(thread.depth)?;
@@ -407,39 +377,37 @@ impl Machine {
     }
 
     /// Ends the innermost transaction; the record of the outermost one is closed.
-    pub(crate) fn end(
-        &mut self,
-        slot: u8,
-        thread: Thread,
-        frame: Frame,
-        point: u32,
-    ) -> Result<bool, AllocError>
-        requires { slot < length self.old.slots.items }
+    pub(crate) fn end(&mut self, at: Stopped) -> Result<bool, AllocError>
+        requires { at.slot < length self.old.slots.items }
         ensures { let t = table_of self.old.program in (w : World) (before user : SeenThread)
-            → IsAtStop self.old slot thread frame AtEnd point w before user
-            → Moves self.new w result (end_at (standing_at t w slot thread frame point user) user.depth (gone_on (standing_at t w slot thread frame point user) (newest frame.work.values.items))) }
+            → IsStopped self.old at AtEnd w before user
+            → Moves self.new w result (end_at (stands_at t w at user) user.depth (gone_on (stands_at t w at user) (newest at.frame.work.values.items))) }
     {
-        match thread.depth {
-            0 => self.stay(slot, thread, Next::Halt(frame, Halt::At(Stop::End, point))),
-            1 => self.close(slot, thread, frame, point),
-            _ => self.end_inner(slot, thread, frame, point),
+        match at.thread.depth {
+            0 => self.stay(
+                at.slot,
+                at.thread,
+                Next::Halt(at.frame, Halt::At(Stop::End, at.point)),
+            ),
+            1 => self.close(at),
+            _ => self.end_inner(at),
         }
     }
 
     /// Ends an inner transaction.
-    fn end_inner(
-        &mut self,
-        slot: u8,
-        thread: Thread,
-        frame: Frame,
-        point: u32,
-    ) -> Result<bool, AllocError>
-        requires slot { slot < length self.old.slots.items }
-        requires depth { 1 < thread.depth }
+    fn end_inner(&mut self, at: Stopped) -> Result<bool, AllocError>
+        requires slot { at.slot < length self.old.slots.items }
+        requires depth { 1 < at.thread.depth }
         ensures { let t = table_of self.old.program in (w : World) (before user : SeenThread)
-            → IsAtStop self.old slot thread frame AtEnd point w before user
-            → Moves self.new w result (end_at (standing_at t w slot thread frame point user) user.depth (gone_on (standing_at t w slot thread frame point user) (newest frame.work.values.items))) }
+            → IsStopped self.old at AtEnd w before user
+            → Moves self.new w result (end_at (stands_at t w at user) user.depth (gone_on (stands_at t w at user) (newest at.frame.work.values.items))) }
     {
+        let Stopped {
+            slot,
+            thread,
+            frame,
+            point,
+        } = at;
         let mut thread = thread;
         let mut frame = frame;
         thread.depth -= 1;
@@ -448,19 +416,19 @@ impl Machine {
     }
 
     /// Ends an outermost transaction.
-    fn close(
-        &mut self,
-        slot: u8,
-        thread: Thread,
-        frame: Frame,
-        point: u32,
-    ) -> Result<bool, AllocError>
-        requires slot { slot < length self.old.slots.items }
-        requires depth { thread.depth ≡ 1 }
+    fn close(&mut self, at: Stopped) -> Result<bool, AllocError>
+        requires slot { at.slot < length self.old.slots.items }
+        requires depth { at.thread.depth ≡ 1 }
         ensures { let t = table_of self.old.program in (w : World) (before user : SeenThread)
-            → IsAtStop self.old slot thread frame AtEnd point w before user
-            → Moves self.new w result (end_at (standing_at t w slot thread frame point user) user.depth (gone_on (standing_at t w slot thread frame point user) (newest frame.work.values.items))) }
+            → IsStopped self.old at AtEnd w before user
+            → Moves self.new w result (end_at (stands_at t w at user) user.depth (gone_on (stands_at t w at user) (newest at.frame.work.values.items))) }
     {
+        let Stopped {
+            slot,
+            thread,
+            frame,
+            point,
+        } = at;
         let mut thread = thread;
         let mut frame = frame;
         self.closed.push(slot)?;

@@ -1,4 +1,4 @@
-use Rattle.std.proofs.Common.{◌≡◌, map, get_or, set, slice_set, unsigned_abs, refl, sym, ap, ◌∙◌, arith}
+use Rattle.std.proofs.Common.{◌≡◌, map, set, slice_set, unsigned_abs, sym, ap, ◌∙◌, arith}
 use Rattle.std.proofs.lemmas.List.{length-map, map-set}
 use Rattle.c_ints.specs.Number.{value_of}
 use Rattle.source_model.specs.Worlds.{with_cells_in, cells_of as cells_in}
@@ -6,22 +6,32 @@ use Rattle.source_model.specs.Moves.{in_bounds}
 use Rattle.resolved_tree.specs.Nodes.{word}
 use Rattle.local_evaluation.specs.Values.{seen}
 use Rattle.resolved_tree.specs.Trees.{table}
-use Rattle.source_runner.proofs.Globals.{changed_at, cells_at, cells_nowhere, none_within, is_within, is_outside}
+use Rattle.source_runner.proofs.Globals.{changed_at, cells_at, cells_nowhere, place_within, placed_kept, none_within, is_within, is_outside}
 use Rattle.source_runner.proofs.cells.set_element.Goals as goal
+
+pub invariant_of-globals-2 : goal.invariant_of-globals-2
+invariant_of-globals-2 c =
+    let globals = c.args.globals.now in
+    let found = sym c.place_of.ensures ∙ c.in-Some.is in
+    record {
+      placed = placed_kept globals.list.items globals.places c.in-Some.place c.index_mut.result.now _
+          (place_within globals.list.items (word (table c.args.trees.now) c.args.name) c.in-Some.place found) (ap (λ g. g.name) c.index_mut.ensures.value) globals.placed;
+    }
 
 pub returns-in_default-clause-inside : goal.returns-in_default-clause-inside
 returns-in_default-clause-inside c = λ w is.
-    let t = table c.args.trees.now in
-    sym (ap (in_bounds (value_of c.args.index)) (cells_nowhere t c.args.globals.now (word t c.args.name) w (sym c.place_of.ensures ∙ c.in_default.is) is)
+    let name = word (table c.args.trees.now) c.args.name in
+    sym (ap (in_bounds (value_of c.args.index)) (cells_nowhere c.args.globals.now.list.items name w (sym c.place_of.ensures ∙ c.in_default.is) is)
     ∙ none_within (value_of c.args.index))
 
 pub returns-in_default-within-clause-inside : goal.returns-in_default-within-clause-inside
 returns-in_default-within-clause-inside c = λ w is.
-    let t = table c.args.trees.now in
-    let global = get_or c.args.globals.now c.in-Some.place c.index-globals-place.result in
+    let name = word (table c.args.trees.now) c.args.name in
+    let global = c.index_mut.result.now in
     let cells = map seen global.cells.items in
-    let same : cells_in w (word t c.args.name) ≡ cells =
-    cells_at t c.args.globals.now (word t c.args.name) c.in-Some.place c.index-globals-place.result w (sym c.place_of.ensures ∙ c.in-Some.is) is
+    let same : cells_in w name ≡ cells =
+    cells_at c.args.globals.now.list.items name c.in-Some.place global w (sym c.place_of.ensures ∙ c.in-Some.is) is
+    ∙ ap (λ g. map seen g.cells.items) (sym c.index_mut.ensures.value)
     in
     let long = length-map global.cells.items seen in
     sym (ap (in_bounds (value_of c.args.index)) same
@@ -30,11 +40,12 @@ returns-in_default-within-clause-inside c = λ w is.
 
 pub returns-clause-inside : goal.returns-clause-inside
 returns-clause-inside c = λ w is.
-    let t = table c.args.trees.now in
-    let global = get_or c.args.globals.now c.in-Some.place c.index-globals-place.result in
+    let name = word (table c.args.trees.now) c.args.name in
+    let global = c.index_mut.result.now in
     let cells = map seen global.cells.items in
-    let same : cells_in w (word t c.args.name) ≡ cells =
-    cells_at t c.args.globals.now (word t c.args.name) c.in-Some.place c.index-globals-place.result w (sym c.place_of.ensures ∙ c.in-Some.is) is
+    let same : cells_in w name ≡ cells =
+    cells_at c.args.globals.now.list.items name c.in-Some.place global w (sym c.place_of.ensures ∙ c.in-Some.is) is
+    ∙ ap (λ g. map seen g.cells.items) (sym c.index_mut.ensures.value)
     in
     let long = length-map global.cells.items seen in
     sym (ap (in_bounds (value_of c.args.index)) same
@@ -43,20 +54,21 @@ returns-clause-inside c = λ w is.
 
 pub returns-clause-changed : goal.returns-clause-changed
 returns-clause-changed c = λ true w is.
-    let t = table c.args.trees.now in
-    let globals = c.args.globals.now in
-    let d = c.index-globals-place.result in
-    let name = word t c.args.name in
-    let items = (get_or globals c.in-Some.place d).cells.items in
-    let cells = map seen items in
+    let list = c.args.globals.now.list.items in
+    let name = word (table c.args.trees.now) c.args.name in
+    let global = c.index_mut.result.now in
+    let cells = map seen global.cells.items in
     let found = sym c.place_of.ensures ∙ c.in-Some.is in
-    let same : cells_in w name ≡ cells = cells_at t globals name c.in-Some.place d w found is in
-    let long = length-map items seen in
-    let at = (is_within (value_of c.args.index) cells c.in-Some-within.cell
-    (sym (c.within.ensures.place cells (omega (arith, c.len.ensures, (get_or globals c.in-Some.place d).cells.ok.0))) ∙ c.in-Some-within.is)).1
+    let same : cells_in w name ≡ cells =
+    cells_at list name c.in-Some.place global w found is ∙ ap (λ g. map seen g.cells.items) (sym c.index_mut.ensures.value)
     in
-    changed_at t globals name c.in-Some.place d _ (slice_set (cells_in w name) (unsigned_abs (value_of c.args.index)) (seen c.args.value)) found refl
-    (map-set seen items c.in-Some-within.cell c.args.value
+    let long = length-map global.cells.items seen in
+    let at = (is_within (value_of c.args.index) cells c.in-Some-within.cell
+    (sym (c.within.ensures.place cells (omega (arith, c.len.ensures, global.cells.ok.0))) ∙ c.in-Some-within.is)).1
+    in
+    changed_at list name c.in-Some.place global _ (slice_set (cells_in w name) (unsigned_abs (value_of c.args.index)) (seen c.args.value)) found
+    (ap (λ g. g.name) c.index_mut.ensures.value)
+    (map-set seen global.cells.items c.in-Some-within.cell c.args.value
     ∙ ap (λ l. set l c.in-Some-within.cell (seen c.args.value)) (sym same)
     ∙ ap (λ n. set (cells_in w name) n (seen c.args.value)) (sym at))
     ∙ ap (with_cells_in name (slice_set (cells_in w name) (unsigned_abs (value_of c.args.index)) (seen c.args.value))) (sym is)

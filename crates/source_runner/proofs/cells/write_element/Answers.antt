@@ -1,11 +1,9 @@
-use Rattle.std.proofs.Common.{◌-◌, length, take, get_or, pos, refl, sym, ap, ◌∙◌, arith}
-use Rattle.std.proofs.lemmas.List.{with_items_is}
-use Rattle.std.specs.Vec.{with_items}
+use Rattle.std.proofs.Common.{◌-◌, length, take, get_or, pos, refl, sym, ap, ◌∙◌}
 use Rattle.c_ints.specs.declared.int.Int.TheVariants.{I8}
 use Rattle.local_evaluation.specs.declared.value.Value.TheVariants.{Number}
 use Rattle.resolved_tree.specs.Nodes.{word}
 use Rattle.local_evaluation.specs.Values.{seen}
-use Rattle.source_runner.specs.Stores.{with_store, globals_of}
+use Rattle.source_runner.specs.Stores.{with_store}
 use Rattle.resolved_tree.specs.Trees.{table}
 use Rattle.local_evaluation.specs.Work.{newest}
 use Rattle.source_runner.proofs.Globals.{writes_element, write_traps, write_nothing}
@@ -28,13 +26,12 @@ returns-then-not-set_element-clause-made c = λ text slot.
     let old = c.args.store.now in
     let values = c.as_slice.result.now in
     let d = Number (I8 (pos 0)) in
-    let kept = with_items_is old.globals c.set_element.new.globals (omega (arith, c.set_element.auto.globals, c.deref_mut.ensures.len, old.globals.ok.0)) in
-    write_traps t text slot old (record old { globals = with_items old.globals c.set_element.new.globals }) (word t c.args.name) c.args.values.now.items
+    write_traps t text slot old (record old { globals = c.set_element.new.globals }) (word t c.args.name) c.args.values.now.items
     c.in-Number.index (seen (get_or values (length values - 1) d)) (newest (take (length values - 2) values))
     (ap newest (sym c.as_slice.ensures.value) ∙ newest_two values d d _ _ c.in-len2-up.len_at_least c.in-Number.is refl)
-    (λ w. sym (c.set_element.ensures.inside (with_store t old w) (ap (globals_of t) (sym c.deref_mut.ensures.value))) ∙ c.if-not-set_element.true)
+    (λ w. sym (c.set_element.ensures.inside (with_store t old w) refl) ∙ c.if-not-set_element.true)
     (λ w. ap (λ gs. record (with_store t old w) { globals = gs })
-    (ap (globals_of t) kept ∙ c.set_element.ensures.same c.if-not-set_element.true ∙ ap (globals_of t) c.deref_mut.ensures.value))
+    (c.set_element.ensures.same c.if-not-set_element.true))
 
 pub returns-clause-made : goal.returns-clause-made
 returns-clause-made c = λ text slot.
@@ -44,11 +41,10 @@ returns-clause-made c = λ text slot.
     let d = Number (I8 (pos 0)) in
     let name = word t c.args.name in
     let v = get_or values (length values - 1) d in
-    let kept = with_items_is old.globals c.set_element.new.globals (omega (arith, c.set_element.auto.globals, c.deref_mut.ensures.len, old.globals.ok.0)) in
     let is = ap newest (sym c.as_slice.ensures.value) ∙ newest_two values d d _ v c.in-len2-up.len_at_least c.in-Number.is refl in
-    writes_element t text slot old (record old { globals = with_items old.globals c.set_element.new.globals }) name c.args.values.now.items c.take_under.new.values.items
+    writes_element t text slot old (record old { globals = c.set_element.new.globals }) name c.args.values.now.items c.take_under.new.values.items
     c.in-Number.index (seen v) (newest (take (length values - 2) values)) is
-    (λ w. sym (c.set_element.ensures.inside (with_store t old w) (ap (globals_of t) (sym c.deref_mut.ensures.value))) ∙ c.if-not-set_element.false)
+    (λ w. sym (c.set_element.ensures.inside (with_store t old w) refl) ∙ c.if-not-set_element.false)
     (λ w. ap (λ gs. record (with_store t old w) { globals = gs })
-    (ap (globals_of t) kept ∙ c.set_element.ensures.changed c.if-not-set_element.false (with_store t old w) (ap (globals_of t) (sym c.deref_mut.ensures.value))))
+    (c.set_element.ensures.changed c.if-not-set_element.false (with_store t old w) refl))
     (c.take_under.ensures _ _ _ is)

@@ -1,17 +1,13 @@
-use Rattle.std.proofs.Common.{◌≡◌, ◌-◌, ◌∷◌, length, get_or, take, set, pos, refl, sym, ap, ◌∙◌, arith}
-use Rattle.std.proofs.lemmas.List.{with_items_is}
-use Rattle.std.specs.Vec.{with_items, with_item}
+use Rattle.std.proofs.Common.{◌-◌, ◌∷◌, length, get_or, take, pos, refl, sym, ap, ◌∙◌}
 use Rattle.c_ints.specs.declared.int.Int.TheVariants.{I8}
-use Rattle.c_semantics.specs.Evaluation.{with_value}
 use Rattle.source_model.specs.Moves.{goes_on}
 use Rattle.local_evaluation.specs.declared.value.Value.TheVariants.{Number}
-use Rattle.source_runner.specs.declared.store.Object.{Object}
 use Rattle.resolved_tree.specs.Nodes.{word}
-use Rattle.source_runner.specs.Stores.{standing_with, with_store, object_of, objects_of, fields_of}
+use Rattle.source_runner.specs.Stores.{standing_with, with_store, object_of, objects_of}
 use Rattle.resolved_tree.specs.Trees.{table}
 use Rattle.local_evaluation.specs.Values.{seen, seen_object}
 use Rattle.local_evaluation.specs.Work.{newest}
-use Rattle.source_runner.proofs.Fields.{writes_field, write_traps, write_nothing, with_field, object_changed}
+use Rattle.source_runner.proofs.Fields.{writes_field, write_traps, write_nothing, with_field, an_item}
 use Rattle.source_runner.proofs.Newest.{newest_two}
 use Rattle.source_runner.proofs.objects.write_field.Goals as goal
 
@@ -50,23 +46,15 @@ returns-in-Ok-clause-made c = λ text slot tag.
     let v = seen (get_or values (length values - 1) d) in
     let rest = newest (take (length values - 2) values) in
     let n = c.in-Ok.number in
-    let o = c.index_mut.result.now in
-    let x : Object = record o { fields = with_items o.fields c.set_field.new.fields } in
-    let is : get_or c.as_slice-2.result.now n o ≡ o = ap (λ l. get_or l n o) c.as_slice-2.ensures.value ∙ sym c.index_mut.ensures.value in
-    let kept = with_items_is o.fields c.set_field.new.fields (omega (arith, c.set_field.auto.fields, c.deref_mut.ensures.len, o.fields.ok.0)) in
-    let fields : fields_of t x.fields.items ≡ with_value name v (fields_of t o.fields.items) =
-    ap (fields_of t) kept ∙ c.set_field.ensures ∙ ap (λ l. with_value name v (fields_of t l)) c.deref_mut.ensures.value
-    in
+    let o = an_item c.as_slice-2.result.now n c.in-Ok.ensures.within in
     let two = ap newest (sym c.as_slice.ensures.value) ∙ newest_two values d d _ _ c.in-len2-up.len_at_least c.in-Reference.is refl in
-    writes_field t text slot old (record old { objects = with_item old.objects n x }) tag name c.args.values.now.items c.take_under.new.values.items
-    (seen_object c.in-Reference.handle) v rest (λ w. record w { objects = objects_of t (set old.objects.items n x) }) two
+    writes_field t text slot old (record old { objects = c.set_field_of.new.objects }) tag name c.args.values.now.items c.take_under.new.values.items
+    (seen_object c.in-Reference.handle) v rest (λ w. record w { objects = objects_of t c.set_field_of.new.objects.all.items }) two
     (λ s.
     let st = standing_with t old s in
     let w = with_store t old s.world in
     c.in-Ok.ensures.reached t st (λ n x. goes_on st (with_field n name v x w) (v ∷ rest)) (ap (objects_of t) (sym c.as_slice-2.ensures.value)) o
-    ∙ ap (λ x. goes_on st (with_field n name v (object_of t x) w) (v ∷ rest)) is
-    ∙ ap (λ w. goes_on st w (v ∷ rest))
-    (object_changed t w old.objects.items n x (record (object_of t o) { fields = with_value name v (fields_of t o.fields.items) }) refl
-    (ap (λ fs. record (object_of t o) { fields = fs }) fields)))
+    ∙ ap (λ l. goes_on st (with_field n name v (object_of t (get_or l n o)) w) (v ∷ rest)) c.as_slice-2.ensures.value
+    ∙ ap (λ os. goes_on st (record w { objects = os }) (v ∷ rest)) (sym (c.set_field_of.ensures o)))
     (λ w. refl)
     (c.take_under.ensures _ _ _ two)

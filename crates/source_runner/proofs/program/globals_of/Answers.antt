@@ -4,8 +4,7 @@ use Rattle.std.specs.Option.{option_map}
 use Rattle.c_tree.specs.Bare.{bare_def}
 use Rattle.source_model.specs.Worlds.{cells_at_first}
 use Rattle.source_runner.specs.declared.store.Cells.{Cells}
-use Rattle.source_runner.specs.Stores.{cells_of, globals_of}
-use Rattle.resolved_tree.proofs.Kept.{grows_trans}
+use Rattle.source_runner.specs.Globals.{cells_of, globals_of}
 use Rattle.source_runner.proofs.Defining.{next_definition}
 use Rattle.source_runner.proofs.Reported.{reported_some, reported_none}
 use Rattle.source_runner.proofs.program.globals_of.Goals.{in-Some+in_ok-push, in_default}
@@ -20,28 +19,15 @@ loop-definition-preserved c =
     let before = map bare_def (take i text) in
     let now = map bare_def (take (i + 1) text) in
     let longer = next_definition bare_def text i c.definition-item.result c.loop-definition-test.true c.definition-item.is in
-    record {
-      grows = grows_trans _ _ _ c.loop-definition.invariant.grows c.cells_if.ensures.grows;
-      made = λ u g.
-          let so_far = c.loop-definition.invariant.made u (grows_trans _ _ u c.cells_if.ensures.grows g) in
-          let told = c.in_ok-cells.ensures.cells u g in
-          elim c.match-branch-2.branch [
-            | in-Some+in_ok-push w ↦
-                reported_some (cells_of u) cells_at_first cs c.match-branch-2.globals.items w.in-Some.cells before now own
-                (ap (λ v. v.items) w.globals-is ∙ w.in_ok-push.ensures.items) longer so_far
-                (ap (option_map (cells_of u)) (sym w.in-Some.is) ∙ told)
-            | in_default w ↦
-                let P : List Cells → Type 0 = λ xs. globals_of u xs ≡ filter_map cells_at_first now in
-                subst P (sym (ap (λ v. v.items) w.globals-is))
-                (reported_none (cells_of u) cells_at_first cs before now own longer so_far (ap (option_map (cells_of u)) (sym w.in_default.is) ∙ told))
-          ];
-    }
-
-pub returns-in_err-cells-clause-grows : goal.returns-in_err-cells-clause-grows
-returns-in_err-cells-clause-grows c = grows_trans _ _ _ c.loop-definition.invariant.grows c.in_err-cells.ensures.grows
-
-pub returns-in_err-push-clause-grows : goal.returns-in_err-push-clause-grows
-returns-in_err-push-clause-grows c = grows_trans _ _ _ c.loop-definition.invariant.grows c.in_ok-cells.ensures.grows
-
-pub returns-clause-grows : goal.returns-clause-grows
-returns-clause-grows c = c.loop-definition.invariant.grows
+    let so_far = c.loop-definition.invariant in
+    let told = c.in_ok-cells.ensures in
+    elim c.match-branch-2.branch [
+      | in-Some+in_ok-push w ↦
+          reported_some cells_of cells_at_first cs c.match-branch-2.globals.items w.in-Some.cells before now own
+          (ap (λ v. v.items) w.globals-is ∙ w.in_ok-push.ensures.items) longer so_far
+          (ap (option_map cells_of) (sym w.in-Some.is) ∙ told)
+      | in_default w ↦
+          let P : List Cells → Type 0 = λ xs. globals_of xs ≡ filter_map cells_at_first now in
+          subst P (sym (ap (λ v. v.items) w.globals-is))
+          (reported_none cells_of cells_at_first cs before now own longer so_far (ap (option_map cells_of) (sym w.in_default.is) ∙ told))
+    ]

@@ -2,14 +2,9 @@ use Rattle.std.proofs.Common.{◌≡◌, map, take}
 use Rattle.std.specs.Prelude.{filter_map}
 use Rattle.c_tree.specs.Bare.{bare_def}
 use Rattle.source_model.specs.Worlds.{cells_at_first}
-use Rattle.resolved_tree.specs.Nodes.{Table}
-use Rattle.resolved_tree.specs.Found.{Grows}
-use Rattle.resolved_tree.specs.Trees.{table}
-use Rattle.source_runner.specs.Stores.{globals_of}
+use Rattle.source_runner.specs.Globals.{globals_of}
 use Rattle.source_runner.proofs.program.globals_of.Given as goal
 
 abbrev pub invariant-loop-definition : goal.invariant-loop-definition
-invariant-loop-definition l = record {
-  grows : Grows (table l.fn.trees) (table l.trees);
-  made : (u : Table) → Grows (table l.trees) u → globals_of u l.globals.items ≡ filter_map cells_at_first (map bare_def (take l.definition-index l.text));
-}
+invariant-loop-definition l =
+    globals_of l.globals.items ≡ filter_map cells_at_first (map bare_def (take l.definition-index l.text))

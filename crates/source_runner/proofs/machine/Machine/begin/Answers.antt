@@ -7,6 +7,6 @@ pub returns : goal.returns
 returns c = λ w before user at.
     let m = c.args.self.now in
     let deeper = c.in_ok-thread.field-0 in
-    let goes = begins (text_of m.program) (table_of m.program) w c.args.slot c.args.thread c.args.frame c.args.point user user.depth deeper
+    let goes = begins (text_of m.program) (table_of m.program) w c.args.at.slot c.args.at.thread c.args.at.frame c.args.at.point user user.depth deeper
     at.used.depth c.in_ok-thread.ensures at.used in
     moves_as _ w _ _ _ goes.1 (c.go_on.ensures w before goes.0 at.but goes.2)

@@ -7,7 +7,7 @@ pub returns : goal.returns
 returns c = λ w before user at.
     let m = c.args.self.now in
     let t = table_of m.program in
-    let goes = called (text_of m.program) t _ w c.args.slot c.args.thread c.push_frame.new.frames c.args.frame c.take_arguments.new.values
-    c.in_ok-arguments.arguments c.args.name c.args.count c.args.point user c.in_ok-arguments.ensures.arguments c.in_ok-arguments.ensures.rest
+    let goes = called (text_of m.program) t _ w c.args.at.slot c.args.at.thread c.push_frame.new.frames c.args.at.frame c.take_arguments.new.values
+    c.in_ok-arguments.arguments c.args.name c.args.count c.args.at.point user c.in_ok-arguments.ensures.arguments c.in_ok-arguments.ensures.rest
     (c.in_ok-push_frame.ensures t) at.used in
     moves_as _ w _ _ _ goes.1 (record { came = c.keep.ensures w before goes.0 at.but goes.2 })

@@ -8,9 +8,9 @@ use Rattle.source_runner.proofs.machine.Machine.close.Goals as goal
 pub returns : goal.returns
 returns c = λ w before user at.
     let m = c.args.self.now in
-    let goes = ends_outer (text_of m.program) (table_of m.program) w c.args.slot c.args.thread c.args.frame c.args.point user user.depth
+    let goes = ends_outer (text_of m.program) (table_of m.program) w c.args.at.slot c.args.at.thread c.args.at.frame c.args.at.point user user.depth
     (at.used.depth ∙ c.requires.depth) at.used in
     moves_as _ w _ _ _ goes.1
     (moves_from _ _ w _ _
-    (c.go_on.ensures (closed_with w c.args.slot user.uses) before goes.0
-    (closing m c.push.new.self c.args.slot w before user.uses c.in_ok-push.ensures.items at.used.uses at.but) goes.2))
+    (c.go_on.ensures (closed_with w c.args.at.slot user.uses) before goes.0
+    (closing m c.push.new.self c.args.at.slot w before user.uses c.in_ok-push.ensures.items at.used.uses at.but) goes.2))

@@ -7,6 +7,6 @@ use Rattle.source_runner.proofs.machine.Machine.end_inner.Goals as goal
 pub returns : goal.returns
 returns c = λ w before user at.
     let m = c.args.self.now in
-    let goes = ends_inner (text_of m.program) (table_of m.program) w c.args.slot c.args.thread c.args.frame c.args.point user user.depth
-    (c.args.thread.depth - 1) at.used.depth c.requires.depth (omega (arith, c.requires.depth)) at.used in
+    let goes = ends_inner (text_of m.program) (table_of m.program) w c.args.at.slot c.args.at.thread c.args.at.frame c.args.at.point user user.depth
+    (c.args.at.thread.depth - 1) at.used.depth c.requires.depth (omega (arith, c.requires.depth)) at.used in
     moves_as _ w _ _ _ goes.1 (c.go_on.ensures w before goes.0 at.but goes.2)

@@ -8,14 +8,14 @@ pub returns-in-Some : goal.returns-in-Some
 returns-in-Some c = λ w before user at.
     let m = c.args.self.now in
     moves_as _ w _ _ _
-    (returned (table_of m.program) w c.args.slot c.args.thread c.args.frame c.args.point user c.in-Some.value
+    (returned (table_of m.program) w c.args.at.slot c.args.at.thread c.args.at.frame c.args.at.point user c.in-Some.value
     (newest_at _ _ c.in-Some.value c.as_slice.ensures.value c.in-Some.ensures))
-    (c.give.ensures w before user c.args.point at.but at.used (user_before _ _ _ _ _ _ at.same))
+    (c.give.ensures w before user c.args.at.point at.but at.used (user_before _ _ _ _ _ _ at.same))
 
 pub returns-in-None : goal.returns-in-None
 returns-in-None c = λ w before user at.
     let m = c.args.self.now in
     moves_as _ w _ _ _
-    (returned_none (table_of m.program) w c.args.slot c.args.thread c.args.frame c.args.point user
+    (returned_none (table_of m.program) w c.args.at.slot c.args.at.thread c.args.at.frame c.args.at.point user
     (newest_none _ _ c.as_slice.ensures.value c.in-None.ensures))
     (c.stay.ensures w before at.but (at_over _ _ _ _ _ _ at.going at.same))

@@ -12,13 +12,13 @@ pub returns-in-Some : goal.returns-in-Some
 returns-in-Some c = λ w before user at.
     let m = c.args.self.now in
     moves_as _ w _ _ _
-    (handle_at (table_of m.program) w c.args.slot c.args.thread c.args.frame c.args.point user _ (Started (option_map seen_thread c.in-Some.named))
+    (handle_at (table_of m.program) w c.args.at.slot c.args.at.thread c.args.at.frame c.args.at.point user _ (Started (option_map seen_thread c.in-Some.named))
     c.as_slice.ensures.value c.in-Some.ensures)
     (c.join_handle.ensures w before user at)
 
 pub returns-in-None : goal.returns-in-None
 returns-in-None c = λ w before user at.
     let m = c.args.self.now in
-    let s = standing_at (table_of m.program) w c.args.slot c.args.thread c.args.frame c.args.point user in
-    moves_as _ w _ _ _ (no_handle s _ c.args.frame.work.values.items c.as_slice.ensures.value (c.in-None.ensures s))
+    let s = standing_at (table_of m.program) w c.args.at.slot c.args.at.thread c.args.at.frame c.args.at.point user in
+    moves_as _ w _ _ _ (no_handle s _ c.args.at.frame.work.values.items c.as_slice.ensures.value (c.in-None.ensures s))
     (c.stay.ensures w before at.but (at_over _ _ _ _ _ _ at.going at.same))

@@ -13,20 +13,20 @@ returns-in-Some c = λ w before user at.
     let m = c.args.self.now in
     let slots = c.as_slice.result.now in
     moves_as _ w _ _ _
-    (join_as m c.args.slot w before user c.args.thread c.args.frame c.args.point c.args.named (drop 1 (newest c.args.frame.work.values.items))
+    (join_as m c.args.at.slot w before user c.args.at.thread c.args.at.frame c.args.at.point c.args.named (drop 1 (newest c.args.at.frame.work.values.items))
     (Some c.in-Some.value) at.but
-    (found_in slots m.slots.items c.args.slot c.args.named c.result_of.result (Some c.in-Some.value) c.as_slice.ensures.value c.result_of.ensures c.in-Some.is))
+    (found_in slots m.slots.items c.args.at.slot c.args.named c.result_of.result (Some c.in-Some.value) c.as_slice.ensures.value c.result_of.ensures c.in-Some.is))
     (c.take_result.ensures w before user at
-    (result_apart slots c.args.slot c.args.named c.result_of.result c.in-Some.value c.result_of.ensures c.in-Some.is))
+    (result_apart slots c.args.at.slot c.args.named c.result_of.result c.in-Some.value c.result_of.ensures c.in-Some.is))
 
 pub returns-in-None : goal.returns-in-None
 returns-in-None c = λ w before user at.
     let m = c.args.self.now in
     let t = table_of m.program in
     let slots = c.as_slice.result.now in
-    let s = standing_at t w c.args.slot c.args.thread c.args.frame c.args.point user in
+    let s = standing_at t w c.args.at.slot c.args.at.thread c.args.at.frame c.args.at.point user in
     moves_as _ w _ _ _
-    (join_as m c.args.slot w before user c.args.thread c.args.frame c.args.point c.args.named (drop 1 (newest c.args.frame.work.values.items))
+    (join_as m c.args.at.slot w before user c.args.at.thread c.args.at.frame c.args.at.point c.args.named (drop 1 (newest c.args.at.frame.work.values.items))
     None at.but
-    (found_in slots m.slots.items c.args.slot c.args.named c.result_of.result None c.as_slice.ensures.value c.result_of.ensures c.in-None.is))
-    (c.trap.ensures w before (gone_on s s.frame.values) at.but (trapped (text_of m.program) t c.args.thread _ _ true user refl at.used))
+    (found_in slots m.slots.items c.args.at.slot c.args.named c.result_of.result None c.as_slice.ensures.value c.result_of.ensures c.in-None.is))
+    (c.trap.ensures w before (gone_on s s.frame.values) at.but (trapped (text_of m.program) t c.args.at.thread _ _ true user refl at.used))

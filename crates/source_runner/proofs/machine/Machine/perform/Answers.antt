@@ -16,26 +16,26 @@ returns-in-On c = λ w before user at not_threads.
     let t = table_of m.program in
     let new = c.perform.new.store in
     let values = c.perform.new.values in
-    let s = standing_at t w c.args.slot c.args.thread c.args.frame c.args.point user in
+    let s = standing_at t w c.args.at.slot c.args.at.thread c.args.at.frame c.args.at.point user in
     moves_as _ w _ _ _
-    (performed_as m c.args.slot c.args.thread c.args.frame c.args.stop c.args.point w before user c.in_ok-perform.field-0 On new values.items at.but
+    (performed_as m c.args.at.slot c.args.at.thread c.args.at.frame c.args.stop c.args.at.point w before user c.in_ok-perform.field-0 On new values.items at.but
     (c.in_ok-perform.ensures.made at.but.all.program not_threads) c.in-On.is)
     (moves_from _ _ w _ _
-    (c.go_on.ensures (with_store t new w) before (gone_on s (newest values.items)) (stored m new c.args.slot w before at.but)
-    (went_on (text_of m.program) t c.args.thread c.args.frame values c.args.point w c.args.slot user at.used)))
+    (c.go_on.ensures (with_store t new w) before (gone_on s (newest values.items)) (stored m new c.args.at.slot w before at.but)
+    (went_on (text_of m.program) t c.args.at.thread c.args.at.frame values c.args.at.point w c.args.at.slot user at.used)))
 
 pub returns-in-Trap : goal.returns-in-Trap
 returns-in-Trap c = λ w before user at not_threads.
     let m = c.args.self.now in
     let t = table_of m.program in
     let new = c.perform.new.store in
-    let s = standing_at t w c.args.slot c.args.thread c.args.frame c.args.point user in
+    let s = standing_at t w c.args.at.slot c.args.at.thread c.args.at.frame c.args.at.point user in
     moves_as _ w _ _ _
-    (performed_as m c.args.slot c.args.thread c.args.frame c.args.stop c.args.point w before user c.in_ok-perform.field-0 (Trap c.in-Trap.kind) new
+    (performed_as m c.args.at.slot c.args.at.thread c.args.at.frame c.args.stop c.args.at.point w before user c.in_ok-perform.field-0 (Trap c.in-Trap.kind) new
     c.perform.new.values.items at.but (c.in_ok-perform.ensures.made at.but.all.program not_threads) c.in-Trap.is)
     (moves_from _ _ w _ _
-    (c.trap.ensures (with_store t new w) before (gone_on s s.frame.values) (stored m new c.args.slot w before at.but)
-    (trapped (text_of m.program) t c.args.thread _ _ _ user refl at.used)))
+    (c.trap.ensures (with_store t new w) before (gone_on s s.frame.values) (stored m new c.args.at.slot w before at.but)
+    (trapped (text_of m.program) t c.args.at.thread _ _ _ user refl at.used)))
 
 pub returns-in-Nothing : goal.returns-in-Nothing
 returns-in-Nothing c = λ w before user at not_threads.
@@ -43,9 +43,9 @@ returns-in-Nothing c = λ w before user at not_threads.
     let t = table_of m.program in
     let new = c.perform.new.store in
     let values = c.perform.new.values in
-    let kept = kept_as c.in_ok-perform.field-0 m.store new c.args.frame.work.values.items values.items c.in-Nothing.is c.in_ok-perform.ensures.kept in
+    let kept = kept_as c.in_ok-perform.field-0 m.store new c.args.at.frame.work.values.items values.items c.in-Nothing.is c.in_ok-perform.ensures.kept in
     moves_as _ w _ _ _
-    (performed_as m c.args.slot c.args.thread c.args.frame c.args.stop c.args.point w before user c.in_ok-perform.field-0 Nothing new values.items at.but
+    (performed_as m c.args.at.slot c.args.at.thread c.args.at.frame c.args.stop c.args.at.point w before user c.in_ok-perform.field-0 Nothing new values.items at.but
     (c.in_ok-perform.ensures.made at.but.all.program not_threads) c.in-Nothing.is)
-    (c.stay.ensures w before (same_store m new c.args.slot w before kept.0 at.but)
-    (at_over _ _ _ _ _ _ at.going (same_values (text_of m.program) t _ c.args.thread c.args.frame _ values before kept.1 at.same)))
+    (c.stay.ensures w before (same_store m new c.args.at.slot w before kept.0 at.but)
+    (at_over _ _ _ _ _ _ at.going (same_values (text_of m.program) t _ c.args.at.thread c.args.at.frame _ values before kept.1 at.same)))

@@ -8,6 +8,6 @@ pub returns-in-Some : goal.returns-in-Some
 returns-in-Some c = λ w before user at.
     let m = c.args.self.now in
     moves_as _ w _ _ _
-    (spawn_as (table_of m.program) w c.args.slot c.args.thread c.args.frame c.args.point user c.args.name c.in-Some.argument
+    (spawn_as (table_of m.program) w c.args.at.slot c.args.at.thread c.args.at.frame c.args.at.point user c.args.name c.in-Some.argument
     (newest_at _ _ c.in-Some.argument c.as_slice.ensures.value c.in-Some.ensures))
     (c.spawn_with.ensures w before user at)

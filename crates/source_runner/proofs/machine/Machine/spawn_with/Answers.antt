@@ -13,14 +13,14 @@ pub returns : goal.returns
 returns c = λ w before user at.
     let m = c.args.self.now in
     let t = table_of m.program in
-    let enter = enter_with t c.args.name c.args.argument c.args.frame.version in
+    let enter = enter_with t c.args.name c.args.argument c.args.at.frame.version in
     let values = c.push.new.values in
     let is = c.in_ok-started.ensures.started w before at.but in
-    let s = standing_at t w c.args.slot c.args.thread c.args.frame c.args.point user in
+    let s = standing_at t w c.args.at.slot c.args.at.thread c.args.at.frame c.args.at.point user in
     moves_as _ w _ _ _
-    (spawned m c.start.new.self c.args.slot c.args.thread c.args.frame values c.args.point w before user enter c.in_ok-started.started is
-    (pushed_on c.args.frame.work.values.items c.discard.new.values.items values.items (Started c.in_ok-started.started) c.discard.ensures c.in_ok-push.ensures))
+    (spawned m c.start.new.self c.args.at.slot c.args.at.thread c.args.at.frame values c.args.at.point w before user enter c.in_ok-started.started is
+    (pushed_on c.args.at.frame.work.values.items c.discard.new.values.items values.items (Started c.in_ok-started.started) c.discard.ensures c.in_ok-push.ensures))
     (moves_from _ _ w _ _
     (c.go_on.ensures _ before (gone_on s (newest values.items)) is.stands
-    (ready_in m.program c.start.new.self.program c.args.thread _ _ (sym c.in_ok-started.ensures.kept)
-    (went_on (text_of m.program) t c.args.thread c.args.frame values c.args.point w c.args.slot user at.used))))
+    (ready_in m.program c.start.new.self.program c.args.at.thread _ _ (sym c.in_ok-started.ensures.kept)
+    (went_on (text_of m.program) t c.args.at.thread c.args.at.frame values c.args.at.point w c.args.at.slot user at.used))))

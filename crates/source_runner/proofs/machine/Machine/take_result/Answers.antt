@@ -16,12 +16,12 @@ returns c = λ w before user at apart.
     let m = c.args.self.now in
     let t = table_of m.program in
     let values = c.push.new.values in
-    let s = standing_at t w c.args.slot c.args.thread c.args.frame c.args.point user in
+    let s = standing_at t w c.args.at.slot c.args.at.thread c.args.at.frame c.args.at.point user in
     moves_as _ w _ _ _
-    (taken_result s c.args.named.slot c.args.value _ (newest values.items) (pushed_on c.args.frame.work.values.items c.discard.new.values.items values.items c.args.value c.discard.ensures c.in_ok-push.ensures))
+    (taken_result s c.args.named.slot c.args.value _ (newest values.items) (pushed_on c.args.at.frame.work.values.items c.discard.new.values.items values.items c.args.value c.discard.ensures c.in_ok-push.ensures))
     (moves_from _ _ w _ _
     (c.go_on.ensures _ before (gone_on s (newest values.items))
-    (but_same _ c.set_free.new.self c.args.slot _ before c.set_free.ensures.same
-    (put_other m c.set_free.new.self.slots c.args.slot c.args.named.slot w before Free world.Free at.but (λ e. apart (sym e)) c.set_free.ensures.slots refl))
-    (ready_in m.program c.set_free.new.self.program c.args.thread _ _ (sym (ap (λ x. x.program) c.set_free.ensures.same))
-    (went_on (text_of m.program) t c.args.thread c.args.frame values c.args.point w c.args.slot user at.used))))
+    (but_same _ c.set_free.new.self c.args.at.slot _ before c.set_free.ensures.same
+    (put_other m c.set_free.new.self.slots c.args.at.slot c.args.named.slot w before Free world.Free at.but (λ e. apart (sym e)) c.set_free.ensures.slots refl))
+    (ready_in m.program c.set_free.new.self.program c.args.at.thread _ _ (sym (ap (λ x. x.program) c.set_free.ensures.same))
+    (went_on (text_of m.program) t c.args.at.thread c.args.at.frame values c.args.at.point w c.args.at.slot user at.used))))

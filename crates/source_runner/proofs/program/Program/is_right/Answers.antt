@@ -10,7 +10,7 @@ pub returns-then-version-eq1-clause-right : goal.returns-then-version-eq1-clause
 returns-then-version-eq1-clause-right c = λ h.
     let p = c.args.self.now in
     let name = name_of (table_of p) c.args.name in
-    c.is_some.ensures ∙ some_copied c.named.result ∙ ap is_some c.named.ensures ∙ (h name).there
+    c.is_some.ensures ∙ some_copied c.named.result ∙ ap is_some (c.named.ensures h) ∙ (h.definitions name).there
     ∙ ap (λ n. (n == 1) && is_some (definition (text_of p) name)) (sym c.if-version-eq1.true)
     ∙ sym (right_first (text_of p) c.args.version name)
 
