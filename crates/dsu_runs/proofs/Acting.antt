@@ -1,6 +1,6 @@
 -- One turn: a check-in, a move, and what holds of each.
-use Rattle.std.proofs.Common.{◌≡◌, ◌⊎◌, inl, inr, ℕ, ◌+◌, ◌-◌, ◌<◌, ◌≤◌, true, false, List, Option, Some, None, refl, ◌∙◌, ap, subst, arith}
-use Rattle.std.specs.Prelude.{◌^◌, min, vec_capacity}
+use Rattle.std.proofs.Common.{◌≡◌, ◌⊎◌, inl, inr, ℕ, ◌+◌, ◌-◌, ◌<◌, ◌≤◌, true, false, List, [], ◌∷◌, Option, Some, None, refl, ◌∙◌, ap, subst, arith, length-append}
+use Rattle.std.specs.Prelude.{◌^◌, length, min, vec_capacity}
 use Rattle.std.specs.Option.{is_some, option_or}
 use Rattle.std.proofs.Math.Nat.{le-min, min-le_left, min-le_right}
 use Rattle.std.proofs.lemmas.Bool.{false≢true}
@@ -29,12 +29,11 @@ rose_since a b c later rose =
     trans_le : (x y z : ℕ) → x ≤ y → y ≤ z → x ≤ z
     trans_le x y z p q = omega (arith, p, q)
 
-module _ {E : Type 0} (setup : E → Setup) (faults : E → ℕ) where
+module _ {E : Type 0} (faults : E → ℕ) where
   -- a turn after turns in which nothing was next
-  pub keeps_then : (old mid new : SoloRun E) (step : Step) → Keeps setup faults old mid CannotHappen → Keeps setup faults mid new step
-      → Keeps setup faults old new step
+  pub keeps_then : (old mid new : SoloRun E) (step : Step) → Keeps faults old mid CannotHappen → Keeps faults mid new step
+      → Keeps faults old new step
   keeps_then old mid new step before after = record {
-    same = after.same ∙ before.same;
     room = trans_le (vec_capacity old.running.history) (vec_capacity mid.running.history) (vec_capacity new.running.history) before.room after.room;
     later = trans_le (faults old.running.engine) (faults mid.running.engine) (faults new.running.engine) before.later after.later;
     rose = λ is.
@@ -47,24 +46,30 @@ module _ {E : Type 0} (setup : E → Setup) (faults : E → ℕ) where
           first = second.first ∙ first.first;
           left = second.left ∙ first.left;
         };
+    longer = λ is.
+        let long = ap length (before.still refl).history in
+        let one = after.longer is in
+        omega (arith, long, one);
   }
     where
       trans_le : (x y z : ℕ) → x ≤ y → y ≤ z → x ≤ z
       trans_le x y z p q = omega (arith, p, q)
 
   -- an event that was made, or wasn't
-  pub kept : (old : SoloRun E) (new : Running E) (e : Event) (step : Step) → setup new.engine ≡ setup old.running.engine
+  pub kept : (old : SoloRun E) (new : Running E) (e : Event) (step : Step)
       → vec_capacity old.running.history ≤ vec_capacity new.history → faults old.running.engine ≤ faults new.engine
       → (step ≡ SinkFailed → Rose (faults old.running.engine) (faults new.engine))
       → new.history.items ≡ history_after e old.running.history.items step
-      → Keeps setup faults old (record { running = new; first = old.first; left = old.left }) step
-  kept old new e step same room later rose history = record {
-    same = same;
+      → Keeps faults old (record { running = new; first = old.first; left = old.left }) step
+  kept old new e step room later rose history = record {
     room = room;
     later = later;
     rose = rose;
     still = λ is.
         record { history = history ∙ ap (history_after e old.running.history.items) is; first = refl; left = refl };
+    longer = λ is.
+        ap length (history ∙ ap (history_after e old.running.history.items) is)
+        ∙ length-append old.running.history.items (e ∷ []);
   }
 
 module _ {E : Type 0} (is_at : Guard → E → Type 0) (told : E → Option (List ℕ)) (setup : Setup) (g : Guard) where
@@ -136,19 +141,18 @@ was_made s other (inl a) (inr b) is = cc (a, b, is)
 was_made s other (inr a) (inl b) is = cc (a, b, is)
 was_made s other (inr a) (inr b) is = cc (a, b, is)
 
-module _ {E : Type 0} (setup : E → Setup) (is_at : Guard → E → Type 0) (told : E → Option (List ℕ)) (faults : E → ℕ) (g : Guard) where
+module _ {E : Type 0} (setup : Setup) (is_at : Guard → E → Type 0) (told : E → Option (List ℕ)) (faults : E → ℕ) (g : Guard) where
   -- a run that goes on does so after a turn in which nothing was next
   pub goes_still : (a : Option Event) (old mid : SoloRun E) → GoesAt is_at g old.running.engine → Waits is_at told g a old mid
       → GoesAt is_at g mid.running.engine
   goes_still a old mid goes waits = record { there = waits.stays; going = goes.going; none_open = goes.none_open }
 
   -- a turn after one in which nothing was next
-  pub second_turn : (a b : Option Event) (old mid new : SoloRun E) (step : Step) → Keeps setup faults old mid CannotHappen
-      → Waits is_at told g a old mid → Turned is_at told (setup mid.running.engine) g b mid new step
-      → Turned is_at told (setup old.running.engine) g (option_or a b) old new step
+  pub second_turn : (a b : Option Event) (old mid new : SoloRun E) (step : Step) → Keeps faults old mid CannotHappen
+      → Waits is_at told g a old mid → Turned is_at told setup g b mid new step
+      → Turned is_at told setup g (option_or a b) old new step
   second_turn a b old mid new step kept waits turned =
-      by_second is_at told (setup old.running.engine) g a b old mid new step waits (kept.still refl)
-      (subst (λ s. Turned is_at told s g b mid new step) kept.same turned)
+      by_second is_at told setup g a b old mid new step waits (kept.still refl) turned
 
   -- nothing was next in two turns
   pub waits_on : (a : Option Event) (old mid new : SoloRun E) → Waits is_at told g None old mid → Waits is_at told g a mid new
@@ -157,9 +161,9 @@ module _ {E : Type 0} (setup : E → Setup) (is_at : Guard → E → Type 0) (to
 
   -- a turn in which nothing was next
   pub waited : (a : Option Event) (old new : SoloRun E) (step : Step) → step ≡ CannotHappen
-      → Turned is_at told (setup old.running.engine) g a old new step → Waits is_at told g a old new
-  waited a old new step is turned = subst (λ s. Turned is_at told (setup old.running.engine) g a old new s) is turned
+      → Turned is_at told setup g a old new step → Waits is_at told g a old new
+  waited a old new step is turned = subst (λ s. Turned is_at told setup g a old new s) is turned
 
-pub waits_kept : {E : Type 0} (setup : E → Setup) (faults : E → ℕ) (old new : SoloRun E) (step : Step) → step ≡ CannotHappen
-    → Keeps setup faults old new step → Keeps setup faults old new CannotHappen
-waits_kept setup faults old new step is kept = subst (λ s. Keeps setup faults old new s) is kept
+pub waits_kept : {E : Type 0} (faults : E → ℕ) (old new : SoloRun E) (step : Step) → step ≡ CannotHappen
+    → Keeps faults old new step → Keeps faults old new CannotHappen
+waits_kept faults old new step is kept = subst (λ s. Keeps faults old new s) is kept

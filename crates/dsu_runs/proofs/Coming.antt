@@ -1,6 +1,6 @@
 -- The guard that a run has come to: its events are legal, and what was printed was written.
 use Rattle.std.proofs.Common.{◌≡◌, ℕ, ◌≤◌, true, List, [], ◌∷◌, ◌++◌, take, Option, Some, None, refl, sym, ◌∙◌, ap, subst, arith}
-use Rattle.std.specs.Prelude.{length, vec_capacity}
+use Rattle.std.specs.Prelude.{length}
 use Rattle.std.specs.Option.{option_and_then}
 use Rattle.std.specs.Io.KnownBytes.{Appends}
 use Rattle.std.proofs.lemmas.List.{append-nil}
@@ -18,7 +18,7 @@ use Rattle.dsu_runs.specs.declared.running.Step.TheVariants.{SinkFailed}
 use Rattle.dsu_runs.proofs.Happening.{any_rules, leaves}
 
 -- events in two parts
-play_parts : (rules : Rules) (setup : Setup) (es fs : List Event) (g : Guard)
+pub play_parts : (rules : Rules) (setup : Setup) (es fs : List Event) (g : Guard)
     → play rules setup (es ++ fs) g ≡ option_and_then (play rules setup fs) (play rules setup es g)
 play_parts rules setup [] fs g = refl
 play_parts rules setup (e ∷ es) fs g = by (happens rules setup e g) (λ mid. play_parts rules setup es fs mid)
@@ -103,7 +103,7 @@ failed_at setup told now next history all g e counted count came f moves rose sp
       moves = moves;
       legal = came.legal;
       written = part.0;
-      most = part.1;
+      least = part.1;
       printed = part.2;
       rose = rose;
     }
@@ -115,13 +115,11 @@ failed_legal setup told now next history all g e came f split rules =
     ap (guard_after rules setup) split ∙ legal_more rules setup history e g f.after (came.legal rules) (f.happens rules)
 
 -- an event tried by an engine: what the call says that makes it
-pub record Tries {E : Type 0} (setup : E → Setup) (is_at : Guard → E → Type 0) (told : E → Option (List ℕ)) (faults : E → ℕ)
+pub record Tries {E : Type 0} (setup : Setup) (is_at : Guard → E → Type 0) (told : E → Option (List ℕ)) (faults : E → ℕ)
     (now next : Running E) (e : Event) (step : Step) : Type 0 where
-  pub same : setup next.engine ≡ setup now.engine
-  pub made : (g : Guard) → is_at g now.engine → (setup now.engine).offers ≡ [] → g.open_offer ≡ None
-      → Steps (λ x. is_at x next.engine) (setup now.engine) e g (told now.engine) (told next.engine) step
+  pub made : (g : Guard) → is_at g now.engine → g.open_offer ≡ None
+      → Steps (λ x. is_at x next.engine) setup e g (told now.engine) (told next.engine) step
   pub history : next.history.items ≡ history_after e now.history.items step
-  pub room : vec_capacity now.history ≤ vec_capacity next.history
   pub later : faults now.engine ≤ faults next.engine
   pub cause : step ≡ SinkFailed → Rose (faults now.engine) (faults next.engine)
   pub moves : step ≡ SinkFailed → makes_move e ≡ true

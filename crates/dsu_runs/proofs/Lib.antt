@@ -1,6 +1,6 @@
 mod Acting
-mod Coming
-mod Happening
+pub mod Coming
+pub mod Happening
 mod Replaying
 mod Seats
 mod Soloing

@@ -1,6 +1,6 @@
 -- A replay from event to event.
 use Rattle.std.proofs.Common.{◌≡◌, ℕ, zero, suc, ◌+◌, ◌<◌, ◌≤◌, List, [], ◌∷◌, ◌++◌, take, Option, Some, refl, sym, ◌∙◌, ap, subst, arith, length-append}
-use Rattle.std.specs.Prelude.{length, slice_get, slice_index_or, vec_capacity}
+use Rattle.std.specs.Prelude.{length, slice_get, slice_index_or}
 use Rattle.std.proofs.lemmas.Option.{none-some, same_Some}
 use Rattle.std.proofs.lemmas.List.{length-map, length-take-le, take_all}
 use Rattle.bytecode.specs.declared.run.Event.{Event}
@@ -33,18 +33,16 @@ some_there (l ∷ lines) (suc n) line there = let rest = some_there lines n line
 trans_le : (x y z : ℕ) → x ≤ y → y ≤ z → x ≤ z
 trans_le x y z p q = omega (arith, p, q)
 
-module _ {E : Type 0} (setup : E → Setup) (is_at : Guard → E → Type 0) (told : E → Option (List ℕ)) (faults : E → ℕ)
+module _ {E : Type 0} (setup : Setup) (is_at : Guard → E → Type 0) (told : E → Option (List ℕ)) (faults : E → ℕ)
     (engine : E) (lines : List (ℕ × Event)) where
   -- so many events of the journal were made
   pub record Made (n : ℕ) (now : Running E) : Type 0 where
     pub guard : Guard
-    pub came : Came (setup engine) (told engine) now.history.items guard (told now.engine)
+    pub came : Came setup (told engine) now.history.items guard (told now.engine)
     pub there : is_at guard now.engine
-    pub same : setup now.engine ≡ setup engine
     pub later : faults engine ≤ faults now.engine
     pub made : now.history.items ≡ take n (events_of lines)
     pub within : n ≤ length lines
-    pub room : length lines ≤ vec_capacity now.history
 
   pub count : (n : ℕ) (now : Running E) → Made n now → length now.history.items ≡ n
   count n now at =
@@ -54,43 +52,38 @@ module _ {E : Type 0} (setup : E → Setup) (is_at : Guard → E → Type 0) (to
   prefix : (n : ℕ) (now : Running E) → Made n now → now.history.items ≡ take (length now.history.items) (events_of lines)
   prefix n now at = at.made ∙ ap (λ k. take k (events_of lines)) (sym (count n now at))
 
-  pub starts : (now : Running E) → now.engine ≡ engine → now.history.items ≡ [] → length lines ≤ vec_capacity now.history
-      → is_at (first_guard (setup engine)) engine → Made 0 now
-  starts now same none room at = record {
-    guard = first_guard (setup engine);
+  pub starts : (now : Running E) → now.engine ≡ engine → now.history.items ≡ [] → is_at (first_guard setup) engine → Made 0 now
+  starts now same none at = record {
+    guard = first_guard setup;
     came =
-        subst (λ es. Came (setup engine) (told engine) es (first_guard (setup engine)) (told now.engine)) (sym none)
-        (subst (λ x. Came (setup engine) (told engine) [] (first_guard (setup engine)) (told x)) (sym same)
-        (came_first (setup engine) (told engine)));
-    there = subst (λ x. is_at (first_guard (setup engine)) x) (sym same) at;
-    same = ap setup same;
+        subst (λ es. Came setup (told engine) es (first_guard setup) (told now.engine)) (sym none)
+        (subst (λ x. Came setup (told engine) [] (first_guard setup) (told x)) (sym same)
+        (came_first setup (told engine)));
+    there = subst (λ x. is_at (first_guard setup) x) (sym same) at;
     later = let eq = ap faults same in omega (arith, eq);
     made = none;
     within = omega arith;
-    room = room;
   }
 
   -- a run for whose events there is no room
   pub no_room : (now : Running E) → now.engine ≡ engine → now.history.items ≡ []
       → Replayed setup is_at told faults engine lines (ran_of now Memory)
   no_room now same none = record {
-    guard = first_guard (setup engine);
-    same = ap setup same;
-    legal = λ rules. ap (guard_after rules (setup engine)) none;
+    guard = first_guard setup;
+    legal = λ rules. ap (guard_after rules setup) none;
     made = none ∙ sym (ap (λ (es : List Event). take (length es) (events_of lines)) none);
     later = let eq = ap faults same in omega (arith, eq);
-    stopped = printed_still (setup engine) (told engine) (told engine) (told now.engine) [] (first_guard (setup engine)) (ap told same)
-        (came_first (setup engine) (told engine));
+    stopped = printed_still setup (told engine) (told engine) (told now.engine) [] (first_guard setup) (ap told same)
+        (came_first setup (told engine));
   }
 
-  module _ (n : ℕ) (now next : Running E) (line : ℕ × Event) (step : Step) (offers : (setup engine).offers ≡ []) (at : Made n now)
+  module _ (n : ℕ) (now next : Running E) (line : ℕ × Event) (step : Step) (offers : setup.offers ≡ []) (at : Made n now)
       (there : slice_get lines n ≡ Some line) (tries : Tries setup is_at told faults now next line.1 step) where
     made_is : (s : Step) → step ≡ s
-        → Steps (λ x. is_at x next.engine) (setup engine) line.1 at.guard (told now.engine) (told next.engine) s
+        → Steps (λ x. is_at x next.engine) setup line.1 at.guard (told now.engine) (told next.engine) s
     made_is s is =
-        subst (λ x. Steps (λ y. is_at y next.engine) x line.1 at.guard (told now.engine) (told next.engine) s) at.same
-        (subst (λ x. Steps (λ y. is_at y next.engine) (setup now.engine) line.1 at.guard (told now.engine) (told next.engine) x) is
-        (tries.made at.guard at.there (ap (λ s. s.offers) at.same ∙ offers) at.came.none_open))
+        subst (λ x. Steps (λ y. is_at y next.engine) setup line.1 at.guard (told now.engine) (told next.engine) x) is
+        (tries.made at.guard at.there at.came.none_open)
 
     history_is : (s : Step) → step ≡ s → next.history.items ≡ history_after line.1 now.history.items s
     history_is s is = tries.history ∙ ap (history_after line.1 now.history.items) is
@@ -109,15 +102,13 @@ module _ {E : Type 0} (setup : E → Setup) (is_at : Guard → E → Type 0) (to
         record {
           guard = m.after;
           came =
-              subst (λ es. Came (setup engine) (told engine) es m.after (told next.engine)) (sym history)
-              (came_more (λ x. is_at x next.engine) (setup engine) (told engine) (told now.engine) (told next.engine) now.history.items
+              subst (λ es. Came setup (told engine) es m.after (told next.engine)) (sym history)
+              (came_more (λ x. is_at x next.engine) setup (told engine) (told now.engine) (told next.engine) now.history.items
               at.guard line.1 offers at.came m);
           there = m.there;
-          same = tries.same ∙ at.same;
           later = later;
           made = history ∙ more ∙ ap (λ k. take k (events_of lines)) one;
           within = let below = some_there lines n line there in omega (arith, below);
-          room = trans_le (length lines) (vec_capacity now.history) (vec_capacity next.history) at.room tries.room;
         }
       where
         one : suc n ≡ n + 1
@@ -133,8 +124,7 @@ module _ {E : Type 0} (setup : E → Setup) (is_at : Guard → E → Type 0) (to
         let history = history_is steps.CannotHappen is in
         record {
           guard = at.guard;
-          same = tries.same ∙ at.same;
-          legal = λ rules. ap (guard_after rules (setup engine)) history ∙ at.came.legal rules;
+          legal = λ rules. ap (guard_after rules setup) history ∙ at.came.legal rules;
           made = still history;
           later = later;
           stopped = record {
@@ -143,7 +133,7 @@ module _ {E : Type 0} (setup : E → Setup) (is_at : Guard → E → Type 0) (to
             never = r.never;
             there = r.stays;
             printed =
-                printed_still (setup engine) (told engine) (told now.engine) (told next.engine) now.history.items at.guard r.silent at.came;
+                printed_still setup (told engine) (told now.engine) (told next.engine) now.history.items at.guard r.silent at.came;
           };
         }
 
@@ -153,14 +143,13 @@ module _ {E : Type 0} (setup : E → Setup) (is_at : Guard → E → Type 0) (to
         let history = history_is steps.SinkFailed is in
         record {
           guard = f.after;
-          same = tries.same ∙ at.same;
           legal =
-              failed_legal (setup engine) (told engine) (told now.engine) (told next.engine) now.history.items next.history.items at.guard
+              failed_legal setup (told engine) (told now.engine) (told next.engine) now.history.items next.history.items at.guard
               line.1 at.came f history;
           made = history ∙ more ∙ ap (λ k. take k (events_of lines)) (sym (long history));
           later = later;
           stopped =
-              failed_at (setup engine) (told engine) (told now.engine) (told next.engine) now.history.items next.history.items at.guard
+              failed_at setup (told engine) (told now.engine) (told next.engine) now.history.items next.history.items at.guard
               line.1 (faults engine) (faults next.engine) at.came f (tries.moves is)
               (rose_since (faults engine) (faults now.engine) (faults next.engine) at.later (tries.cause is)) history;
         }
@@ -177,12 +166,11 @@ module _ {E : Type 0} (setup : E → Setup) (is_at : Guard → E → Type 0) (to
         let history = history_is steps.Memory is in
         record {
           guard = at.guard;
-          same = tries.same ∙ at.same;
-          legal = λ rules. ap (guard_after rules (setup engine)) history ∙ at.came.legal rules;
+          legal = λ rules. ap (guard_after rules setup) history ∙ at.came.legal rules;
           made = still history;
           later = later;
           stopped =
-              printed_still (setup engine) (told engine) (told now.engine) (told next.engine) now.history.items at.guard
+              printed_still setup (told engine) (told now.engine) (told next.engine) now.history.items at.guard
               (made_is steps.Memory is) at.came;
         }
 
@@ -191,7 +179,6 @@ module _ {E : Type 0} (setup : E → Setup) (is_at : Guard → E → Type 0) (to
       → Replayed setup is_at told faults engine lines (ran_of now (Ended end))
   finished n now end at past is = record {
     guard = at.guard;
-    same = at.same;
     legal = at.came.legal;
     made = prefix n now at;
     later = at.later;
@@ -199,7 +186,7 @@ module _ {E : Type 0} (setup : E → Setup) (is_at : Guard → E → Type 0) (to
       all = at.made ∙ take_all n (events_of lines) (omega (arith, past, length-map lines (λ line. line.1)));
       ending = is;
       there = at.there;
-      printed = printed (setup engine) (told engine) (told now.engine) now.history.items at.guard at.came;
+      printed = printed setup (told engine) (told now.engine) now.history.items at.guard at.came;
     };
   }
 

@@ -1,6 +1,6 @@
 -- A run by the solo schedule from event to event.
-use Rattle.std.proofs.Common.{◌≡◌, ℕ, ◌+◌, ◌-◌, ◌*◌, ◌<◌, ◌≤◌, ◌==◌, Bool, true, false, List, [], ◌∷◌, ◌++◌, Option, Some, None, refl, sym, ◌∙◌, ap, subst, arith, eq-eqb, length-append}
-use Rattle.std.specs.Prelude.{◌&&◌, ◌||◌, length, reverse, vec_capacity, if◌then◌else◌}
+use Rattle.std.proofs.Common.{◌≡◌, ℕ, ◌+◌, ◌*◌, ◌<◌, ◌≤◌, ◌==◌, Bool, true, false, List, [], ◌∷◌, ◌++◌, Option, Some, None, refl, sym, ◌∙◌, ap, subst, arith, eq-eqb, length-append}
+use Rattle.std.specs.Prelude.{◌&&◌, ◌||◌, length, reverse, if◌then◌else◌}
 use Rattle.std.specs.Option.{is_none, option_or}
 use Rattle.std.proofs.lemmas.Bool.{false≢true}
 use Rattle.std.proofs.lemmas.List.{reverse-append, reverse-reverse}
@@ -67,122 +67,119 @@ ending_here : (setup : Setup) (moves : ℕ) (es : List Event) (g : Guard) → en
     → run_ending setup moves es g ≡ Some (ending g)
 ending_here setup moves es g is = ap (λ b. if b then Some (ending g) else None) is
 
-module _ {E : Type 0} (setup : E → Setup) (is_at : Guard → E → Type 0) (told : E → Option (List ℕ)) (faults : E → ℕ)
+module _ {E : Type 0} (setup : Setup) (is_at : Guard → E → Type 0) (told : E → Option (List ℕ)) (faults : E → ℕ)
     (engine : E) (moves : ℕ) where
   -- the events so far are those of the solo schedule; the check-ins that stand and the moves that are left have room
   pub record Going (s : SoloRun E) : Type 0 where
     pub guard : Guard
     pub last : Option ℕ
-    pub came : Came (setup engine) (told engine) s.running.history.items guard (told s.running.engine)
+    pub came : Came setup (told engine) s.running.history.items guard (told s.running.engine)
     pub there : is_at guard s.running.engine
-    pub same : setup s.running.engine ≡ setup engine
     pub later : faults engine ≤ faults s.running.engine
-    pub solo : (rules : Rules) → Solo rules (setup engine) (reverse s.running.history.items) guard last
+    pub solo : (rules : Rules) → Solo rules setup (reverse s.running.history.items) guard last
     pub begun : (events : List Event) (e : Event) → s.running.history.items ≡ events ++ e ∷ [] → move_count events < moves
     pub first : s.first ≡ first_after last
     pub left : s.left + move_count s.running.history.items ≡ moves
     pub room : length s.running.history.items + check_ins guard.seats + 2 * s.left ≤ 2 * moves
-    pub capacity : 2 * moves ≤ vec_capacity s.running.history
+
+  -- no move is left where all the room is taken
+  pub none_left : (s : SoloRun E) → Going s → 2 * moves ≤ length s.running.history.items → s.left ≤ 0
+  none_left s at full = omega (arith, at.room, full)
 
   pub starts : (s : SoloRun E) → s.running.engine ≡ engine → s.running.history.items ≡ [] → s.first ≡ 0 → s.left ≡ moves
-      → 2 * moves ≤ vec_capacity s.running.history → is_at (first_guard (setup engine)) engine → Going s
-  starts s same none first left room at = record {
-    guard = first_guard (setup engine);
+      → is_at (first_guard setup) engine → Going s
+  starts s same none first left at = record {
+    guard = first_guard setup;
     last = None;
     came =
-        subst (λ es. Came (setup engine) (told engine) es (first_guard (setup engine)) (told s.running.engine)) (sym none)
-        (subst (λ x. Came (setup engine) (told engine) [] (first_guard (setup engine)) (told x)) (sym same)
-        (came_first (setup engine) (told engine)));
-    there = subst (λ x. is_at (first_guard (setup engine)) x) (sym same) at;
-    same = ap setup same;
+        subst (λ es. Came setup (told engine) es (first_guard setup) (told s.running.engine)) (sym none)
+        (subst (λ x. Came setup (told engine) [] (first_guard setup) (told x)) (sym same)
+        (came_first setup (told engine)));
+    there = subst (λ x. is_at (first_guard setup) x) (sym same) at;
     later = let eq = ap faults same in omega (arith, eq);
     solo = λ rules.
-        subst (λ es. Solo rules (setup engine) (reverse es) (first_guard (setup engine)) None) (sym none) (refl, refl);
+        subst (λ es. Solo rules setup (reverse es) (first_guard setup) None) (sym none) (refl, refl);
     begun = λ events e is. absurd (none_before events e (sym none ∙ is));
     first = first;
     left = let count = ap move_count none in omega (arith, left, count);
     room =
         let long = ap length none in
-        let seats = none_at_first (setup engine) in
+        let seats = none_at_first setup in
         omega (arith, long, seats, left);
-    capacity = room;
   }
 
   -- a run for whose events there is no room
   pub no_room : (running : Running E) → running.engine ≡ engine → running.history.items ≡ []
       → RanSolo setup is_at told faults engine moves (ran_of running Memory)
   no_room running same none = record {
-    guard = first_guard (setup engine);
+    guard = first_guard setup;
     last = None;
-    same = ap setup same;
-    legal = λ rules. ap (guard_after rules (setup engine)) none;
+    legal = λ rules. ap (guard_after rules setup) none;
     solo = λ rules.
-        subst (λ es. Solo rules (setup engine) (reverse es) (first_guard (setup engine)) None) (sym none) (refl, refl);
+        subst (λ es. Solo rules setup (reverse es) (first_guard setup) None) (sym none) (refl, refl);
     most = let count = ap move_count none in omega (arith, count);
     begun = λ events e is. absurd (none_before events e (sym none ∙ is));
     later = let eq = ap faults same in omega (arith, eq);
-    stopped = printed_still (setup engine) (told engine) (told engine) (told running.engine) [] (first_guard (setup engine)) (ap told same)
-        (came_first (setup engine) (told engine));
+    stopped = printed_still setup (told engine) (told engine) (told running.engine) [] (first_guard setup) (ap told same)
+        (came_first setup (told engine));
   }
 
   -- a run that has ended here
-  pub finished : (s : SoloRun E) → (setup engine).offers ≡ [] → (at : Going s)
-      → ends (setup engine) moves s.running.history.items at.guard ≡ true
+  pub finished : (s : SoloRun E) → setup.offers ≡ [] → (at : Going s)
+      → ends setup moves s.running.history.items at.guard ≡ true
       → RanSolo setup is_at told faults engine moves (ran_of s.running (Ended (int_ending (ending at.guard))))
   finished s offers at over = record {
     guard = at.guard;
     last = at.last;
-    same = at.same;
     legal = at.came.legal;
     solo = at.solo;
     most = omega (arith, at.left);
     begun = at.begun;
     later = at.later;
     stopped = record {
-      ends = ending_here (setup engine) moves s.running.history.items at.guard over;
+      ends = ending_here setup moves s.running.history.items at.guard over;
       ending = refl;
       there = at.there;
-      printed = printed (setup engine) (told engine) (told s.running.engine) s.running.history.items at.guard at.came;
+      printed = printed setup (told engine) (told s.running.engine) s.running.history.items at.guard at.came;
     };
   }
 
   -- it has where no move is left
-  pub used_up : (s : SoloRun E) → (setup engine).offers ≡ [] → (at : Going s) → s.left ≤ 0
-      → ends (setup engine) moves s.running.history.items at.guard ≡ true
+  pub used_up : (s : SoloRun E) → setup.offers ≡ [] → (at : Going s) → s.left ≤ 0
+      → ends setup moves s.running.history.items at.guard ≡ true
   used_up s offers at none =
-      ends_by (has_ended at.guard) (is_stuck at.guard) (no_offer_waits (setup engine) at.guard)
+      ends_by (has_ended at.guard) (is_stuck at.guard) (no_offer_waits setup at.guard)
       (move_count s.running.history.items == moves)
-      (no_waits (setup engine) at.guard offers at.came.none_open)
+      (no_waits setup at.guard offers at.came.none_open)
       (λ goes. eq-eqb (move_count s.running.history.items) moves (omega (arith, none, at.left)))
 
   -- and where nothing is next
-  pub none_next : (s : SoloRun E) → (setup engine).offers ≡ [] → (at : Going s) → NothingNext → thread_next at.guard at.last ≡ None
-      → ends (setup engine) moves s.running.history.items at.guard ≡ true
+  pub none_next : (s : SoloRun E) → setup.offers ≡ [] → (at : Going s) → NothingNext → thread_next at.guard at.last ≡ None
+      → ends setup moves s.running.history.items at.guard ≡ true
   none_next s offers at law none =
-      ends_next (has_ended at.guard) (is_stuck at.guard) (no_offer_waits (setup engine) at.guard)
+      ends_next (has_ended at.guard) (is_stuck at.guard) (no_offer_waits setup at.guard)
       (move_count s.running.history.items == moves)
-      (law any_rules (setup engine) s.running.history.items at.guard at.last (at.came.legal any_rules)
-      (next_is (setup engine) at.guard at.last offers at.came.none_open ∙ none))
+      (law any_rules setup s.running.history.items at.guard at.last (at.came.legal any_rules)
+      (next_is setup at.guard at.last offers at.came.none_open ∙ none))
 
-  module _ (old new : SoloRun E) (step : Step) (offers : (setup engine).offers ≡ []) (at : Going old) (some : 0 < old.left)
-      (keeps : Keeps setup faults old new step)
-      (turned : Turned is_at told (setup old.running.engine) at.guard (thread_next at.guard at.last) old new step) where
-    came_of : (s : Step) → step ≡ s → Turned is_at told (setup engine) at.guard (thread_next at.guard at.last) old new s
+  module _ (old new : SoloRun E) (step : Step) (offers : setup.offers ≡ []) (at : Going old) (some : 0 < old.left)
+      (keeps : Keeps faults old new step)
+      (turned : Turned is_at told setup at.guard (thread_next at.guard at.last) old new step) where
+    came_of : (s : Step) → step ≡ s → Turned is_at told setup at.guard (thread_next at.guard at.last) old new s
     came_of s is =
-        subst (λ x. Turned is_at told x at.guard (thread_next at.guard at.last) old new s) at.same
-        (subst (λ x. Turned is_at told (setup old.running.engine) at.guard (thread_next at.guard at.last) old new x) is turned)
+        subst (λ x. Turned is_at told setup at.guard (thread_next at.guard at.last) old new x) is turned
 
     solo_more : (e : Event) (after : Guard) → thread_next at.guard at.last ≡ Some e
-        → ((rules : Rules) → happens rules (setup engine) e at.guard ≡ Some after)
+        → ((rules : Rules) → happens rules setup e at.guard ≡ Some after)
         → new.running.history.items ≡ old.running.history.items ++ e ∷ []
-        → (rules : Rules) → Solo rules (setup engine) (reverse new.running.history.items) after (option_or (acted_by e) at.last)
+        → (rules : Rules) → Solo rules setup (reverse new.running.history.items) after (option_or (acted_by e) at.last)
     solo_more e after next made history rules =
-        subst (λ es. Solo rules (setup engine) es after (option_or (acted_by e) at.last))
+        subst (λ es. Solo rules setup es after (option_or (acted_by e) at.last))
         (sym (ap reverse history ∙ newest old.running.history.items e)) (
           at.guard,
           at.last,
           at.solo rules,
-          next_is (setup engine) at.guard at.last offers at.came.none_open ∙ next,
+          next_is setup at.guard at.last offers at.came.none_open ∙ next,
           made rules,
           refl,
         )
@@ -205,34 +202,24 @@ module _ {E : Type 0} (setup : E → Setup) (is_at : Guard → E → Type 0) (to
     one_more is =
         let a = came_of steps.Done is in
         let m = a.makes in
-        let paid = (leaves any_rules (setup engine) a.event at.guard m.after offers at.came.none_open (m.happens any_rules)).paid in
+        let paid = (leaves any_rules setup a.event at.guard m.after offers at.came.none_open (m.happens any_rules)).paid in
         let count = counted a.event a.history in
         let long = ap length a.history ∙ length-append old.running.history.items (a.event ∷ []) in
         record {
           guard = m.after;
           last = option_or (acted_by a.event) at.last;
           came =
-              subst (λ es. Came (setup engine) (told engine) es m.after (told new.running.engine)) (sym a.history)
-              (came_more (λ x. is_at x new.running.engine) (setup engine) (told engine) (told old.running.engine)
+              subst (λ es. Came setup (told engine) es m.after (told new.running.engine)) (sym a.history)
+              (came_more (λ x. is_at x new.running.engine) setup (told engine) (told old.running.engine)
               (told new.running.engine) old.running.history.items at.guard a.event offers at.came m);
           there = m.there;
-          same = keeps.same ∙ at.same;
           later = later;
           solo = solo_more a.event m.after a.due m.happens a.history;
           begun = begun_more a.event a.history;
           first = a.first at.last;
           left = omega (arith, at.left, a.left, count);
           room = omega (arith, at.room, a.left, paid, long);
-          capacity = trans_le (2 * moves) (vec_capacity old.running.history) (vec_capacity new.running.history) at.capacity keeps.room;
         }
-
-    -- one event more is one fewer that may still come
-    pub smaller : step ≡ steps.Done
-        → 2 * moves - length new.running.history.items < 2 * moves - length old.running.history.items
-    smaller is =
-        let a = came_of steps.Done is in
-        let long = ap length a.history ∙ length-append old.running.history.items (a.event ∷ []) in
-        omega (arith, at.room, some, long)
 
     pub failed : step ≡ steps.SinkFailed → RanSolo setup is_at told faults engine moves (ran_of new.running SinkFailed)
     failed is =
@@ -242,16 +229,15 @@ module _ {E : Type 0} (setup : E → Setup) (is_at : Guard → E → Type 0) (to
         record {
           guard = f.after;
           last = option_or (acted_by a.event) at.last;
-          same = keeps.same ∙ at.same;
           legal =
-              failed_legal (setup engine) (told engine) (told old.running.engine) (told new.running.engine)
+              failed_legal setup (told engine) (told old.running.engine) (told new.running.engine)
               old.running.history.items new.running.history.items at.guard a.event at.came f a.history;
           solo = solo_more a.event f.after a.due f.happens a.history;
           most = omega (arith, at.left, a.left, count);
           begun = begun_more a.event a.history;
           later = later;
           stopped =
-              failed_at (setup engine) (told engine) (told old.running.engine) (told new.running.engine)
+              failed_at setup (told engine) (told old.running.engine) (told new.running.engine)
               old.running.history.items new.running.history.items at.guard a.event (faults engine) (faults new.running.engine) at.came f a.moves
               (rose_since (faults engine) (faults old.running.engine) (faults new.running.engine) at.later (keeps.rose is)) a.history;
         }
@@ -263,15 +249,14 @@ module _ {E : Type 0} (setup : E → Setup) (is_at : Guard → E → Type 0) (to
         record {
           guard = at.guard;
           last = at.last;
-          same = keeps.same ∙ at.same;
-          legal = λ rules. ap (guard_after rules (setup engine)) a.history ∙ at.came.legal rules;
+          legal = λ rules. ap (guard_after rules setup) a.history ∙ at.came.legal rules;
           solo = λ rules.
-              subst (λ es. Solo rules (setup engine) (reverse es) at.guard at.last) (sym a.history) (at.solo rules);
+              subst (λ es. Solo rules setup (reverse es) at.guard at.last) (sym a.history) (at.solo rules);
           most = omega (arith, at.left, count);
           begun = λ events e last. at.begun events e (sym a.history ∙ last);
           later = later;
           stopped =
-              printed_still (setup engine) (told engine) (told old.running.engine) (told new.running.engine) old.running.history.items
+              printed_still setup (told engine) (told old.running.engine) (told new.running.engine) old.running.history.items
               at.guard a.silent at.came;
         }
 
@@ -286,18 +271,16 @@ module _ {E : Type 0} (setup : E → Setup) (is_at : Guard → E → Type 0) (to
             guard = at.guard;
             last = at.last;
             came =
-                subst (λ es. Came (setup engine) (told engine) es at.guard (told new.running.engine)) (sym still.history)
-                (subst (λ t. Came (setup engine) (told engine) old.running.history.items at.guard t) (sym a.silent) at.came);
+                subst (λ es. Came setup (told engine) es at.guard (told new.running.engine)) (sym still.history)
+                (subst (λ t. Came setup (told engine) old.running.history.items at.guard t) (sym a.silent) at.came);
             there = a.stays;
-            same = keeps.same ∙ at.same;
             later = later;
             solo = λ rules.
-                subst (λ es. Solo rules (setup engine) (reverse es) at.guard at.last) (sym still.history) (at.solo rules);
+                subst (λ es. Solo rules setup (reverse es) at.guard at.last) (sym still.history) (at.solo rules);
             begun = λ events e last. at.begun events e (sym still.history ∙ last);
             first = still.first ∙ at.first;
             left = omega (arith, at.left, still.left, count);
             room = omega (arith, at.room, still.left, long);
-            capacity = trans_le (2 * moves) (vec_capacity old.running.history) (vec_capacity new.running.history) at.capacity keeps.room;
           },
           a.none,
         )

@@ -3,8 +3,10 @@ use Rattle.std.specs.Prelude.{◌≡◌, ℕ, ◌≤◌, Bool, List, ◌++◌, l
 use Rattle.bytecode.specs.declared.run.Event.{Event}
 use Rattle.bytecode.specs.declared.run.Ending.{Ending}
 use Rattle.bytecode.specs.declared.run.Ending.TheVariants.{Trap, Finished}
-use Rattle.source_model.specs.Worlds.{Finish}
+use Rattle.source_model.specs.Worlds.{Finish, World, is_over}
 use Rattle.source_model.specs.Worlds as world
+use Rattle.source_model.specs.Waits.{ForMutex, ForThread, waits_for}
+use Rattle.source_model.specs.Waits as waits
 use Rattle.source_model.specs.Runs.{lives}
 use Rattle.source_model.specs.Guards.{Guard, Rules, Setup, seat_of}
 use Rattle.source_model.specs.Journals as journal
@@ -13,6 +15,8 @@ use Rattle.dsu_runs.specs.declared.engine.Made.{Made}
 use Rattle.dsu_runs.specs.declared.engine.Made.TheVariants.{Done, CannotHappen, SinkFailed}
 use Rattle.dsu_runs.specs.declared.engine.Stands.{Stands}
 use Rattle.dsu_runs.specs.declared.engine.Stands.TheVariants.{NoThread, AtCheckIn, Going}
+use Rattle.dsu_runs.specs.declared.engine.Waiting.{Waiting}
+use Rattle.dsu_runs.specs.declared.engine.Waiting.TheVariants.{Mutex, Thread}
 
 -- the ending of a run that has finished or trapped
 abbrev pub finish_of : Option Finish → Option Ending
@@ -26,6 +30,15 @@ standing_by at_check_in alive = if at_check_in then AtCheckIn else (if alive the
 
 abbrev pub standing_of : Guard → ℕ → Stands
 standing_of g t = standing_by (seat_of g t).at_check_in (lives g.world t)
+
+-- what is reported of a thread that waits, as the definitions have it
+abbrev pub waiting_of : Waiting → waits.Waiting
+waiting_of (Mutex name holder) = ForMutex name.now holder
+waiting_of (Thread slot) = ForThread slot
+
+-- what the thread in a slot waits for; in a run that is over none waits
+abbrev pub waits_in : World → ℕ → Option waits.Waiting
+waits_in w slot = if is_over w then None else waits_for w slot
 
 -- what a sink shows grew by what was printed from one guard to another; it says so by what was printed in all, so that
 -- two such steps in a row are one

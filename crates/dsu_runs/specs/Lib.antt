@@ -1,3 +1,4 @@
+pub mod Setups
 pub mod Engines
 pub mod Turns
 pub mod Ran

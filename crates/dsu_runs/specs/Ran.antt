@@ -21,6 +21,6 @@ pub record FailedAt (setup : Setup) (history : List Event) (g : Guard) (told now
   pub moves : makes_move event ≡ true
   pub legal : (rules : Rules) → guard_after rules setup earlier ≡ Some before
   pub written : ℕ
-  pub most : length before.world.output ≤ written
+  pub least : length before.world.output ≤ written
   pub printed : Appends told now (take written g.world.output)
   pub rose : Rose counted count

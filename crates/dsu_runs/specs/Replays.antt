@@ -32,22 +32,21 @@ pub record Refused {E : Type 0} (setup : Setup) (is_at : Guard → E → Type 0)
   pub printed : Printed (told engine) (told ran.engine) g
 
 -- by why no further event was made
-abbrev pub StoppedReplay : {E : Type 0} (setup : E → Setup) (is_at : Guard → E → Type 0) (told : E → Option (List ℕ)) (faults : E → ℕ)
+abbrev pub StoppedReplay : {E : Type 0} (setup : Setup) (is_at : Guard → E → Type 0) (told : E → Option (List ℕ)) (faults : E → ℕ)
     → E → List (ℕ × Event) → Ran E → Guard → StopCause → Type 0
 StoppedReplay setup is_at told faults engine lines ran g (Ended e) = EndedReplay is_at told lines g e engine ran
 StoppedReplay setup is_at told faults engine lines ran g SinkFailed =
-    FailedAt (setup engine) ran.history.items g (told engine) (told ran.engine) (faults engine) (faults ran.engine)
+    FailedAt setup ran.history.items g (told engine) (told ran.engine) (faults engine) (faults ran.engine)
 StoppedReplay setup is_at told faults engine lines ran g (CannotHappen line) =
-    Refused (setup engine) is_at told lines g line engine ran
+    Refused setup is_at told lines g line engine ran
 StoppedReplay setup is_at told faults engine lines ran g Memory = Printed (told engine) (told ran.engine) g
 
 -- the replay of a journal by an engine: a prefix of its events was made
-pub record Replayed {E : Type 0} (setup : E → Setup) (is_at : Guard → E → Type 0) (told : E → Option (List ℕ)) (faults : E → ℕ)
+pub record Replayed {E : Type 0} (setup : Setup) (is_at : Guard → E → Type 0) (told : E → Option (List ℕ)) (faults : E → ℕ)
     (engine : E) (lines : List (ℕ × Event)) (ran : Ran E) : Type 0 where
   -- the guard after the events that were made
   pub guard : Guard
-  pub same : setup ran.engine ≡ setup engine
-  pub legal : (rules : Rules) → guard_after rules (setup engine) ran.history.items ≡ Some guard
+  pub legal : (rules : Rules) → guard_after rules setup ran.history.items ≡ Some guard
   pub made : ran.history.items ≡ take (length ran.history.items) (events_of lines)
   pub later : faults engine ≤ faults ran.engine
   pub stopped : StoppedReplay setup is_at told faults engine lines ran guard ran.cause

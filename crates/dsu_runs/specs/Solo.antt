@@ -20,24 +20,23 @@ pub record EndedSolo {E : Type 0} (setup : Setup) (is_at : Guard → E → Type 
   pub printed : Printed (told engine) (told ran.engine) g
 
 -- by why it made no further event; each event that it chooses can happen
-abbrev pub StoppedSolo : {E : Type 0} (setup : E → Setup) (is_at : Guard → E → Type 0) (told : E → Option (List ℕ)) (faults : E → ℕ)
+abbrev pub StoppedSolo : {E : Type 0} (setup : Setup) (is_at : Guard → E → Type 0) (told : E → Option (List ℕ)) (faults : E → ℕ)
     → E → ℕ → Ran E → Guard → StopCause → Type 0
-StoppedSolo setup is_at told faults engine moves ran g (Ended e) = EndedSolo (setup engine) is_at told moves g e engine ran
+StoppedSolo setup is_at told faults engine moves ran g (Ended e) = EndedSolo setup is_at told moves g e engine ran
 StoppedSolo setup is_at told faults engine moves ran g SinkFailed =
-    FailedAt (setup engine) ran.history.items g (told engine) (told ran.engine) (faults engine) (faults ran.engine)
+    FailedAt setup ran.history.items g (told engine) (told ran.engine) (faults engine) (faults ran.engine)
 StoppedSolo setup is_at told faults engine moves ran g (CannotHappen line) = ⊥
 StoppedSolo setup is_at told faults engine moves ran g Memory = Printed (told engine) (told ran.engine) g
 
 -- the run of an engine by the solo schedule, with so many moves at most
-pub record RanSolo {E : Type 0} (setup : E → Setup) (is_at : Guard → E → Type 0) (told : E → Option (List ℕ)) (faults : E → ℕ)
+pub record RanSolo {E : Type 0} (setup : Setup) (is_at : Guard → E → Type 0) (told : E → Option (List ℕ)) (faults : E → ℕ)
     (engine : E) (moves : ℕ) (ran : Ran E) : Type 0 where
   -- the guard after the events that were made, and the slot that acted last
   pub guard : Guard
   pub last : Option ℕ
-  pub same : setup ran.engine ≡ setup engine
-  pub legal : (rules : Rules) → guard_after rules (setup engine) ran.history.items ≡ Some guard
+  pub legal : (rules : Rules) → guard_after rules setup ran.history.items ≡ Some guard
   -- each event is the one that the solo schedule had next
-  pub solo : (rules : Rules) → Solo rules (setup engine) (reverse ran.history.items) guard last
+  pub solo : (rules : Rules) → Solo rules setup (reverse ran.history.items) guard last
   pub most : move_count ran.history.items ≤ moves
   -- each event came while a move might still be made
   pub begun : (events : List Event) (e : Event) → ran.history.items ≡ events ++ e ∷ [] → move_count events < moves

@@ -104,9 +104,9 @@ pub record SameBut {E : Type 0} (old new : SoloRun E) : Type 0 where
   pub left : new.left ≡ old.left
 
 -- what holds of each turn
-pub record Keeps {E : Type 0} (setup : E → Setup) (faults : E → ℕ) (old new : SoloRun E) (step : Step) : Type 0 where
-  pub same : setup new.running.engine ≡ setup old.running.engine
+pub record Keeps {E : Type 0} (faults : E → ℕ) (old new : SoloRun E) (step : Step) : Type 0 where
   pub room : vec_capacity old.running.history ≤ vec_capacity new.running.history
   pub later : faults old.running.engine ≤ faults new.running.engine
   pub rose : step ≡ SinkFailed → Rose (faults old.running.engine) (faults new.running.engine)
   pub still : step ≡ CannotHappen → SameBut old new
+  pub longer : step ≡ Done → length new.running.history.items ≡ length old.running.history.items + 1

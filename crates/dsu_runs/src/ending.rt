@@ -1,6 +1,6 @@
 ghost use Rattle.std.specs.Prelude.{◌≡◌, ◌&&◌, ◌||◌, not, false, length};
 ghost use Rattle.source_model.specs.Runs.{can_move, some_can_move};
-ghost use Rattle.source_model.specs.Guards.{Guard, has_ended, seat_of};
+ghost use Rattle.source_model.specs.Guards.{Guard, Setup, has_ended, seat_of};
 ghost use Rattle.source_model.specs.Endings.{ending as ending_of, int_ending, seats_wait};
 
 use crate::{Engine, Stands};
@@ -8,7 +8,7 @@ use bytecode::Ending;
 
 /// How a run ends that ends as it is.
 pub(crate) fn ending<E: Engine>(engine: &E) -> Ending
-    ensures { (g : Guard) → E.is_at g engine.now → length g.seats ≡ length g.world.slots → result ≡ int_ending (ending_of g) }
+    ensures { (setup : Setup) (g : Guard) → E.is_at setup g engine.now → length g.seats ≡ length g.world.slots → result ≡ int_ending (ending_of g) }
 {
     match engine.finish() {
         Some(ending) => ending,
@@ -24,7 +24,7 @@ pub(crate) fn ending<E: Engine>(engine: &E) -> Ending
 
 /// Whether no thread of a run that goes on is at a check-in or can move.
 fn is_stuck<E: Engine>(engine: &E) -> bool
-    ensures { (g : Guard) → E.is_at g engine.now → has_ended g ≡ false → length g.seats ≡ length g.world.slots
+    ensures { (setup : Setup) (g : Guard) → E.is_at setup g engine.now → has_ended g ≡ false → length g.seats ≡ length g.world.slots
         → result ≡ (seats_wait g.seats && not (some_can_move g.world)) }
 {
     for slot in 0..engine.slots() {
@@ -37,7 +37,7 @@ fn is_stuck<E: Engine>(engine: &E) -> bool
 
 /// Whether the thread in a slot is at a check-in or can move.
 fn can_act<E: Engine>(engine: &E, slot: u8) -> bool
-    ensures { (g : Guard) → E.is_at g engine.now → has_ended g ≡ false
+    ensures { (setup : Setup) (g : Guard) → E.is_at setup g engine.now → has_ended g ≡ false
         → result ≡ ((seat_of g slot).at_check_in || can_move g.world slot) }
 {
     match engine.stands(slot) {

@@ -1,5 +1,5 @@
 ghost use Rattle.std.specs.Prelude.{◌≡◌, []};
-ghost use Rattle.source_model.specs.Guards.{first_guard};
+ghost use Rattle.source_model.specs.Guards.{Setup, first_guard};
 ghost use Rattle.dsu_runs.specs.Replays.{Replayed};
 
 use crate::running::{Running, Step};
@@ -9,10 +9,9 @@ use source_model::seats_fit_their_slots;
 use std::alloc::Global;
 
 /// Makes the events of a journal, each with its line, up to the first that can't happen.
-pub fn replay<E: Engine + Drop>(alloc: Global, engine: E, events: &[(u32, Event)]) -> Ran<E>
-    requires start { E.is_at (first_guard (E.setup engine)) engine }
-    requires no_offers { (E.setup engine).offers ≡ [] }
-    ensures { Replayed E.setup E.is_at E.told E.faults engine events.now result }
+pub fn replay<E: Engine>(alloc: Global, engine: E, events: &[(u32, Event)]) -> Ran<E>
+    ensures { (setup : Setup) → setup.offers ≡ [] → E.is_at setup (first_guard setup) engine
+        → Replayed setup (E.is_at setup) E.told E.faults engine events.now result }
 {
     seats_fit_their_slots();
     let Ok(history) = Vec::with_capacity(alloc, events.len()) else {

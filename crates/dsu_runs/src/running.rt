@@ -1,7 +1,7 @@
 ghost use Rattle.std.specs.Prelude.{◌≡◌, ◌≤◌, ◌<◌, length, [], ◌∷◌, ◌++◌, true, IfOk, OnErr, Ok, None};
 ghost use Rattle.std.specs.Vec.{vec_capacity};
 ghost use Rattle.dsu_io.specs.Causes.{Rose};
-ghost use Rattle.source_model.specs.Guards.{Guard};
+ghost use Rattle.source_model.specs.Guards.{Guard, Setup};
 ghost use Rattle.source_model.specs.Schedules.{makes_move};
 ghost use Rattle.source_model.specs.Endings.{ending as ending_of, int_ending};
 ghost use Rattle.dsu_runs.specs.Engines.{MakesAt};
@@ -33,9 +33,8 @@ impl<E: Engine> Running<E> {
     /// Makes an event, and keeps it.
     pub fn make(&mut self, event: Event) -> Step
         requires { length self.old.history.items < vec_capacity self.old.history }
-        ensures same { E.setup self.new.engine ≡ E.setup self.old.engine }
-        ensures made { (g : Guard) → E.is_at g self.old.engine → (E.setup self.old.engine).offers ≡ [] → g.open_offer ≡ None
-            → Steps (λ x. E.is_at x self.new.engine) (E.setup self.old.engine) event g
+        ensures made { (setup : Setup) (g : Guard) → E.is_at setup g self.old.engine → setup.offers ≡ [] → g.open_offer ≡ None
+            → Steps (λ x. E.is_at setup x self.new.engine) setup event g
             (E.told self.old.engine) (E.told self.new.engine) result }
         ensures history { self.new.history.items ≡ history_after event self.old.history.items result }
         ensures room { vec_capacity self.old.history ≤ vec_capacity self.new.history }
@@ -53,7 +52,7 @@ impl<E: Engine> Running<E> {
 
     /// The run at its end, with how it ended.
     pub fn end(self) -> Ran<E>
-        ensures { (g : Guard) → E.is_at g self.engine → length g.seats ≡ length g.world.slots
+        ensures { (setup : Setup) (g : Guard) → E.is_at setup g self.engine → length g.seats ≡ length g.world.slots
             → result ≡ ran_of self (StopCause.Ended (int_ending (ending_of g))) }
     {
         let ending = ending(&self.engine);
@@ -87,10 +86,9 @@ fn step_of(made: Result<Made, AllocError>) -> Step
 
 /// Has an engine make an event. In a run without offers none can be opened, decided or withdrawn.
 fn make<E: Engine>(engine: &mut E, event: Event) -> Result<Made, AllocError>
-    ensures same { E.setup engine.new ≡ E.setup engine.old }
-    ensures made { (g : Guard) → E.is_at g engine.old → (E.setup engine.old).offers ≡ [] → g.open_offer ≡ None
+    ensures made { (setup : Setup) (g : Guard) → E.is_at setup g engine.old → setup.offers ≡ [] → g.open_offer ≡ None
         → IfOk result
-        (MakesAt (λ x. E.is_at x engine.new) (E.setup engine.old) event g (E.told engine.old) (E.told engine.new)) }
+        (MakesAt (λ x. E.is_at setup x engine.new) setup event g (E.told engine.old) (E.told engine.new)) }
     ensures silent { OnErr result (E.told engine.new ≡ E.told engine.old) }
     ensures later { E.faults engine.old ≤ E.faults engine.new }
     ensures cause { result ≡ Ok Made.SinkFailed → Rose (E.faults engine.old) (E.faults engine.new) }

@@ -1,7 +1,7 @@
 ghost use Rattle.std.specs.Prelude.{◌≡◌, ◌-◌, length, ◌<◌, [], ℕ, true, false, None, Option};
 ghost use Rattle.std.specs.List.{range_with_len};
 ghost use Rattle.std.specs.Vec.{vec_capacity};
-ghost use Rattle.source_model.specs.Guards.{Guard, first_guard, seat_of};
+ghost use Rattle.source_model.specs.Guards.{Guard, Setup, first_guard, seat_of};
 ghost use Rattle.source_model.specs.Schedules.{act_of, first_act, slots_after};
 ghost use Rattle.dsu_runs.specs.Turns.{GoesAt, Keeps, Turned, first_after, thread_next};
 ghost use Rattle.dsu_runs.specs.Solo.{RanSolo};
@@ -23,10 +23,9 @@ pub(crate) struct SoloRun<E> {
 }
 
 /// Makes the events of the solo schedule until the run has ended, no thread can act, or so many moves were made.
-pub fn solo<E: Engine + Drop>(alloc: Global, engine: E, moves: u32) -> Ran<E>
-    requires start { E.is_at (first_guard (E.setup engine)) engine }
-    requires no_offers { (E.setup engine).offers ≡ [] }
-    ensures { RanSolo E.setup E.is_at E.told E.faults engine moves result }
+pub fn solo<E: Engine>(alloc: Global, engine: E, moves: u32) -> Ran<E>
+    ensures { (setup : Setup) → setup.offers ≡ [] → E.is_at setup (first_guard setup) engine
+        → RanSolo setup (E.is_at setup) E.told E.faults engine moves result }
 {
     seats_fit_their_slots();
     solo_schedule_goes_to_the_end();
@@ -43,7 +42,10 @@ pub fn solo<E: Engine + Drop>(alloc: Global, engine: E, moves: u32) -> Ran<E>
         first: 0,
         left: moves,
     };
-    while solo.left > 0 {
+    for _turn in 0..2 * moves as usize {
+        if solo.left == 0 {
+            return solo.running.end();
+        }
         match solo.act() {
             Step::Done => {}
             Step::CannotHappen => return solo.running.end(),
@@ -59,10 +61,10 @@ impl<E: Engine> SoloRun<E> {
     fn act(&mut self) -> Step
         requires left { 0 < self.old.left }
         requires room { length self.old.running.history.items < vec_capacity self.old.running.history }
-        ensures turned { (g : Guard) (last : Option ℕ) → E.is_at g self.old.running.engine → g.open_offer ≡ None
-            → (E.setup self.old.running.engine).offers ≡ [] → self.old.first ≡ first_after last
-            → Turned E.is_at E.told (E.setup self.old.running.engine) g (thread_next g last) self.old self.new result }
-        ensures kept { Keeps E.setup E.faults self.old self.new result }
+        ensures turned { (setup : Setup) (g : Guard) (last : Option ℕ) → E.is_at setup g self.old.running.engine → g.open_offer ≡ None
+            → setup.offers ≡ [] → self.old.first ≡ first_after last
+            → Turned (E.is_at setup) E.told setup g (thread_next g last) self.old self.new result }
+        ensures kept { Keeps E.faults self.old self.new result }
     {
         if self.running.engine.finish().is_some() {
             return Step::CannotHappen;
@@ -74,11 +76,11 @@ impl<E: Engine> SoloRun<E> {
     fn act_in_turn(&mut self) -> Step
         requires left { 0 < self.old.left }
         requires room { length self.old.running.history.items < vec_capacity self.old.running.history }
-        ensures turned { (g : Guard) (last : Option ℕ) → GoesAt E.is_at g self.old.running.engine
-            → (E.setup self.old.running.engine).offers ≡ [] → self.old.first ≡ first_after last
-            → Turned E.is_at E.told (E.setup self.old.running.engine) g (first_act g (slots_after (length g.seats) last))
+        ensures turned { (setup : Setup) (g : Guard) (last : Option ℕ) → GoesAt (E.is_at setup) g self.old.running.engine
+            → setup.offers ≡ [] → self.old.first ≡ first_after last
+            → Turned (E.is_at setup) E.told setup g (first_act g (slots_after (length g.seats) last))
             self.old self.new result }
-        ensures kept { Keeps E.setup E.faults self.old self.new result }
+        ensures kept { Keeps E.faults self.old self.new result }
     {
         let first = self.first;
         let slots = self.running.engine.slots();
@@ -92,11 +94,11 @@ impl<E: Engine> SoloRun<E> {
     fn act_within(&mut self, from: u8, to: u8) -> Step
         requires left { 0 < self.old.left }
         requires room { length self.old.running.history.items < vec_capacity self.old.running.history }
-        ensures turned { (g : Guard) → GoesAt E.is_at g self.old.running.engine
-            → (E.setup self.old.running.engine).offers ≡ []
-            → Turned E.is_at E.told (E.setup self.old.running.engine) g (first_act g (range_with_len from (to - from)))
+        ensures turned { (setup : Setup) (g : Guard) → GoesAt (E.is_at setup) g self.old.running.engine
+            → setup.offers ≡ []
+            → Turned (E.is_at setup) E.told setup g (first_act g (range_with_len from (to - from)))
             self.old self.new result }
-        ensures kept { Keeps E.setup E.faults self.old self.new result }
+        ensures kept { Keeps E.faults self.old self.new result }
     {
         for slot in from..to {
             match self.act_in(slot) {
@@ -112,10 +114,10 @@ impl<E: Engine> SoloRun<E> {
         requires left { 0 < self.old.left }
         requires room { length self.old.running.history.items < vec_capacity self.old.running.history }
         requires within { slot < 255 }
-        ensures turned { (g : Guard) → GoesAt E.is_at g self.old.running.engine
-            → (E.setup self.old.running.engine).offers ≡ []
-            → Turned E.is_at E.told (E.setup self.old.running.engine) g (act_of g slot) self.old self.new result }
-        ensures kept { Keeps E.setup E.faults self.old self.new result }
+        ensures turned { (setup : Setup) (g : Guard) → GoesAt (E.is_at setup) g self.old.running.engine
+            → setup.offers ≡ []
+            → Turned (E.is_at setup) E.told setup g (act_of g slot) self.old self.new result }
+        ensures kept { Keeps E.faults self.old self.new result }
     {
         match self.running.engine.stands(slot) {
             Stands::NoThread => Step::CannotHappen,
@@ -128,10 +130,10 @@ impl<E: Engine> SoloRun<E> {
     fn check_in(&mut self, slot: u8) -> Step
         requires room { length self.old.running.history.items < vec_capacity self.old.running.history }
         requires within { slot < 255 }
-        ensures turned { (g : Guard) → GoesAt E.is_at g self.old.running.engine
-            → (E.setup self.old.running.engine).offers ≡ [] → (seat_of g slot).at_check_in ≡ true
-            → Turned E.is_at E.told (E.setup self.old.running.engine) g (act_of g slot) self.old self.new result }
-        ensures kept { Keeps E.setup E.faults self.old self.new result }
+        ensures turned { (setup : Setup) (g : Guard) → GoesAt (E.is_at setup) g self.old.running.engine
+            → setup.offers ≡ [] → (seat_of g slot).at_check_in ≡ true
+            → Turned (E.is_at setup) E.told setup g (act_of g slot) self.old self.new result }
+        ensures kept { Keeps E.faults self.old self.new result }
     {
         let step = self.running.make(Event::CheckIn(slot));
         match step {
@@ -146,10 +148,10 @@ impl<E: Engine> SoloRun<E> {
         requires left { 0 < self.old.left }
         requires room { length self.old.running.history.items < vec_capacity self.old.running.history }
         requires within { slot < 255 }
-        ensures turned { (g : Guard) → GoesAt E.is_at g self.old.running.engine
-            → (E.setup self.old.running.engine).offers ≡ [] → (seat_of g slot).at_check_in ≡ false
-            → Turned E.is_at E.told (E.setup self.old.running.engine) g (act_of g slot) self.old self.new result }
-        ensures kept { Keeps E.setup E.faults self.old self.new result }
+        ensures turned { (setup : Setup) (g : Guard) → GoesAt (E.is_at setup) g self.old.running.engine
+            → setup.offers ≡ [] → (seat_of g slot).at_check_in ≡ false
+            → Turned (E.is_at setup) E.told setup g (act_of g slot) self.old self.new result }
+        ensures kept { Keeps E.faults self.old self.new result }
     {
         let step = self.running.make(Event::Move(slot));
         match step {

@@ -1,5 +1,5 @@
 use bytecode::Ending;
-use dsu_runs::{Engine, Made, Stands};
+use dsu_runs::{Engine, Made, Stands, Waiting};
 use std::alloc::AllocError;
 
 /// How far the run of a text without definitions has come.
@@ -23,9 +23,7 @@ impl Engine for Tiny {
     ghost use Rattle.std.specs.Prelude.{◌≡◌, [], Some};
     ghost use Rattle.dsu_runs_tests.specs.SmallRun.{guard_at, tiny};
 
-    ghost setup = { λ engine. tiny };
-
-    ghost is_at = { λ g engine. g ≡ guard_at engine.stage };
+    ghost is_at = { λ setup g engine. (setup ≡ tiny) × (g ≡ guard_at engine.stage) };
 
     ghost told = { λ engine. Some [] };
 
@@ -59,6 +57,10 @@ impl Engine for Tiny {
             Stage::Moved => false,
             Stage::Passed => false,
         }
+    }
+
+    fn waits(&self, _slot: u8) -> Option<Waiting<'_>> {
+        None
     }
 
     fn act(&mut self, slot: u8) -> Result<Made, AllocError> {

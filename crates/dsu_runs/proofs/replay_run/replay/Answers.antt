@@ -1,24 +1,30 @@
-use Rattle.std.proofs.Common.{refl, sym, subst, arith}
+use Rattle.std.proofs.Common.{◌∙◌, ◌∷◌, ◌+◌, [], ap, length, length-append, refl, sym, subst, arith}
 use Rattle.std.specs.Prelude.{slice_index_or}
 use Rattle.bytecode.specs.declared.run.Event.TheVariants.{Move}
 use Rattle.source_model.specs.Endings.{ending, int_ending}
 use Rattle.dsu_runs.specs.Replays.{Replayed}
+use Rattle.dsu_runs.specs.Turns.{history_after}
 use Rattle.dsu_runs.proofs.Coming.{Tries}
 use Rattle.dsu_runs.proofs.Happening.{any_rules}
-use Rattle.dsu_runs.proofs.Replaying.{count, failed, finished, lacks, line_there, no_room, one_more, refused, starts}
+use Rattle.dsu_runs.proofs.Replaying.{failed, finished, lacks, line_there, no_room, one_more, refused, starts}
 use Rattle.dsu_runs.proofs.replay_run.replay.Goals as goal
 
 pub returns-in_default : goal.returns-in_default
-returns-in_default g c =
+returns-in_default g c = λ setup offers start.
     let e = g.E.Engine in
-    no_room e.setup e.is_at e.told e.faults c.args.engine c.args.events.now (record { engine = c.args.engine; history = c.new.result }) refl
+    no_room setup (e.is_at setup) e.told e.faults c.args.engine c.args.events.now (record { engine = c.args.engine; history = c.new.result }) refl
     c.new.ensures.items
 
 pub loop-line-init : goal.loop-line-init
 loop-line-init g c =
     let e = g.E.Engine in
-    starts e.setup e.is_at e.told e.faults c.args.engine c.args.events.now (record { engine = c.args.engine; history = c.in-Ok.history }) refl
-    c.in-Ok.ensures.items c.in-Ok.ensures.capacity c.requires.start
+    record {
+      made = λ setup offers start.
+          starts setup (e.is_at setup) e.told e.faults c.args.engine c.args.events.now
+          (record { engine = c.args.engine; history = c.in-Ok.history }) refl c.in-Ok.ensures.items start;
+      counted = ap length c.in-Ok.ensures.items;
+      room = c.in-Ok.ensures.capacity;
+    }
 
 pub loop-line-preserved : goal.loop-line-preserved
 loop-line-preserved g c =
@@ -29,27 +35,31 @@ loop-line-preserved g c =
     let old = c.loop-line.running in
     let new = c.make.new.self in
     let line = slice_index_or lines n (0, Move 0) in
-    let tries : Tries e.setup e.is_at e.told e.faults old new line.1 c.make.result = record {
-      same = m.same;
-      made = m.made;
-      history = m.history;
-      room = m.room;
-      later = m.later;
-      cause = m.cause;
-      moves = m.moves;
-    } in
-    one_more e.setup e.is_at e.told e.faults c.args.engine lines n old new line c.make.result c.requires.no_offers c.loop-line.invariant
-    (line_there lines n c.loop-line-test.true) tries c.in-Done.is
+    record {
+      made = λ setup offers start.
+          let tries : Tries setup (e.is_at setup) e.told e.faults old new line.1 c.make.result = record {
+            made = λ x there. m.made setup x there offers;
+            history = m.history;
+            later = m.later;
+            cause = m.cause;
+            moves = m.moves;
+          } in
+          one_more setup (e.is_at setup) e.told e.faults c.args.engine lines n old new line c.make.result offers
+          (c.loop-line.invariant.made setup offers start) (line_there lines n c.loop-line-test.true) tries c.in-Done.is;
+      counted =
+          ap length (m.history ∙ ap (history_after line.1 old.history.items) c.in-Done.is)
+          ∙ length-append old.history.items (line.1 ∷ [])
+          ∙ ap (λ k. k + 1) c.loop-line.invariant.counted;
+      room = let more = m.room in omega (arith, c.loop-line.invariant.room, more);
+    }
 
 pub make-requires : goal.make-requires
 make-requires g c =
-    let e = g.E.Engine in
     let at = c.loop-line.invariant in
-    let long = count e.setup e.is_at e.told e.faults c.args.engine c.args.events.now c.loop-line.line-index c.loop-line.running at in
-    omega (arith, long, at.room, c.loop-line-test.true)
+    omega (arith, at.counted, at.room, c.loop-line-test.true)
 
 pub returns-in-CannotHappen : goal.returns-in-CannotHappen
-returns-in-CannotHappen g c =
+returns-in-CannotHappen g c = λ setup offers start.
     let e = g.E.Engine in
     let m = c.make.ensures in
     let lines = c.args.events.now in
@@ -57,21 +67,19 @@ returns-in-CannotHappen g c =
     let old = c.loop-line.running in
     let new = c.make.new.self in
     let line = slice_index_or lines n (0, Move 0) in
-    let tries : Tries e.setup e.is_at e.told e.faults old new line.1 c.make.result = record {
-      same = m.same;
-      made = m.made;
+    let tries : Tries setup (e.is_at setup) e.told e.faults old new line.1 c.make.result = record {
+      made = λ x there. m.made setup x there offers;
       history = m.history;
-      room = m.room;
       later = m.later;
       cause = m.cause;
       moves = m.moves;
     } in
-    subst (Replayed e.setup e.is_at e.told e.faults c.args.engine lines) (sym c.stop.ensures)
-    (refused e.setup e.is_at e.told e.faults c.args.engine lines n old new line c.make.result c.requires.no_offers c.loop-line.invariant
-    (line_there lines n c.loop-line-test.true) tries c.in-CannotHappen.is)
+    subst (Replayed setup (e.is_at setup) e.told e.faults c.args.engine lines) (sym c.stop.ensures)
+    (refused setup (e.is_at setup) e.told e.faults c.args.engine lines n old new line c.make.result offers
+    (c.loop-line.invariant.made setup offers start) (line_there lines n c.loop-line-test.true) tries c.in-CannotHappen.is)
 
 pub returns-in-SinkFailed : goal.returns-in-SinkFailed
-returns-in-SinkFailed g c =
+returns-in-SinkFailed g c = λ setup offers start.
     let e = g.E.Engine in
     let m = c.make.ensures in
     let lines = c.args.events.now in
@@ -79,21 +87,19 @@ returns-in-SinkFailed g c =
     let old = c.loop-line.running in
     let new = c.make.new.self in
     let line = slice_index_or lines n (0, Move 0) in
-    let tries : Tries e.setup e.is_at e.told e.faults old new line.1 c.make.result = record {
-      same = m.same;
-      made = m.made;
+    let tries : Tries setup (e.is_at setup) e.told e.faults old new line.1 c.make.result = record {
+      made = λ x there. m.made setup x there offers;
       history = m.history;
-      room = m.room;
       later = m.later;
       cause = m.cause;
       moves = m.moves;
     } in
-    subst (Replayed e.setup e.is_at e.told e.faults c.args.engine lines) (sym c.stop-in-SinkFailed.ensures)
-    (failed e.setup e.is_at e.told e.faults c.args.engine lines n old new line c.make.result c.requires.no_offers c.loop-line.invariant
-    (line_there lines n c.loop-line-test.true) tries c.in-SinkFailed.is)
+    subst (Replayed setup (e.is_at setup) e.told e.faults c.args.engine lines) (sym c.stop-in-SinkFailed.ensures)
+    (failed setup (e.is_at setup) e.told e.faults c.args.engine lines n old new line c.make.result offers
+    (c.loop-line.invariant.made setup offers start) (line_there lines n c.loop-line-test.true) tries c.in-SinkFailed.is)
 
 pub returns-in-Memory : goal.returns-in-Memory
-returns-in-Memory g c =
+returns-in-Memory g c = λ setup offers start.
     let e = g.E.Engine in
     let m = c.make.ensures in
     let lines = c.args.events.now in
@@ -101,25 +107,24 @@ returns-in-Memory g c =
     let old = c.loop-line.running in
     let new = c.make.new.self in
     let line = slice_index_or lines n (0, Move 0) in
-    let tries : Tries e.setup e.is_at e.told e.faults old new line.1 c.make.result = record {
-      same = m.same;
-      made = m.made;
+    let tries : Tries setup (e.is_at setup) e.told e.faults old new line.1 c.make.result = record {
+      made = λ x there. m.made setup x there offers;
       history = m.history;
-      room = m.room;
       later = m.later;
       cause = m.cause;
       moves = m.moves;
     } in
-    subst (Replayed e.setup e.is_at e.told e.faults c.args.engine lines) (sym c.stop-in-Memory.ensures)
-    (lacks e.setup e.is_at e.told e.faults c.args.engine lines n old new line c.make.result c.requires.no_offers c.loop-line.invariant
-    (line_there lines n c.loop-line-test.true) tries c.in-Memory.is)
+    subst (Replayed setup (e.is_at setup) e.told e.faults c.args.engine lines) (sym c.stop-in-Memory.ensures)
+    (lacks setup (e.is_at setup) e.told e.faults c.args.engine lines n old new line c.make.result offers
+    (c.loop-line.invariant.made setup offers start) (line_there lines n c.loop-line-test.true) tries c.in-Memory.is)
 
 pub returns : goal.returns
-returns g c =
+returns g c = λ setup offers start.
     let e = g.E.Engine in
-    let at = c.loop-line.invariant in
+    let at = c.loop-line.invariant.made setup offers start in
     let seats =
-    c.seats_fit_their_slots.ensures any_rules (e.setup c.args.engine) c.loop-line.running.history.items at.guard (at.came.legal any_rules) in
-    subst (Replayed e.setup e.is_at e.told e.faults c.args.engine c.args.events.now) (sym (c.end.ensures at.guard at.there seats.count))
-    (finished e.setup e.is_at e.told e.faults c.args.engine c.args.events.now c.loop-line.line-index c.loop-line.running
+    c.seats_fit_their_slots.ensures any_rules setup c.loop-line.running.history.items at.guard (at.came.legal any_rules) in
+    subst (Replayed setup (e.is_at setup) e.told e.faults c.args.engine c.args.events.now)
+    (sym (c.end.ensures setup at.guard at.there seats.count))
+    (finished setup (e.is_at setup) e.told e.faults c.args.engine c.args.events.now c.loop-line.line-index c.loop-line.running
     (int_ending (ending at.guard)) at c.loop-line-test.false refl)

@@ -1,87 +1,105 @@
-use Rattle.std.proofs.Common.{◌∙◌, ap, refl, subst, sym}
+use Rattle.std.proofs.Common.{◌∙◌, ◌+◌, ap, length, refl, subst, sym, arith}
 use Rattle.dsu_runs.specs.Solo.{RanSolo}
 use Rattle.dsu_runs.proofs.Happening.{any_rules}
-use Rattle.dsu_runs.proofs.Soloing.{failed, finished, lacks, no_room, none_next, one_more, smaller, used_up, waits}
+use Rattle.dsu_runs.proofs.Soloing.{failed, finished, lacks, no_room, none_left, none_next, one_more, starts, used_up, waits}
 use Rattle.dsu_runs.proofs.solo_run.solo.Goals as goal
 
 pub returns-in_default : goal.returns-in_default
-returns-in_default g c =
+returns-in_default g c = λ setup offers start.
     let e = g.E.Engine in
-    no_room e.setup e.is_at e.told e.faults c.args.engine c.args.moves (record { engine = c.args.engine; history = c.new.result }) refl
+    no_room setup (e.is_at setup) e.told e.faults c.args.engine c.args.moves (record { engine = c.args.engine; history = c.new.result }) refl
     c.new.ensures.items
 
-pub loop-solo-preserved : goal.loop-solo-preserved
-loop-solo-preserved g c =
+pub loop-turn-init : goal.loop-turn-init
+loop-turn-init g c =
     let e = g.E.Engine in
-    let old = c.loop-solo.solo in
-    let new = c.act.new.self in
-    let at = c.loop-solo.invariant in
-    let turned =
-    c.act.ensures.turned at.guard at.last at.there at.came.none_open (ap (λ s. s.offers) at.same ∙ c.requires.no_offers) at.first in
-    one_more e.setup e.is_at e.told e.faults c.args.engine c.args.moves old new c.act.result c.requires.no_offers at c.loop-solo-test.true
-    c.act.ensures.kept turned c.in-Done.is
+    record {
+      going = λ setup offers start.
+          starts setup (e.is_at setup) e.told e.faults c.args.engine c.args.moves
+          (record { running = record { engine = c.args.engine; history = c.in-Ok.history }; first = 0; left = c.args.moves }) refl
+          c.in-Ok.ensures.items refl refl start;
+      counted = ap length c.in-Ok.ensures.items;
+      room = c.in-Ok.ensures.capacity;
+    }
 
-pub loop-solo-smaller : goal.loop-solo-smaller
-loop-solo-smaller g c =
+pub loop-turn-preserved : goal.loop-turn-preserved
+loop-turn-preserved g c =
     let e = g.E.Engine in
-    let old = c.loop-solo.solo in
+    let old = c.loop-turn.solo in
     let new = c.act.new.self in
-    let at = c.loop-solo.invariant in
-    let turned =
-    c.act.ensures.turned at.guard at.last at.there at.came.none_open (ap (λ s. s.offers) at.same ∙ c.requires.no_offers) at.first in
-    smaller e.setup e.is_at e.told e.faults c.args.engine c.args.moves old new c.act.result c.requires.no_offers at c.loop-solo-test.true
-    c.act.ensures.kept turned c.in-Done.is
+    let at = c.loop-turn.invariant in
+    let kept = c.act.ensures.kept in
+    record {
+      going = λ setup offers start.
+          let now = at.going setup offers start in
+          one_more setup (e.is_at setup) e.told e.faults c.args.engine c.args.moves old new c.act.result offers now (omega (arith, c.if-solo-eq0.false))
+          kept (c.act.ensures.turned setup now.guard now.last now.there now.came.none_open offers now.first) c.in-Done.is;
+      counted = kept.longer c.in-Done.is ∙ ap (λ n. n + 1) at.counted;
+      room = let more = kept.room in omega (arith, at.room, more);
+    }
+
+pub returns-then-solo-eq0 : goal.returns-then-solo-eq0
+returns-then-solo-eq0 g c = λ setup offers start.
+    let e = g.E.Engine in
+    let s = c.loop-turn.solo in
+    let at = c.loop-turn.invariant.going setup offers start in
+    let seats = c.seats_fit_their_slots.ensures any_rules setup s.running.history.items at.guard (at.came.legal any_rules) in
+    subst (RanSolo setup (e.is_at setup) e.told e.faults c.args.engine c.args.moves) (sym (c.end.ensures setup at.guard at.there seats.count))
+    (finished setup (e.is_at setup) e.told e.faults c.args.engine c.args.moves s offers at
+    (used_up setup (e.is_at setup) e.told e.faults c.args.engine c.args.moves s offers at (omega (arith, c.if-solo-eq0.true))))
 
 pub returns-in-CannotHappen : goal.returns-in-CannotHappen
-returns-in-CannotHappen g c =
+returns-in-CannotHappen g c = λ setup offers start.
     let e = g.E.Engine in
-    let old = c.loop-solo.solo in
+    let old = c.loop-turn.solo in
     let new = c.act.new.self in
-    let at = c.loop-solo.invariant in
-    let turned =
-    c.act.ensures.turned at.guard at.last at.there at.came.none_open (ap (λ s. s.offers) at.same ∙ c.requires.no_offers) at.first in
+    let at = c.loop-turn.invariant.going setup offers start in
+    let turned = c.act.ensures.turned setup at.guard at.last at.there at.came.none_open offers at.first in
     let now =
-    waits e.setup e.is_at e.told e.faults c.args.engine c.args.moves old new c.act.result c.requires.no_offers at c.loop-solo-test.true
+    waits setup (e.is_at setup) e.told e.faults c.args.engine c.args.moves old new c.act.result offers at (omega (arith, c.if-solo-eq0.false))
     c.act.ensures.kept turned c.in-CannotHappen.is in
-    let seats =
-    c.seats_fit_their_slots.ensures any_rules (e.setup c.args.engine) new.running.history.items now.0.guard (now.0.came.legal any_rules) in
-    subst (RanSolo e.setup e.is_at e.told e.faults c.args.engine c.args.moves)
-    (sym (c.end.ensures now.0.guard now.0.there seats.count))
-    (finished e.setup e.is_at e.told e.faults c.args.engine c.args.moves new c.requires.no_offers now.0
-    (none_next e.setup e.is_at e.told e.faults c.args.engine c.args.moves new c.requires.no_offers now.0
+    let seats = c.seats_fit_their_slots.ensures any_rules setup new.running.history.items now.0.guard (now.0.came.legal any_rules) in
+    subst (RanSolo setup (e.is_at setup) e.told e.faults c.args.engine c.args.moves)
+    (sym (c.end-in-CannotHappen.ensures setup now.0.guard now.0.there seats.count))
+    (finished setup (e.is_at setup) e.told e.faults c.args.engine c.args.moves new offers now.0
+    (none_next setup (e.is_at setup) e.told e.faults c.args.engine c.args.moves new offers now.0
     c.solo_schedule_goes_to_the_end.ensures.nothing_next now.1))
 
 pub returns-in-SinkFailed : goal.returns-in-SinkFailed
-returns-in-SinkFailed g c =
+returns-in-SinkFailed g c = λ setup offers start.
     let e = g.E.Engine in
-    let old = c.loop-solo.solo in
+    let old = c.loop-turn.solo in
     let new = c.act.new.self in
-    let at = c.loop-solo.invariant in
-    let turned =
-    c.act.ensures.turned at.guard at.last at.there at.came.none_open (ap (λ s. s.offers) at.same ∙ c.requires.no_offers) at.first in
-    subst (RanSolo e.setup e.is_at e.told e.faults c.args.engine c.args.moves) (sym c.stop.ensures)
-    (failed e.setup e.is_at e.told e.faults c.args.engine c.args.moves old new c.act.result c.requires.no_offers at c.loop-solo-test.true
+    let at = c.loop-turn.invariant.going setup offers start in
+    let turned = c.act.ensures.turned setup at.guard at.last at.there at.came.none_open offers at.first in
+    subst (RanSolo setup (e.is_at setup) e.told e.faults c.args.engine c.args.moves) (sym c.stop.ensures)
+    (failed setup (e.is_at setup) e.told e.faults c.args.engine c.args.moves old new c.act.result offers at (omega (arith, c.if-solo-eq0.false))
     c.act.ensures.kept turned c.in-SinkFailed.is)
 
 pub returns-in-Memory : goal.returns-in-Memory
-returns-in-Memory g c =
+returns-in-Memory g c = λ setup offers start.
     let e = g.E.Engine in
-    let old = c.loop-solo.solo in
+    let old = c.loop-turn.solo in
     let new = c.act.new.self in
-    let at = c.loop-solo.invariant in
-    let turned =
-    c.act.ensures.turned at.guard at.last at.there at.came.none_open (ap (λ s. s.offers) at.same ∙ c.requires.no_offers) at.first in
-    subst (RanSolo e.setup e.is_at e.told e.faults c.args.engine c.args.moves) (sym c.stop-in-Memory.ensures)
-    (lacks e.setup e.is_at e.told e.faults c.args.engine c.args.moves old new c.act.result c.requires.no_offers at c.loop-solo-test.true
+    let at = c.loop-turn.invariant.going setup offers start in
+    let turned = c.act.ensures.turned setup at.guard at.last at.there at.came.none_open offers at.first in
+    subst (RanSolo setup (e.is_at setup) e.told e.faults c.args.engine c.args.moves) (sym c.stop-in-Memory.ensures)
+    (lacks setup (e.is_at setup) e.told e.faults c.args.engine c.args.moves old new c.act.result offers at (omega (arith, c.if-solo-eq0.false))
     c.act.ensures.kept turned c.in-Memory.is)
 
 pub returns : goal.returns
-returns g c =
+returns g c = λ setup offers start.
     let e = g.E.Engine in
-    let s = c.loop-solo.solo in
-    let at = c.loop-solo.invariant in
-    let seats =
-    c.seats_fit_their_slots.ensures any_rules (e.setup c.args.engine) s.running.history.items at.guard (at.came.legal any_rules) in
-    subst (RanSolo e.setup e.is_at e.told e.faults c.args.engine c.args.moves) (sym (c.end-2.ensures at.guard at.there seats.count))
-    (finished e.setup e.is_at e.told e.faults c.args.engine c.args.moves s c.requires.no_offers at
-    (used_up e.setup e.is_at e.told e.faults c.args.engine c.args.moves s c.requires.no_offers at c.loop-solo-test.false))
+    let s = c.loop-turn.solo in
+    let at = c.loop-turn.invariant.going setup offers start in
+    let seats = c.seats_fit_their_slots.ensures any_rules setup s.running.history.items at.guard (at.came.legal any_rules) in
+    subst (RanSolo setup (e.is_at setup) e.told e.faults c.args.engine c.args.moves) (sym (c.end-2.ensures setup at.guard at.there seats.count))
+    (finished setup (e.is_at setup) e.told e.faults c.args.engine c.args.moves s offers at
+    (used_up setup (e.is_at setup) e.told e.faults c.args.engine c.args.moves s offers at
+    (none_left setup (e.is_at setup) e.told e.faults c.args.engine c.args.moves s at
+    (omega (arith, c.loop-turn.invariant.counted, c.loop-turn-test.false)))))
+
+pub act-requires-clause-room : goal.act-requires-clause-room
+act-requires-clause-room g c =
+    let at = c.loop-turn.invariant in
+    omega (arith, at.counted, at.room, c.loop-turn-test.true)

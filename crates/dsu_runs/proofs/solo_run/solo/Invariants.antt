@@ -1,9 +1,15 @@
-use Rattle.std.proofs.Common.{◌-◌, ◌*◌, length}
+use Rattle.std.proofs.Common.{◌≡◌, ◌≤◌, ◌*◌, [], length}
+use Rattle.std.specs.Prelude.{vec_capacity}
+use Rattle.source_model.specs.Guards.{Setup, first_guard}
 use Rattle.dsu_runs.proofs.Soloing.{Going}
 use Rattle.dsu_runs.proofs.solo_run.solo.Given as goal
 
-abbrev pub invariant-loop-solo : goal.invariant-loop-solo
-invariant-loop-solo g l = let e = g.E.Engine in Going e.setup e.is_at e.told e.faults l.fn.engine l.fn.moves l.solo
-
-abbrev pub decreases-loop-solo : goal.decreases-loop-solo
-decreases-loop-solo g l = 2 * l.fn.moves - length l.solo.running.history.items
+abbrev pub invariant-loop-turn : goal.invariant-loop-turn
+invariant-loop-turn g l =
+    let e = g.E.Engine in
+    record {
+      going : (setup : Setup) → setup.offers ≡ [] → e.is_at setup (first_guard setup) l.fn.engine
+          → Going setup (e.is_at setup) e.told e.faults l.fn.engine l.fn.moves l.solo;
+      counted : length l.solo.running.history.items ≡ l._turn;
+      room : 2 * l.fn.moves ≤ vec_capacity l.solo.running.history;
+    }

@@ -1,6 +1,6 @@
 use Rattle.std.proofs.Common.{◌≡◌, ◌-◌, [], None}
 use Rattle.std.specs.List.{range_with_len}
-use Rattle.source_model.specs.Guards.{Guard}
+use Rattle.source_model.specs.Guards.{Guard, Setup}
 use Rattle.source_model.specs.Schedules.{first_act}
 use Rattle.dsu_runs.specs.Turns.{GoesAt, Keeps, Waits}
 use Rattle.dsu_runs.specs.declared.running.Step.TheVariants.{CannotHappen}
@@ -10,8 +10,8 @@ abbrev pub invariant-loop-slot : goal.invariant-loop-slot
 invariant-loop-slot g l =
     let e = g.E.Engine in
     record {
-      kept : Keeps e.setup e.faults l.fn.self l.self CannotHappen;
-      turned : (x : Guard) → GoesAt e.is_at x l.fn.self.running.engine → (e.setup l.fn.self.running.engine).offers ≡ []
-          → Waits e.is_at e.told x None l.fn.self l.self
+      kept : Keeps e.faults l.fn.self l.self CannotHappen;
+      turned : (setup : Setup) (x : Guard) → GoesAt (e.is_at setup) x l.fn.self.running.engine → setup.offers ≡ []
+          → Waits (e.is_at setup) e.told x None l.fn.self l.self
           × (first_act x (range_with_len l.slot (l.to - l.slot)) ≡ first_act x (range_with_len l.from (l.to - l.from)));
     }

@@ -8,11 +8,11 @@ returns-in-CannotHappen g c =
     let old = c.args.self.now in
     let made = c.make-step.ensures in
     record {
-      turned = λ x goes offers at.
-          no_check_in e.is_at e.told (e.setup old.running.engine) x old c.make-step.new.self c.args.slot c.make-step.result goes at
+      turned = λ setup x goes offers at.
+          no_check_in (e.is_at setup) e.told setup x old c.make-step.new.self c.args.slot c.make-step.result goes at
           (not_done c.make-step.result c.in-CannotHappen.is)
-          (made.made x goes.there offers goes.none_open, made.history, made.moves);
+          (made.made setup x goes.there offers goes.none_open, made.history, made.moves);
       kept =
-          kept e.setup e.faults old c.make-step.new.self (CheckIn c.args.slot) c.make-step.result made.same made.room made.later
+          kept e.faults old c.make-step.new.self (CheckIn c.args.slot) c.make-step.result made.room made.later
           made.cause made.history;
     }

@@ -1,0 +1,4 @@
+mod Printing
+mod Seats
+mod Standing
+mod Moving

@@ -1,0 +1,62 @@
+-- What a sink shows after the rest of an output was handed to it.
+use Rattle.std.proofs.Common.{◌≡◌, ℕ, ◌+◌, ◌-◌, ◌<◌, ◌≤◌, List, ◌++◌, take, Option, Some, None, sym, ◌∙◌, ap, subst, arith, append_assoc}
+use Rattle.std.specs.Prelude.{length, drop}
+use Rattle.std.specs.Io.KnownBytes.{Appends}
+use Rattle.std.proofs.Transfers.{drop-appended}
+use Rattle.std.proofs.Math.Seq.{take-append-add}
+use Rattle.std.proofs.lemmas.List.{take_rest}
+use Rattle.std.proofs.lemmas.Option.{none-some, same_Some}
+use Rattle.dsu_io.specs.Sinks.{AppendsFront}
+use Rattle.dsu_runs.specs.declared.engine.Made.TheVariants.{Done, SinkFailed}
+use Rattle.plain_engine.specs.Plain.{Wrote}
+
+-- bytes that are appended to what was shown before
+appended : (told now : Option (List ℕ)) (before out bytes all : List ℕ) → told ≡ Some (before ++ out) → Appends told now bytes
+    → out ++ bytes ≡ all → now ≡ Some (before ++ all)
+appended None now before out bytes all is grew whole = absurd (none-some (before ++ out) is)
+appended (Some xs) None before out bytes all is grew whole = absurd grew
+appended (Some xs) (Some ys) before out bytes all is grew whole =
+    ap Some
+    (grew
+    ∙ ap (λ b. b ++ bytes) (same_Some xs (before ++ out) is)
+    ∙ append_assoc before out bytes
+    ∙ ap (λ b. before ++ b) whole)
+
+-- all of the rest
+pub grew_all : (told now : Option (List ℕ)) (out more all : List ℕ) (printed : ℕ) → all ≡ out ++ more → printed ≡ length out
+    → Appends told now (drop printed all) → (before : List ℕ) → told ≡ Some (before ++ out) → now ≡ Some (before ++ all)
+grew_all told now out more all printed whole from grew before is =
+    appended told now before out (drop printed all) all is grew
+    (ap (λ b. out ++ b) (ap (λ n. drop n all) from ∙ drop-appended out all more whole) ∙ sym whole)
+
+-- a prefix of it
+pub grew_partly : (told now : Option (List ℕ)) (out more all : List ℕ) (printed n : ℕ) → all ≡ out ++ more → printed ≡ length out
+    → Appends told now (take n (drop printed all)) → (before : List ℕ) → told ≡ Some (before ++ out)
+    → (k : ℕ) × (length out ≤ k) × (now ≡ Some (before ++ take k all))
+grew_partly told now out more all printed n whole from grew before is = (
+  length out + n,
+  omega arith,
+  appended told now before out (take n (drop printed all)) (take (length out + n) all) is grew
+      (ap (λ b. out ++ take n b) (ap (λ k. drop k all) from ∙ drop-appended out all more whole)
+      ∙ sym (take-append-add out more n)
+      ∙ ap (take (length out + n)) (sym whole)),
+)
+
+-- what came of handing the rest of an output to a sink
+pub wrote_all : (told now : Option (List ℕ)) (seen output : List ℕ) (printed : ℕ) → seen ≡ output
+    → Appends told now (take (length seen - printed) (drop printed seen)) → Wrote output printed told now (length seen) Done
+wrote_all told now seen output printed is grew = (
+  ap length is,
+  subst (λ bytes. Appends told now (drop printed bytes)) is (subst (Appends told now) (take_rest seen printed) grew),
+)
+
+pub wrote_partly : (told now : Option (List ℕ)) (seen output : List ℕ) (printed new : ℕ) → seen ≡ output
+    → AppendsFront told now (take (length seen - printed) (drop printed seen)) → Wrote output printed told now new SinkFailed
+wrote_partly told now seen output printed new is part = (
+  part.0,
+  subst (λ bytes. Appends told now (take part.0 (drop printed bytes))) is
+      (subst (λ bytes. Appends told now (take part.0 bytes)) (take_rest seen printed) part.2),
+)
+
+pub none_missing : (seen output : List ℕ) (printed : ℕ) → seen ≡ output → printed ≤ length output → length seen < printed → ⊥
+none_missing seen output printed is within fewer = let same = ap length is in omega (arith, same, within, fewer)
