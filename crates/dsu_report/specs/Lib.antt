@@ -2,3 +2,4 @@ pub mod Endings
 pub mod Faults
 pub mod Places
 pub mod Statuses
+pub mod Waits

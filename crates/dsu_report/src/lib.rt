@@ -7,6 +7,7 @@
 //! - [`fault`]: the faults and their words
 //! - [`write`]: the lines
 //! - [`ending`]: how a run ended
+//! - [`wait`]: what threads wait for after a deadlock
 //! - [`status`]: the statuses with which a program ends
 #![tactic(auto)]
 
@@ -14,10 +15,12 @@ mod ending;
 mod fault;
 mod place;
 mod status;
+mod wait;
 mod write;
 
 pub use ending::{trap_word, write_ending};
 pub use fault::{FaultLine, LineWord};
 pub use place::{Place, place_of};
 pub use status::ending_status;
+pub use wait::{write_mutex_wait, write_thread_wait};
 pub use write::{USAGE, write_fault};

@@ -1,6 +1,1 @@
 pub mod Words
-pub mod Form
-pub mod Reader
-pub mod Machine
-pub mod Texts
-pub mod Answer

@@ -1,31 +1,19 @@
-//! Ginseng: checks C programs, runs those of a small form, and tells how their runs end.
+//! Ginseng: checks C programs, runs them with their threads, and repeats runs from their journals.
 //!
-//! `dsu_main` does all that the program does, over files and outputs that are handed in; its contract is
-//! what the program promises. `main` makes the words, the files of the file system and the standard
-//! streams, calls it on a thread with a large stack, and ends with its status.
+//! `dsu_main` does all that the program does, over files and outputs that are handed in; its contract is what the program
+//! promises. `main` makes the words, the files of the file system and the standard streams, calls it on a thread with a
+//! large stack, and ends with its status.
 //!
-//! Read in this order: `top` (the top call) with `outcome`, `request` (what the words ask for), `check` and `run`
-//! (the two commands), `form` with `constant` and `reader` (from tokens to code), `machine` (from code to a
-//! value), `fault` and `report` (what is reported).
+//! Read in this order: `top` (the top call), `words` (what the words ask for). What each command does is in
+//! `dsu_commands`.
 #![tactic(auto)]
 
-mod check;
-mod constant;
-mod fault;
-mod form;
-mod machine;
-mod outcome;
-mod reader;
-mod report;
-mod request;
-mod run;
 mod top;
+mod words;
 
-use crate::fault::Fault;
-use crate::report::write_text;
 use crate::top::dsu_main;
-use dsu_cli::CliFault;
-use dsu_io::{Sink, StdFiles, StdSink, Text};
+use dsu_io::{StdFiles, StdSink, Text};
+use dsu_report::{FaultLine, write_fault};
 use std::alloc::AllocError;
 use std::process::ExitCode;
 use std::thread::{Builder, Promise};
@@ -34,7 +22,7 @@ use std::{env, io};
 /// The stack of the thread that does the work. It is address space until it is used.
 const STACK_BYTES: usize = 1 << 30;
 
-/// Of the status that a thread gives nothing more is to be known than that it is one.
+/// All that is known of the status that a thread gives is that it is one.
 #[derive(Drop)]
 struct AnyStatus;
 
@@ -42,28 +30,27 @@ impl Promise<u8> for AnyStatus {
     ghost kept_by = { λ _ _. Unit {0} };
 }
 
-// The words after the program's name.
-fn words_of(rt: &HostRuntime) -> Result<Vec<Text>, CliFault> {
+/// The words after the program's name. Words that aren't text fit no command.
+fn words_of(rt: &HostRuntime) -> Result<Vec<Text>, FaultLine> {
     let Ok(given) = env::args(rt) else {
-        return Err(CliFault::Usage);
+        return Err(FaultLine::Usage);
     };
     let mut words = Vec::new(rt.alloc());
     for word in given.skip(1) {
         if words.push(Text::from(word)).is_err() {
-            return Err(CliFault::Memory);
+            return Err(FaultLine::Memory);
         }
     }
     Ok(words)
 }
 
-// Runs the top call over the real files and streams.
+/// Runs the top call over the real files and streams.
 fn call(rt: &HostRuntime) -> u8 {
     let mut err = StdSink::new(rt.stderr());
     let words = match words_of(rt) {
         Ok(words) => words,
         Err(fault) => {
-            let fault = Fault::from(fault);
-            let _ = write_text(fault, "", &mut err);
+            let _ = write_fault("", fault, &mut err);
             return fault.status();
         }
     };

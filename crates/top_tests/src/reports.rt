@@ -5,7 +5,10 @@ use bytecode::{Ending, TrapKind};
 use c_front::FaultKind;
 use c_types::TypeKind;
 use dsu_io::MemorySink;
-use dsu_report::{FaultLine, LineWord, Place, place_of, write_ending, write_fault};
+use dsu_report::{
+    FaultLine, LineWord, Place, place_of, write_ending, write_fault, write_mutex_wait,
+    write_thread_wait,
+};
 use std::test::Fail;
 
 const USAGE: &str = "\
@@ -173,6 +176,29 @@ fn each_ending_has_its_report(rt: HostRuntime) -> Result<(), Fail> {
         assert!(rt; write_ending(*ending, &mut sink).is_ok(), "{report}");
         assert!(rt; sink.bytes() == report.as_bytes(), "{report}");
     }
+    Ok(())
+}
+
+#[test]
+fn a_thread_that_waits_has_its_line(rt: HostRuntime) -> Result<(), Fail> {
+    let mut sink = MemorySink::with_room(rt.alloc(), 100, Vec::new(rt.alloc()))?;
+    assert!(rt; write_mutex_wait(1, "a", 0, &mut sink).is_ok());
+    assert!(rt; sink.bytes() == b"# thread 1 waits for mutex a held by 0\n".as_slice());
+    let mut sink = MemorySink::with_room(rt.alloc(), 100, Vec::new(rt.alloc()))?;
+    assert!(rt; write_thread_wait(0, 15, &mut sink).is_ok());
+    assert!(rt; sink.bytes() == b"# thread 0 waits for thread 15\n".as_slice());
+    Ok(())
+}
+
+/// Both sinks are full before the last word of the line.
+#[test]
+fn a_full_sink_has_a_prefix_of_a_wait(rt: HostRuntime) -> Result<(), Fail> {
+    let mut sink = MemorySink::with_room(rt.alloc(), 30, Vec::new(rt.alloc()))?;
+    assert!(rt; write_mutex_wait(1, "a", 0, &mut sink).is_err());
+    assert!(rt; sink.bytes() == b"# thread 1 waits for mutex a h".as_slice());
+    let mut sink = MemorySink::with_room(rt.alloc(), 20, Vec::new(rt.alloc()))?;
+    assert!(rt; write_thread_wait(0, 15, &mut sink).is_err());
+    assert!(rt; sink.bytes() == b"# thread 0 waits for".as_slice());
     Ok(())
 }
 

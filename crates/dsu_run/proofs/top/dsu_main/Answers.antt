@@ -1,24 +1,28 @@
-use Rattle.std.proofs.Common.{◌≡◌, ◌∙◌, List, ℕ, Option, Some, ap}
-use Rattle.dsu_run.specs.declared.request.Request.{Request}
-use Rattle.dsu_run.specs.declared.request.Request.TheVariants.{Run, Check}
-use Rattle.dsu_run.specs.Words.{asked}
+use Rattle.std.proofs.Common.{◌∙◌, ap, subst, sym}
+use Rattle.std.proofs.lemmas.Option.{same_Some}
+use Rattle.dsu_cli.specs.declared.job.Job.{Job as Asked}
+use Rattle.dsu_commands.specs.Jobs.{IsKnownFault, is_built}
+use Rattle.dsu_run.proofs.Built.{never_unbuilt}
 use Rattle.dsu_run.proofs.top.dsu_main.Goals as goal
 
--- the file of a request that is known
-run_file_again : (o : Option Request) (a b : List ℕ) → o ≡ Some (Run a) → o ≡ Some (Run b) → a ≡ b
-run_file_again o a b first second = cc
+pub returns-in-Ok-Replay-clause-first : goal.returns-in-Ok-Replay-clause-first
+returns-in-Ok-Replay-clause-first g c = λ asked line file is fault.
+    let job = c.in-Ok-Replay in
+    c.replay_file.ensures.first line file
+    (subst {A = Asked} (λ j. IsKnownFault j (g.F.Files.content c.args.files.now) line file)
+    (same_Some asked job.field-0 (sym is ∙ job.ensures.job) ∙ job.field-0-is) fault)
 
-check_file_again : (o : Option Request) (a b : List ℕ) → o ≡ Some (Check a) → o ≡ Some (Check b) → a ≡ b
-check_file_again o a b first second = cc
+pub returns-in-Ok-Effects-clause-answers : goal.returns-in-Ok-Effects-clause-answers
+returns-in-Ok-Effects-clause-answers g c = λ asked is.
+    let job = c.in-Ok-Effects in
+    absurd (never_unbuilt c.args.words.now job.field-0 job.ensures.job (ap is_built job.field-0-is))
 
-pub returns-in-Ok-Run-clause-complete_run : goal.returns-in-Ok-Run-clause-complete_run
-returns-in-Ok-Run-clause-complete_run g c file text program e is told fits accepted form =
-    let here : asked c.args.words.now ≡ Some (Run c.in-Ok-Run.file) = c.in-Ok-Run.ensures.request ∙ ap (λ (r : Request). Some r) c.in-Ok-Run.field-0-is in
-    let same : c.as_str.result.now ≡ file = c.as_str.ensures ∙ run_file_again (asked c.args.words.now) c.in-Ok-Run.file file here is in
-    c.run_file.ensures.complete text program e (ap (g.F.Files.content c.args.files.now) same ∙ told) fits accepted form
+pub returns-in-Ok-Changes-clause-answers : goal.returns-in-Ok-Changes-clause-answers
+returns-in-Ok-Changes-clause-answers g c = λ asked is.
+    let job = c.in-Ok-Changes in
+    absurd (never_unbuilt c.args.words.now job.field-0 job.ensures.job (ap is_built job.field-0-is))
 
-pub returns-in-Ok-Check-clause-complete_check : goal.returns-in-Ok-Check-clause-complete_check
-returns-in-Ok-Check-clause-complete_check g c file text program is told fits accepted =
-    let here : asked c.args.words.now ≡ Some (Check c.in-Ok-Check.file) = c.in-Ok-Check.ensures.request ∙ ap (λ (r : Request). Some r) c.in-Ok-Check.field-0-is in
-    let same : c.as_str-in-Ok-Check.result.now ≡ file = c.as_str-in-Ok-Check.ensures ∙ check_file_again (asked c.args.words.now) c.in-Ok-Check.file file here is in
-    c.check_file.ensures.complete text program (ap (g.F.Files.content c.args.files.now) same ∙ told) fits accepted
+pub returns-in-Ok-Gen-clause-answers : goal.returns-in-Ok-Gen-clause-answers
+returns-in-Ok-Gen-clause-answers g c = λ asked is.
+    let job = c.in-Ok-Gen in
+    absurd (never_unbuilt c.args.words.now job.field-0 job.ensures.job (ap is_built job.field-0-is))

@@ -1,0 +1,129 @@
+-- What a call that came to nothing answers.
+use Rattle.std.proofs.Common.{◌≡◌, ◌⊎◌, inl, inr, false, ℕ, ◌≤◌, List, [], Option, refl, sym, ◌∙◌, ap, subst, arith}
+use Rattle.bytecode.specs.declared.run.Event.{Event}
+use Rattle.c_tree.specs.declared.def.Program.{Program}
+use Rattle.dsu_io.specs.Causes.{Rose}
+use Rattle.dsu_cli.specs.declared.job.Job.{Job}
+use Rattle.dsu_cli.specs.declared.job.Job.TheVariants.{Replay}
+use Rattle.dsu_cli.specs.declared.job.ReplayJob.{ReplayJob}
+use Rattle.dsu_report.specs.declared.fault.FaultLine.{FaultLine}
+use Rattle.dsu_report.specs.declared.fault.FaultLine.TheVariants.{Unread, Memory}
+use Rattle.dsu_report.specs.Faults.{fault_line}
+use Rattle.dsu_report.specs.Statuses.{status_of_line}
+use Rattle.dsu_runs.specs.Setups.{setup_of}
+use Rattle.input_files.specs.Files.{Exceeds, IsShort}
+use Rattle.input_files.specs.Journals.{HoldsEvents, IsNoJournal, journal_limit}
+use Rattle.input_files.specs.Sources.{HoldsProgram}
+use Rattle.dsu_commands.specs.Answers.{Answers, IsExcused, did, short, stopped}
+use Rattle.dsu_commands.specs.Calls.{Call, Stopped, Writes}
+use Rattle.dsu_commands.specs.Jobs.{Contents, FileStops, IsJournalFault, IsKnownProgram, IsProgramFault, KnownJournalFault, KnownProgramFault, ProgramStops}
+use Rattle.dsu_commands.specs.Plans.{ByJournal}
+use Rattle.dsu_commands.specs.Runs.{Came}
+use Rattle.dsu_commands.proofs.Reading.{IsAnswered}
+
+-- the line that says that memory ran out has no file
+pub out_of_memory : (line : FaultLine) (file : List ℕ) (call : Call) → line ≡ Memory → Stopped line file call → Stopped Memory [] call
+out_of_memory line file call is s = record {
+  status = s.status ∙ ap status_of_line is;
+  history = s.history;
+  ending = s.ending;
+  out = s.out;
+  err = subst (λ l. Writes call.err (fault_line l file)) is s.err;
+}
+
+-- a call that stopped at a fault of a file, or for lack of memory
+pub answered : (job : Job) (content : Contents) (counted count : ℕ) (call : Call) (line : FaultLine) (file : List ℕ)
+    → Stopped line file call → (line ≡ Memory) ⊎ FileStops job content counted count line file → Answers job content counted count call
+answered job content counted count call line file s (inl is) = short (out_of_memory line file call is s)
+answered job content counted count call line file s (inr stops) = stopped line file stops s
+
+-- the file or memory failed
+pub excused : (call : Call) (line : FaultLine) (file : List ℕ) → Stopped line file call → IsShort line → IsExcused call.status
+excused call line file s (inl is) = inl (s.status ∙ ap status_of_line is)
+excused call line file s (inr is) = inr (inr (s.status ∙ ap status_of_line is))
+
+-- or the fault is the one that is known
+pub first_stopped : (call : Call) (line known : FaultLine) (file : List ℕ) → Stopped line file call
+    → (line ≡ known) ⊎ (line ≡ Unread) ⊎ (line ≡ Memory) → IsExcused call.status ⊎ Stopped known file call
+first_stopped call line known file s (inl is) = inr (subst (λ l. Stopped l file call) is s)
+first_stopped call line known file s (inr lacks) = inl (excused call line file s lacks)
+
+-- ---- the program of a file isn't read. The name of the file was taken from the job
+
+module _ (content : Contents) (line : FaultLine) (file named : List ℕ) (same : file ≡ named) where
+  -- a fault of the program is one of its file
+  pub at_program : (counted count : ℕ) → (line ≡ Memory) ⊎ IsProgramFault (content file) counted count line
+      → (line ≡ Memory) ⊎ ProgramStops named content counted count line file
+  at_program counted count (inl is) = inl is
+  at_program counted count (inr wrong) = inr (same, subst (λ f. IsProgramFault (content f) counted count line) same wrong)
+
+  -- where the program is known, the file or memory failed
+  pub program_excused : (call : Call) → Stopped line file call → ((program : Program) → IsKnownProgram (content file) program → IsShort line)
+      → (program : Program) → IsKnownProgram (content named) program → IsExcused call.status
+  program_excused call s complete program known =
+      excused call line file s (complete program (subst (λ f. IsKnownProgram (content f) program) (sym same) known))
+
+  -- where its fault is known, that fault is answered, or the file or memory failed
+  program_first : (call : Call) → Stopped line file call → ((known : FaultLine) → KnownProgramFault (content file) known → IsAnswered known line)
+      → (known : FaultLine) (at : List ℕ) → at ≡ named → KnownProgramFault (content named) known
+      → IsExcused call.status ⊎ Stopped known at call
+  program_first call s first known at is fault =
+      subst (λ f. IsExcused call.status ⊎ Stopped known f call) (same ∙ sym is)
+      (first_stopped call line known file s (first known (subst (λ f. KnownProgramFault (content f) known) (sym same) fault)))
+
+  -- the same where the fault may be one of the journal, which is read later
+  pub first_of_two : (other : List ℕ) (call : Call) → Stopped line file call
+      → ((program : Program) → IsKnownProgram (content file) program → IsShort line)
+      → ((known : FaultLine) → KnownProgramFault (content file) known → IsAnswered known line)
+      → (known : FaultLine) (at : List ℕ)
+      → ((at ≡ named) × KnownProgramFault (content named) known)
+      ⊎ ((program : Program) × IsKnownProgram (content named) program × (at ≡ other) × KnownJournalFault (content other) known)
+      → IsExcused call.status ⊎ Stopped known at call
+  first_of_two other call s complete first known at (inl (is, fault)) = program_first call s first known at is fault
+  first_of_two other call s complete first known at (inr (program, is_known, is, fault)) = inl (program_excused call s complete program is_known)
+
+pub or_else : {A B C : Type 0} → A ⊎ B → A ⊎ (B ⊎ C)
+or_else (inl a) = inl a
+or_else (inr b) = inr (inl b)
+
+-- ---- the events of a journal, which is read after its program
+
+earlier : (counted at count : ℕ) → counted ≤ at → Rose at count → Rose counted count
+earlier counted at count later rose = omega (arith, later, rose)
+
+fault_since : (content mid : Option (List ℕ)) (counted at count : ℕ) (line : FaultLine) → mid ≡ content → counted ≤ at
+    → IsJournalFault mid at count line → IsJournalFault content counted count line
+fault_since content mid counted at count line same later (inl (is, rose)) = inl (is, earlier counted at count later rose)
+fault_since content mid counted at count line same later (inr (inl (is, exceeds))) =
+    inr (inl (is, subst (Exceeds journal_limit) same exceeds))
+fault_since content mid counted at count line same later (inr (inr wrong)) = inr (inr (subst (λ c. IsNoJournal c line) same wrong))
+
+-- what came of a journal's file and its events
+abbrev pub Replays : Contents → ℕ → ℕ → Program → ReplayJob → Call → Type 0
+Replays content counted count program job call =
+    ((lines : List (ℕ × Event)) × HoldsEvents (content job.journal) lines
+    × Came (ByJournal lines) (setup_of program job.objects) false job.journal call)
+    ⊎ Stopped Memory [] call
+    ⊎ ((line : FaultLine) × IsJournalFault (content job.journal) counted count line × Stopped line job.journal call)
+
+pub replay_answers : (job : ReplayJob) (content mid : Contents) (counted at count : ℕ) (call : Call) (program : Program)
+    → HoldsProgram (content job.file) program → ((other : List ℕ) → mid other ≡ content other) → counted ≤ at
+    → Replays mid at count program job call → Answers (Replay job) content counted count call
+replay_answers job content mid counted at count call program holds same later (inl (lines, events, came)) =
+    did (program, holds, lines, subst (λ c. HoldsEvents c lines) (same job.journal) events, came)
+replay_answers job content mid counted at count call program holds same later (inr (inl s)) = short s
+replay_answers job content mid counted at count call program holds same later (inr (inr (line, wrong, s))) =
+    stopped line job.journal
+    (inr (program, holds, refl, fault_since (content job.journal) (mid job.journal) counted at count line (same job.journal) later wrong)) s
+
+-- a journal isn't read. The name of its file was taken from the job
+pub journal_stops : (job : ReplayJob) (content : Contents) (counted count : ℕ) (call : Call) (program : Program) (line : FaultLine)
+    (file : List ℕ) → file ≡ job.journal → Stopped line file call
+    → (line ≡ Memory) ⊎ IsJournalFault (content file) counted count line → Replays content counted count program job call
+journal_stops job content counted count call program line file same s (inl is) = inr (inl (out_of_memory line file call is s))
+journal_stops job content counted count call program line file same s (inr wrong) =
+    inr (inr (
+      line,
+      subst (λ f. IsJournalFault (content f) counted count line) same wrong,
+      subst (λ f. Stopped line f call) same s,
+    ))

@@ -1,0 +1,7 @@
+mod Printing
+mod Waiting
+mod Planned
+mod Reporting
+mod Reading
+mod Answering
+mod Outcomes

@@ -1,0 +1,117 @@
+-- The outcome of a run, and the status with which it ends.
+use Rattle.std.proofs.Common.{◌≡◌, ◌⊎◌, inl, inr, Bool, ℕ, zero, suc, ◌≤◌, List, [], ◌∷◌, ◌++◌, drop, take, Option, Some, None, refl, sym, ◌∙◌, ap, subst, arith}
+use Rattle.std.specs.Prelude.{length, slice_get}
+use Rattle.std.specs.Option.{option_and_then}
+use Rattle.std.proofs.lemmas.Option.{none-some, same_Some}
+use Rattle.std.proofs.lemmas.List.{take-append-drop}
+use Rattle.bytecode.specs.declared.run.Event.{Event}
+use Rattle.bytecode.specs.declared.run.Ending.{Ending}
+use Rattle.bytecode.specs.declared.run.Ending.TheVariants.{Finished, Trap, Deadlock, Cut}
+use Rattle.source_model.specs.Guards.{Guard, Rules, Setup, first_guard}
+use Rattle.source_model.specs.Journals.{IsLegal, guard_after, happens, play}
+use Rattle.dsu_report.specs.Statuses.{status_of_ending}
+use Rattle.dsu_report.specs.declared.fault.FaultLine.TheVariants.{Memory}
+use Rattle.dsu_runs.specs.Replays.{events_of}
+use Rattle.dsu_runs.proofs.Coming.{play_parts}
+use Rattle.dsu_runs.proofs.Happening.{any_rules}
+use Rattle.dsu_runs.specs.declared.ran.Ran.{Ran as RanOf}
+use Rattle.dsu_commands.specs.declared.finish.Finish.{Finish}
+use Rattle.dsu_commands.specs.declared.outcome.Outcome.{Outcome}
+use Rattle.dsu_commands.specs.Answers.{IsDone, IsExcused}
+use Rattle.dsu_commands.specs.Calls.{Call, Output, Stopped, call_of, output_of, run_call}
+use Rattle.dsu_commands.specs.Plans.{Plan, BySchedule, ByJournal, CannotGoOn, Follows, Impossible}
+use Rattle.dsu_commands.specs.Runs.{Came, ran, print_failed, report_failed, refused, short}
+
+-- calls whose parts are equal
+abbrev pub call : ℕ → List Event → Option Ending → Output → Output → Call
+call s h e o r = record { status = s; history = h; ending = e; out = o; err = r }
+
+pub same_call : (s t : ℕ) (h k : List Event) (e f : Option Ending) (o p r : Output) → s ≡ t → h ≡ k → e ≡ f → o ≡ p
+    → call s h e o r ≡ call t k f p r
+same_call s t h k e f o p r st hk ef op =
+    ap (λ x. call x h e o r) st ∙ ap (λ x. call t x e o r) hk ∙ ap (λ x. call t k x o r) ef ∙ ap (λ x. call t k f x r) op
+
+pub same_output : {S : Type 0} (told : S → Option (List ℕ)) (faults : S → ℕ) (a b c d : S) → a ≡ b → c ≡ d
+    → output_of told faults a c ≡ output_of told faults b d
+same_output told faults a b c d ab cd = ap (λ x. output_of told faults x c) ab ∙ ap (λ x. output_of told faults b x) cd
+
+-- the call that came to an outcome of a run
+pub came_as : {T O : Type 0} (plan : Plan) (setup : Setup) (journal : Bool) (file : List ℕ) (finish : Finish) (r : RanOf T) (o : Outcome O)
+    (run_out out err : Output) → o.status ≡ finish.status → o.ending ≡ finish.ending → o.history ≡ r.history → run_out ≡ out
+    → Came plan setup journal file (run_call finish r run_out err) → Came plan setup journal file (call_of o out err)
+came_as plan setup journal file finish r o run_out out err status ending history same came =
+    subst (Came plan setup journal file)
+    (same_call finish.status o.status r.history.items o.history.items finish.ending o.ending run_out out err (sym status)
+    (ap (λ h. h.items) (sym history)) (sym ending) same)
+    came
+
+-- a run that ended has a status of at most 3
+ending_done : (e : Ending) → status_of_ending e ≤ 3
+ending_done (Finished value) = omega arith
+ending_done (Trap kind thread) = omega arith
+ending_done Deadlock = omega arith
+ending_done Cut = omega arith
+
+done_by : (status : ℕ) (e : Ending) → status ≡ status_of_ending e → status ≤ 3
+done_by status e is = let small = ending_done e in omega (arith, is, small)
+
+-- where no event of the plan is impossible, the run is done or excused
+pub came_done : (plan : Plan) (setup : Setup) (journal : Bool) (file : List ℕ) (c : Call)
+    → ((g : Guard) (line : ℕ) → Follows plan setup c.history g → ((rules : Rules) → guard_after rules setup c.history ≡ Some g)
+    → Impossible plan setup c.history g line → ⊥)
+    → Came plan setup journal file c → IsDone c.status ⊎ IsExcused c.status
+came_done plan setup journal file c possible (ran r) = inl (done_by c.status _ r.status)
+came_done plan setup journal file c possible (print_failed r) = inr (inr (inl r.status))
+came_done plan setup journal file c possible (report_failed r) = inr (inr (inl r.status))
+came_done plan setup journal file c possible (refused r) =
+    absurd (possible r.made.guard r.line r.made.follows r.made.legal r.impossible)
+came_done plan setup journal file c possible (short r) = inr (inr (inr r.status))
+
+pub schedule_done : (moves : ℕ) (setup : Setup) (journal : Bool) (file : List ℕ) (c : Call)
+    → Came (BySchedule moves) setup journal file c → IsDone c.status ⊎ IsExcused c.status
+schedule_done moves setup journal file c came =
+    came_done (BySchedule moves) setup journal file c (λ g line follows legal never. never) came
+
+-- ---- a legal journal
+
+-- the events from a line on
+from_line : (lines : List (ℕ × Event)) (n : ℕ) (line : ℕ × Event) → slice_get lines n ≡ Some line
+    → (rest : List Event) × (drop n (events_of lines) ≡ line.1 ∷ rest)
+from_line [] n line there = absurd (none-some line there)
+from_line (l ∷ lines) zero line there = (events_of lines, ap (λ (x : ℕ × Event). x.1 ∷ events_of lines) (same_Some l line there))
+from_line (l ∷ lines) (suc n) line there = from_line lines n line there
+
+-- an event that can't happen is in no legal journal
+illegal : (rules : Rules) (setup : Setup) (es rest : List Event) (e : Event) (g : Guard)
+    → guard_after rules setup es ≡ Some g → happens rules setup e g ≡ None → IsLegal rules setup (es ++ e ∷ rest) → ⊥
+illegal rules setup es rest e g before never legal =
+    none-some legal.0
+    (sym (play_parts rules setup es (e ∷ rest) (first_guard setup) ∙ ap (option_and_then (play rules setup (e ∷ rest))) before
+    ∙ ap (option_and_then (play rules setup rest)) never) ∙ legal.1)
+
+can_go_on : (setup : Setup) (lines : List (ℕ × Event)) (history : List Event) (g : Guard) (line : ℕ)
+    → history ≡ take (length history) (events_of lines) → ((rules : Rules) → guard_after rules setup history ≡ Some g)
+    → ((rules : Rules) → IsLegal rules setup (events_of lines)) → CannotGoOn setup lines history g line → ⊥
+can_go_on setup lines history g line made before legal stuck =
+    let next = from_line lines (length history) (line, stuck.event) stuck.next in
+    let parts : events_of lines ≡ history ++ stuck.event ∷ next.0 =
+    sym (take-append-drop (length history) (events_of lines))
+    ∙ ap (λ es. es ++ drop (length history) (events_of lines)) (sym made) ∙ ap (λ es. history ++ es) next.1 in
+    illegal any_rules setup history next.0 stuck.event g (before any_rules) (stuck.never any_rules)
+    (subst {A = List Event} (IsLegal any_rules setup) parts (legal any_rules))
+
+pub journal_done : (lines : List (ℕ × Event)) (setup : Setup) (journal : Bool) (file : List ℕ) (c : Call)
+    → ((rules : Rules) → IsLegal rules setup (events_of lines))
+    → Came (ByJournal lines) setup journal file c → IsDone c.status ⊎ IsExcused c.status
+journal_done lines setup journal file c legal came =
+    came_done (ByJournal lines) setup journal file c
+    (λ g line follows before stuck. can_go_on setup lines c.history g line follows before legal stuck) came
+
+-- the same where memory may have run out before
+pub replayed_done : (lines read : List (ℕ × Event)) (setup : Setup) (journal : Bool) (file : List ℕ) (c : Call) → read ≡ lines
+    → ((rules : Rules) → IsLegal rules setup (events_of lines))
+    → Came (ByJournal read) setup journal file c ⊎ Stopped Memory [] c → IsDone c.status ⊎ IsExcused c.status
+replayed_done lines read setup journal file c same legal (inl came) =
+    journal_done lines setup journal file c legal
+    (subst {A = List (ℕ × Event)} (λ ls. Came (ByJournal ls) setup journal file c) same came)
+replayed_done lines read setup journal file c same legal (inr s) = inr (inr (inr s.status))

@@ -1,0 +1,58 @@
+-- What the schedules hand back is what a plan has.
+use Rattle.std.proofs.Common.{ℕ, List, Option, IsTrue, subst}
+use Rattle.std.specs.Prelude.{reverse}
+use Rattle.std.proofs.lemmas.List.{reverse-reverse}
+use Rattle.bytecode.specs.declared.run.Event.{Event}
+use Rattle.source_model.specs.Guards.{Guard, Setup}
+use Rattle.source_model.specs.Schedules.{is_prompt}
+use Rattle.source_model.specs.ScheduleLaws.{SoloIsPrompt}
+use Rattle.dsu_runs.specs.declared.ran.Ran.{Ran}
+use Rattle.dsu_runs.specs.declared.ran.StopCause.{StopCause}
+use Rattle.dsu_runs.specs.declared.ran.StopCause.TheVariants.{Ended, SinkFailed, CannotHappen, Memory}
+use Rattle.dsu_runs.specs.Replays.{Replayed, StoppedReplay}
+use Rattle.dsu_runs.specs.Solo.{RanSolo, StoppedSolo}
+use Rattle.dsu_commands.specs.Plans.{BySchedule, ByJournal}
+use Rattle.dsu_commands.specs.Schedules.{RanBy, StoppedBy}
+
+module _ {T : Type 0} (setup : Setup) (is_at : Guard → T → Type 0) (told : T → Option (List ℕ)) (faults : T → ℕ) (engine : T) where
+  solo_stopped : (moves : ℕ) (ran : Ran T) (g : Guard) (cause : StopCause) → StoppedSolo setup is_at told faults engine moves ran g cause
+      → StoppedBy (BySchedule moves) setup is_at told faults engine ran g cause
+  solo_stopped moves ran g (Ended end) s = record { ends = s.ends; ending = s.ending; there = s.there; printed = s.printed }
+  solo_stopped moves ran g SinkFailed s = s
+  solo_stopped moves ran g (CannotHappen line) s = absurd s
+  solo_stopped moves ran g Memory s = s
+
+  pub ran_by_schedule : SoloIsPrompt → (moves : ℕ) (ran : Ran T) → RanSolo setup is_at told faults engine moves ran
+      → RanBy (BySchedule moves) setup is_at told faults engine ran
+  ran_by_schedule prompt moves ran at = record {
+    guard = at.guard;
+    legal = at.legal;
+    follows = record {
+      last = at.last;
+      solo = at.solo;
+      prompt = λ rules.
+          subst {A = List Event} (λ es. IsTrue (is_prompt rules setup es)) (reverse-reverse ran.history.items)
+          (prompt rules setup (reverse ran.history.items) at.guard at.last (at.solo rules));
+      most = at.most;
+      begun = at.begun;
+    };
+    stopped = solo_stopped moves ran at.guard ran.cause at.stopped;
+  }
+
+  replay_stopped : (lines : List (ℕ × Event)) (ran : Ran T) (g : Guard) (cause : StopCause)
+      → StoppedReplay setup is_at told faults engine lines ran g cause
+      → StoppedBy (ByJournal lines) setup is_at told faults engine ran g cause
+  replay_stopped lines ran g (Ended end) s = record { ends = s.all; ending = s.ending; there = s.there; printed = s.printed }
+  replay_stopped lines ran g SinkFailed s = s
+  replay_stopped lines ran g (CannotHappen line) s =
+      record { impossible = record { event = s.event; next = s.next; never = s.never }; printed = s.printed }
+  replay_stopped lines ran g Memory s = s
+
+  pub ran_by_journal : (lines : List (ℕ × Event)) (ran : Ran T) → Replayed setup is_at told faults engine lines ran
+      → RanBy (ByJournal lines) setup is_at told faults engine ran
+  ran_by_journal lines ran at = record {
+    guard = at.guard;
+    legal = at.legal;
+    follows = at.made;
+    stopped = replay_stopped lines ran at.guard ran.cause at.stopped;
+  }

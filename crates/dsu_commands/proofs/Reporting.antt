@@ -1,0 +1,110 @@
+-- A run of an engine that was reported is one to which a call came.
+use Rattle.std.proofs.Common.{◌≡◌, inl, inr, ℕ, Bool, List, [], Option, Some, None, refl, ◌∙◌, ap, subst}
+use Rattle.std.specs.Prelude.{length, option_map}
+use Rattle.bytecode.specs.declared.run.Ending.{Ending}
+use Rattle.source_model.specs.Guards.{Guard, Rules, Setup}
+use Rattle.source_model.specs.JournalLaws.{JournalIsARun, SeatsAlwaysFit}
+use Rattle.source_model.specs.Runs.{result}
+use Rattle.dsu_report.specs.declared.fault.FaultLine.TheVariants as fault
+use Rattle.dsu_report.specs.declared.fault.LineWord.TheVariants as word
+use Rattle.dsu_report.specs.Faults.{fault_line}
+use Rattle.dsu_report.specs.Statuses.{status_of_ending}
+use Rattle.dsu_runs.proofs.Happening.{any_rules}
+use Rattle.dsu_runs.specs.declared.ran.Ran.{Ran}
+use Rattle.dsu_runs.specs.declared.ran.StopCause.{StopCause}
+use Rattle.dsu_runs.specs.declared.ran.StopCause.TheVariants.{Ended, SinkFailed, CannotHappen, Memory}
+use Rattle.dsu_commands.specs.declared.finish.Finish.{Finish}
+use Rattle.dsu_commands.specs.Calls.{Output, Shows, ShowsPrefix, Writes, output_of, run_call}
+use Rattle.dsu_commands.specs.Plans.{Plan}
+use Rattle.dsu_commands.specs.Reports.{run_text}
+use Rattle.dsu_commands.specs.Runs.{Came, Made, ran, print_failed, report_failed, refused, short}
+use Rattle.dsu_commands.specs.Schedules.{EndedBy, IsReported, RanBy, StoppedBy}
+
+-- the report of a fault
+pub record Faulted (line : List ℕ) (status : ℕ) (finish : Finish) (err : Output) : Type 0 where
+  pub status_is : finish.status ≡ status
+  pub ending : finish.ending ≡ None
+  pub shown : Writes err line
+
+module _ {T : Type 0} (plan : Plan) (setup : Setup) (is_at : Guard → T → Type 0) (told : T → Option (List ℕ)) (faults : T → ℕ)
+    (engine : T) (r : Ran T) (run : JournalIsARun) (by : RanBy plan setup is_at told faults engine r) where
+  abbrev made : Made plan setup r.history.items
+  made = record {
+    guard = by.guard;
+    machine = result by.guard.world;
+    legal = by.legal;
+    same = refl;
+    moved = ap (option_map result) (run any_rules setup r.history.items by.guard (by.legal any_rules));
+    follows = by.follows;
+  }
+
+  stopped : (cause : StopCause) → r.cause ≡ cause → StoppedBy plan setup is_at told faults engine r by.guard cause
+  stopped cause is = subst (StoppedBy plan setup is_at told faults engine r by.guard) is by.stopped
+
+  module _ (journal : Bool) (file : List ℕ) (finish : Finish) (err : Output) where
+    reported : (end : Ending) → EndedBy plan setup is_at told by.guard end engine r
+        → IsReported (run_text journal r.history.items end by.guard.world) end finish err
+        → Came plan setup journal file (run_call finish r (output_of told faults engine r.engine) err)
+    reported end s (inl report) =
+        ran (record {
+          made = made;
+          ends = s.ends;
+          ending = report.ending ∙ ap Some s.ending;
+          status = report.status ∙ ap status_of_ending s.ending;
+          out = s.printed;
+          err = subst (λ e. Shows err (run_text journal r.history.items e by.guard.world)) s.ending report.shown;
+        })
+    reported end s (inr report) =
+        report_failed (record {
+          made = made;
+          ends = s.ends;
+          ending = report.ending;
+          status = report.status;
+          out = s.printed;
+          err = subst (λ e. ShowsPrefix err (run_text journal r.history.items e by.guard.world)) s.ending report.shown;
+        })
+
+    pub ended : SeatsAlwaysFit → (end : Ending) → r.cause ≡ Ended end
+        → ((g : Guard) → is_at g r.engine → length g.seats ≡ length g.world.slots
+        → IsReported (run_text journal r.history.items end g.world) end finish err)
+        → Came plan setup journal file (run_call finish r (output_of told faults engine r.engine) err)
+    ended fit end is report =
+        let s = stopped (Ended end) is in
+        reported end s (report by.guard s.there (fit any_rules setup r.history.items by.guard (by.legal any_rules)).count)
+
+    pub sink_failed : r.cause ≡ SinkFailed → Faulted (fault_line fault.Write []) 13 finish err
+        → Came plan setup journal file (run_call finish r (output_of told faults engine r.engine) err)
+    sink_failed is report =
+        print_failed (record {
+          made = made;
+          failed = stopped SinkFailed is;
+          ending = report.ending;
+          status = report.status_is;
+          err = report.shown;
+        })
+
+    pub cannot_happen : (line : ℕ) → r.cause ≡ CannotHappen line
+        → Faulted (fault_line (fault.Line line word.CannotHappen) file) 14 finish err
+        → Came plan setup journal file (run_call finish r (output_of told faults engine r.engine) err)
+    cannot_happen line is report =
+        let s = stopped (CannotHappen line) is in
+        refused (record {
+          made = made;
+          line = line;
+          impossible = s.impossible;
+          ending = report.ending;
+          status = report.status_is;
+          out = s.printed;
+          err = report.shown;
+        })
+
+    pub out_of_memory : r.cause ≡ Memory → Faulted (fault_line fault.Memory []) 20 finish err
+        → Came plan setup journal file (run_call finish r (output_of told faults engine r.engine) err)
+    out_of_memory is report =
+        short (record {
+          made = made;
+          ending = report.ending;
+          status = report.status_is;
+          out = stopped Memory is;
+          err = report.shown;
+        })

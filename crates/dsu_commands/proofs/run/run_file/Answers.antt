@@ -1,0 +1,18 @@
+use Rattle.std.proofs.Common.{inr}
+use Rattle.dsu_cli.specs.declared.job.Job.TheVariants.{Run}
+use Rattle.dsu_commands.proofs.Answering.{answered, at_program, program_excused}
+use Rattle.dsu_commands.proofs.run.run_file.Goals as goal
+
+pub returns-in-Err-clause-answers : goal.returns-in-Err-clause-answers
+returns-in-Err-clause-answers g c =
+    let content = g.F.Files.content c.args.files.now in
+    let file = c.as_str-file.result.now in
+    answered (Run c.args.job.now) content _ _ _ c.in-Err.line file c.stop.ensures
+    (at_program content c.in-Err.line file c.args.job.now.file c.as_str-file.ensures _ _ c.in-Err.ensures.fault)
+
+pub returns-in-Err-clause-complete : goal.returns-in-Err-clause-complete
+returns-in-Err-clause-complete g c = λ ready.
+    let content = g.F.Files.content c.args.files.now in
+    let file = c.as_str-file.result.now in
+    inr (program_excused content c.in-Err.line file c.args.job.now.file c.as_str-file.ensures _ c.stop.ensures c.in-Err.ensures.complete
+    ready.0 ready.1)

@@ -1,0 +1,66 @@
+-- What a job came to.
+use Rattle.std.specs.Prelude.{◌≡◌, ◌⊎◌, ◌≤◌, ℕ, false, List, [], None}
+use Rattle.bytecode.specs.declared.run.Event.{Event}
+use Rattle.c_tree.specs.declared.def.Program.{Program}
+use Rattle.c_types.specs.Definitions.{names_of}
+use Rattle.dsu_cli.specs.declared.job.Job.{Job}
+use Rattle.dsu_cli.specs.declared.job.Job.TheVariants.{Run, Replay, Check, Effects, Changes, Gen}
+use Rattle.dsu_report.specs.declared.fault.FaultLine.{FaultLine}
+use Rattle.dsu_report.specs.declared.fault.FaultLine.TheVariants.{Write, Memory}
+use Rattle.dsu_report.specs.Faults.{fault_line}
+use Rattle.dsu_runs.specs.Setups.{setup_of}
+use Rattle.input_files.specs.Sources.{HoldsProgram}
+use Rattle.input_files.specs.Journals.{HoldsEvents}
+use Rattle.dsu_commands.specs.Calls.{Call, Shows, ShowsPrefix, Stopped, Untouched, Writes}
+use Rattle.dsu_commands.specs.Plans.{BySchedule, ByJournal}
+use Rattle.dsu_commands.specs.Reports.{names_line}
+use Rattle.dsu_commands.specs.Runs.{Came}
+use Rattle.dsu_commands.specs.Jobs.{Contents, FileStops}
+
+-- the number of a text's names was printed
+pub record Checked (names : ℕ) (call : Call) : Type 0 where
+  pub status : call.status ≡ 0
+  pub history : call.history ≡ []
+  pub ending : call.ending ≡ None
+  pub out : Shows call.out (names_line names)
+  pub err : Untouched call.err
+
+-- it couldn't be printed whole
+pub record CheckFailed (names : ℕ) (call : Call) : Type 0 where
+  pub status : call.status ≡ 13
+  pub history : call.history ≡ []
+  pub ending : call.ending ≡ None
+  pub out : ShowsPrefix call.out (names_line names)
+  pub err : Writes call.err (fault_line Write [])
+
+-- what a job came to whose files have no fault
+abbrev pub Does : Job → Contents → Call → Type 0
+Does (Run job) content call =
+    (program : Program) × HoldsProgram (content job.file) program
+    × Came (BySchedule job.moves) (setup_of program job.objects) job.journal [] call
+Does (Replay job) content call =
+    (program : Program) × HoldsProgram (content job.file) program
+    × (lines : List (ℕ × Event)) × HoldsEvents (content job.journal) lines
+    × Came (ByJournal lines) (setup_of program job.objects) false job.journal call
+Does (Check file) content call =
+    (program : Program) × HoldsProgram (content file) program
+    × (Checked (names_of program.definitions) call ⊎ CheckFailed (names_of program.definitions) call)
+Does (Effects file) content call = ⊥
+Does (Changes old new) content call = ⊥
+Does (Gen seed size) content call = ⊥
+
+-- what a job came to: it was done as far as outputs, journal and memory let it, a file of it has a fault, or memory ran
+-- out before it began
+pub data Answers (job : Job) (content : Contents) (counted count : ℕ) (call : Call) : Type 0 where
+  did : Does job content call → Answers job content counted count call
+  stopped : (line : FaultLine) (file : List ℕ) → FileStops job content counted count line file → Stopped line file call
+      → Answers job content counted count call
+  short : Stopped Memory [] call → Answers job content counted count call
+
+-- the job was done to its end
+abbrev pub IsDone : ℕ → Type 0
+IsDone status = status ≤ 3
+
+-- a file, an output or memory failed
+abbrev pub IsExcused : ℕ → Type 0
+IsExcused status = (status ≡ 12) ⊎ ((status ≡ 13) ⊎ (status ≡ 20))

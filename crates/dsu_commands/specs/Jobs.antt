@@ -1,0 +1,120 @@
+-- The jobs that are built, and what their files have.
+use Rattle.std.specs.Prelude.{◌≡◌, ◌⊎◌, ◌≤◌, ◌<◌, ℕ, Bool, true, false, ◌&&◌, List, [], ◌∷◌, length, Option, Some, Ok, Err}
+use Rattle.std.specs.Option.{is_none}
+use Rattle.dsu_io.specs.Causes.{Rose}
+use Rattle.bytecode.specs.declared.run.Event.{Event}
+use Rattle.c_tree.specs.declared.def.Program.{Program}
+use Rattle.c_front.specs.Accepted.{Accepted}
+use Rattle.source_model.specs.Guards.{Rules}
+use Rattle.source_model.specs.Journals.{IsLegal}
+use Rattle.dsu_journal.specs.Journals.{journal_in}
+use Rattle.dsu_journal.specs.declared.fault.JournalFault.{JournalFault}
+use Rattle.dsu_cli.specs.declared.job.Job.{Job}
+use Rattle.dsu_cli.specs.declared.job.Job.TheVariants.{Run, Replay, Check, Effects, Changes, Gen}
+use Rattle.dsu_cli.specs.declared.job.Offer.{Offer}
+use Rattle.dsu_report.specs.declared.fault.FaultLine.{FaultLine}
+use Rattle.dsu_report.specs.declared.fault.FaultLine.TheVariants.{Unread, TooLong}
+use Rattle.dsu_runs.specs.Replays.{events_of}
+use Rattle.dsu_runs.specs.Setups.{setup_of}
+use Rattle.input_files.specs.Files.{Exceeds}
+use Rattle.input_files.specs.Sources.{HoldsProgram, IsFirstLine, IsFirstOf, text_limit}
+use Rattle.input_files.specs.Journals.{IsNoJournal, journal_limit, line_of_journal}
+
+-- the contents of files by name, as far as they are known
+abbrev pub Contents : Type 0
+Contents = List ℕ → Option (List ℕ)
+
+abbrev pub has_none : List Offer → Bool
+has_none [] = true
+has_none (offer ∷ offers) = false
+
+-- the command is built, and so are its options: `--offer` and `--workers` aren't
+abbrev pub is_built : Job → Bool
+is_built (Run job) = has_none job.offers && is_none job.workers
+is_built (Replay job) = has_none job.offers
+is_built (Check file) = true
+is_built (Effects file) = false
+is_built (Changes old new) = false
+is_built (Gen seed size) = false
+
+-- ---- the first fault of the files
+
+-- why the program of a file isn't read: reading failed, it is too long, or its text has a first fault
+abbrev pub IsProgramFault : Option (List ℕ) → ℕ → ℕ → FaultLine → Type 0
+IsProgramFault content counted count line =
+    ((line ≡ Unread) × Rose counted count)
+    ⊎ ((line ≡ TooLong) × Exceeds text_limit content) ⊎ IsFirstOf content line
+
+-- why the events of a file aren't read
+abbrev pub IsJournalFault : Option (List ℕ) → ℕ → ℕ → FaultLine → Type 0
+IsJournalFault content counted count line =
+    ((line ≡ Unread) × Rose counted count)
+    ⊎ ((line ≡ TooLong) × Exceeds journal_limit content) ⊎ IsNoJournal content line
+
+-- the file of the program has the fault
+abbrev pub ProgramStops : List ℕ → Contents → ℕ → ℕ → FaultLine → List ℕ → Type 0
+ProgramStops named content counted count line file = (file ≡ named) × IsProgramFault (content named) counted count line
+
+-- the first file of a job with a fault, and that fault; a journal is read after its program
+abbrev pub FileStops : Job → Contents → ℕ → ℕ → FaultLine → List ℕ → Type 0
+FileStops (Run job) content counted count line file = ProgramStops job.file content counted count line file
+FileStops (Replay job) content counted count line file =
+    ProgramStops job.file content counted count line file
+    ⊎ ((program : Program) × HoldsProgram (content job.file) program
+    × (file ≡ job.journal) × IsJournalFault (content job.journal) counted count line)
+FileStops (Check named) content counted count line file = ProgramStops named content counted count line file
+FileStops (Effects named) content counted count line file = ⊥
+FileStops (Changes old new) content counted count line file = ⊥
+FileStops (Gen seed size) content counted count line file = ⊥
+
+-- ---- files whose contents are known
+
+-- a known text that is accepted as a program
+pub record IsKnownProgram (content : Option (List ℕ)) (program : Program) : Type 0 where
+  pub text : List ℕ
+  pub known : content ≡ Some text
+  pub fits : length text ≤ text_limit
+  pub accepted : Accepted text program
+
+-- a known text that is a journal
+pub record IsKnownJournal (content : Option (List ℕ)) (lines : List (ℕ × Event)) : Type 0 where
+  pub text : List ℕ
+  pub known : content ≡ Some text
+  pub fits : length text ≤ journal_limit
+  pub are : journal_in text ≡ Ok lines
+
+-- the files of a job are known and have no fault, and each event of its journal can happen when it comes
+abbrev pub IsReady : Job → Contents → Type 0
+IsReady (Run job) content = (program : Program) × IsKnownProgram (content job.file) program
+IsReady (Replay job) content =
+    (program : Program) × IsKnownProgram (content job.file) program
+    × (lines : List (ℕ × Event)) × IsKnownJournal (content job.journal) lines
+    × ((rules : Rules) → IsLegal rules (setup_of program job.objects) (events_of lines))
+IsReady (Check file) content = (program : Program) × IsKnownProgram (content file) program
+IsReady (Effects file) content = ⊥
+IsReady (Changes old new) content = ⊥
+IsReady (Gen seed size) content = ⊥
+
+-- a known text is too long for a program, or it has this first fault
+pub data KnownProgramFault (content : Option (List ℕ)) : FaultLine → Type 0 where
+  long : (text : List ℕ) → content ≡ Some text → text_limit < length text → KnownProgramFault content TooLong
+  first : (text : List ℕ) (line : FaultLine) → content ≡ Some text → length text ≤ text_limit → IsFirstLine text line
+      → KnownProgramFault content line
+
+-- a known text is too long for a journal, or it is none
+pub data KnownJournalFault (content : Option (List ℕ)) : FaultLine → Type 0 where
+  long : (text : List ℕ) → content ≡ Some text → journal_limit < length text → KnownJournalFault content TooLong
+  first : (text : List ℕ) (fault : JournalFault) → content ≡ Some text → length text ≤ journal_limit
+      → journal_in text ≡ Err fault → KnownJournalFault content (line_of_journal fault)
+
+-- the first fault of a job's files, where they are known
+abbrev pub IsKnownFault : Job → Contents → FaultLine → List ℕ → Type 0
+IsKnownFault (Run job) content line file = (file ≡ job.file) × KnownProgramFault (content job.file) line
+IsKnownFault (Replay job) content line file =
+    ((file ≡ job.file) × KnownProgramFault (content job.file) line)
+    ⊎ ((program : Program) × IsKnownProgram (content job.file) program
+    × (file ≡ job.journal) × KnownJournalFault (content job.journal) line)
+IsKnownFault (Check named) content line file = (file ≡ named) × KnownProgramFault (content named) line
+IsKnownFault (Effects named) content line file = ⊥
+IsKnownFault (Changes old new) content line file = ⊥
+IsKnownFault (Gen seed size) content line file = ⊥

@@ -1,0 +1,60 @@
+-- What a schedule hands back, by its plan. The functions that report a run cite this.
+use Rattle.std.specs.Prelude.{◌≡◌, ◌⊎◌, ℕ, List, Option, Some, None}
+use Rattle.bytecode.specs.declared.run.Ending.{Ending}
+use Rattle.source_model.specs.Guards.{Guard, Rules, Setup}
+use Rattle.source_model.specs.Journals.{guard_after}
+use Rattle.source_model.specs.Endings.{ending, int_ending}
+use Rattle.dsu_report.specs.Statuses.{status_of_ending}
+use Rattle.dsu_runs.specs.Ran.{FailedAt, Printed}
+use Rattle.dsu_runs.specs.declared.ran.Ran.{Ran}
+use Rattle.dsu_runs.specs.declared.ran.StopCause.{StopCause}
+use Rattle.dsu_runs.specs.declared.ran.StopCause.TheVariants.{Ended, SinkFailed, CannotHappen, Memory}
+use Rattle.dsu_commands.specs.declared.finish.Finish.{Finish}
+use Rattle.dsu_commands.specs.Calls.{Output, Shows, ShowsPrefix}
+use Rattle.dsu_commands.specs.Plans.{Plan, Ends, Follows, Impossible}
+
+-- the run ended so, as the engine is
+pub record EndedBy {T : Type 0} (plan : Plan) (setup : Setup) (is_at : Guard → T → Type 0) (told : T → Option (List ℕ))
+    (g : Guard) (end : Ending) (engine : T) (ran : Ran T) : Type 0 where
+  pub ends : Ends plan setup ran.history.items g
+  pub ending : end ≡ int_ending (ending g)
+  pub there : is_at g ran.engine
+  pub printed : Printed (told engine) (told ran.engine) g
+
+-- the next event of the plan can't happen
+pub record RefusedBy {T : Type 0} (plan : Plan) (setup : Setup) (told : T → Option (List ℕ)) (g : Guard) (line : ℕ)
+    (engine : T) (ran : Ran T) : Type 0 where
+  pub impossible : Impossible plan setup ran.history.items g line
+  pub printed : Printed (told engine) (told ran.engine) g
+
+-- by why no further event was made
+abbrev pub StoppedBy : {T : Type 0} (plan : Plan) (setup : Setup) (is_at : Guard → T → Type 0) (told : T → Option (List ℕ))
+    (faults : T → ℕ) → T → Ran T → Guard → StopCause → Type 0
+StoppedBy plan setup is_at told faults engine ran g (Ended end) = EndedBy plan setup is_at told g end engine ran
+StoppedBy plan setup is_at told faults engine ran g SinkFailed =
+    FailedAt setup ran.history.items g (told engine) (told ran.engine) (faults engine) (faults ran.engine)
+StoppedBy plan setup is_at told faults engine ran g (CannotHappen line) = RefusedBy plan setup told g line engine ran
+StoppedBy plan setup is_at told faults engine ran g Memory = Printed (told engine) (told ran.engine) g
+
+-- the events of a plan were made by an engine, up to why no further one was
+pub record RanBy {T : Type 0} (plan : Plan) (setup : Setup) (is_at : Guard → T → Type 0) (told : T → Option (List ℕ))
+    (faults : T → ℕ) (engine : T) (ran : Ran T) : Type 0 where
+  pub guard : Guard
+  pub legal : (rules : Rules) → guard_after rules setup ran.history.items ≡ Some guard
+  pub follows : Follows plan setup ran.history.items guard
+  pub stopped : StoppedBy plan setup is_at told faults engine ran guard ran.cause
+
+-- the report of a run that ended so was written
+pub record Reported (text : List ℕ) (end : Ending) (finish : Finish) (err : Output) : Type 0 where
+  pub status : finish.status ≡ status_of_ending end
+  pub ending : finish.ending ≡ Some end
+  pub shown : Shows err text
+
+-- standard error failed at it
+pub record Unreported (text : List ℕ) (finish : Finish) (err : Output) : Type 0 where
+  pub status : finish.status ≡ 13
+  pub ending : finish.ending ≡ None
+  pub shown : ShowsPrefix err text
+
+abbrev pub IsReported : List ℕ → Ending → Finish → Output → Type 0
+IsReported text end finish err = Reported text end finish err ⊎ Unreported text finish err

@@ -1,0 +1,83 @@
+ghost use Rattle.std.specs.Prelude.{◌≡◌, length, None};
+ghost use Rattle.source_model.specs.Guards.{Guard, Setup};
+ghost use Rattle.dsu_report.specs.Faults.{fault_line};
+ghost use Rattle.dsu_report.specs.Statuses.{status_of_line};
+ghost use Rattle.dsu_commands.specs.Calls.{Writes, output_of, run_call};
+ghost use Rattle.dsu_commands.specs.Plans.{Plan};
+ghost use Rattle.dsu_commands.specs.Reports.{run_text};
+ghost use Rattle.dsu_commands.specs.Runs.{Came};
+ghost use Rattle.dsu_commands.specs.Schedules.{IsReported, RanBy};
+
+use crate::report::write_run;
+use bytecode::Ending;
+use dsu_io::Sink;
+use dsu_report::{FaultLine, LineWord, ending_status, write_fault};
+use dsu_runs::{Engine, Ran, StopCause};
+use source_model::{journal_is_a_run, seats_fit_their_slots};
+
+/// What a run came to.
+#[derive(Clone, Copy)]
+pub(crate) struct Finish {
+    /// The status with which the program ends.
+    pub status: u8,
+    /// How the run ended, where it ended and its report was written.
+    pub ending: Option<Ending>,
+}
+
+/// Reports what came of a run. The events are those of the journal in `file`, or of the solo schedule.
+pub(crate) fn report_run<T: Engine, E: Sink>(
+    ran: &Ran<T>,
+    journal: bool,
+    file: &str,
+    err: &mut E,
+) -> Finish
+    ensures { (plan : Plan) (setup : Setup) (engine : T) → RanBy plan setup (T.is_at setup) T.told T.faults engine ran.now
+        → Came plan setup journal file.now
+        (run_call result ran.now (output_of T.told T.faults engine ran.now.engine) (output_of E.told E.faults err.old err.new)) }
+{
+    journal_is_a_run();
+    seats_fit_their_slots();
+    match ran.cause {
+        StopCause::Ended(ending) => report_end(ran, ending, journal, err),
+        StopCause::SinkFailed => fail(FaultLine::Write, "", err),
+        StopCause::CannotHappen(line) => {
+            fail(FaultLine::Line(line, LineWord::CannotHappen), file, err)
+        }
+        StopCause::Memory => fail(FaultLine::Memory, "", err),
+    }
+}
+
+/// Reports a run that ended.
+fn report_end<T: Engine, E: Sink>(
+    ran: &Ran<T>,
+    ending: Ending,
+    journal: bool,
+    err: &mut E,
+) -> Finish
+    ensures { (setup : Setup) (g : Guard) → T.is_at setup g ran.now.engine → length g.seats ≡ length g.world.slots
+        → IsReported (run_text journal ran.now.history.items ending g.world) ending result (output_of E.told E.faults err.old err.new) }
+{
+    match write_run(journal, &ran.history, ending, &ran.engine, err) {
+        Ok(()) => Finish {
+            status: ending_status(ending),
+            ending: Some(ending),
+        },
+        Err(_) => Finish {
+            status: FaultLine::Write.status(),
+            ending: None,
+        },
+    }
+}
+
+/// Reports a fault by which a run stopped.
+fn fail<E: Sink>(fault: FaultLine, file: &str, err: &mut E) -> Finish
+    ensures status { result.status ≡ status_of_line fault }
+    ensures ending { result.ending ≡ None }
+    ensures err { Writes (output_of E.told E.faults err.old err.new) (fault_line fault file.now) }
+{
+    let _ = write_fault(file, fault, err);
+    Finish {
+        status: fault.status(),
+        ending: None,
+    }
+}

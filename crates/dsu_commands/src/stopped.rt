@@ -1,0 +1,46 @@
+ghost use Rattle.std.specs.Prelude.{◌≡◌, ℕ, List, None, []};
+ghost use Rattle.dsu_report.specs.Statuses.{status_of_line};
+ghost use Rattle.dsu_report.specs.Faults.{fault_line};
+ghost use Rattle.dsu_commands.specs.Calls.{Stopped, call_of, output_of, Writes};
+
+use crate::outcome::Outcome;
+use bytecode::Event;
+use dsu_io::Sink;
+use dsu_report::{FaultLine, write_fault};
+use std::alloc::Global;
+
+/// Reports a fault, by which a command comes to nothing. Standard output stays as it was.
+pub fn stop<O: Sink, E: Sink>(
+    alloc: Global,
+    fault: FaultLine,
+    file: &str,
+    out: O,
+    err: &mut E,
+) -> Outcome<O>
+    ensures { Stopped fault file.now (call_of result (output_of O.told O.faults out result.out) (output_of E.told E.faults err.old err.new)) }
+{
+    stop_after(Vec::new(alloc), fault, file, out, err)
+}
+
+/// Reports a fault after some events.
+pub(crate) fn stop_after<O, E: Sink>(
+    history: Vec<Event>,
+    fault: FaultLine,
+    file: &str,
+    out: O,
+    err: &mut E,
+) -> Outcome<O>
+    ensures status { result.status ≡ status_of_line fault }
+    ensures history { result.history ≡ history }
+    ensures ending { result.ending ≡ None }
+    ensures out { result.out ≡ out }
+    ensures err { Writes (output_of E.told E.faults err.old err.new) (fault_line fault file.now) }
+{
+    let _ = write_fault(file, fault, err);
+    Outcome {
+        status: fault.status(),
+        out,
+        history,
+        ending: None,
+    }
+}

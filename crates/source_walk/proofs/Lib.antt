@@ -1,5 +1,0 @@
-mod Ends
-mod Going
-mod Seats
-mod Turns
-mod Walking

@@ -1,0 +1,10 @@
+ginseng-journal 1
+s 0
+c 0
+s 0
+s 0
+s 0
+s 0
+s 1
+c 1
+s 1
