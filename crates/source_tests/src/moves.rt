@@ -1,7 +1,8 @@
 //! What is asked of a run between its moves.
 use crate::runs::run_of;
 use bytecode::TrapKind;
-use source_runner::{SourceMove, SourceState, SourceWait, Span, Stepped};
+use source_runner::{SourceMove, SourceRun, SourceState, SourceWait, Span, Stepped};
+use std::alloc::Global;
 use std::test::Fail;
 
 /// A move of a slot's thread and what it comes to, how the run is after it, and how many records have a span.
@@ -54,19 +55,33 @@ const SPAN: Span = Span {
     last: 1,
 };
 
+/// Whether a run comes to what a script says, move by move.
+fn follows(run: &mut SourceRun, script: &[Asked]) -> Result<bool, Fail> {
+    if run.state() != SourceState::Going {
+        return Ok(false);
+    }
+    for (slot, stepped, state, spans) in script {
+        if run.can_move(*slot) != (*stepped == Stepped::Done)
+            || run.step(SourceMove::Move(*slot))? != *stepped
+            || run.state() != *state
+            || run.spans().len() != *spans
+        {
+            return Ok(false);
+        }
+    }
+    Ok(run.spans().iter().all(|span| *span == SPAN) && run.output().is_empty() && !run.misused())
+}
+
+/// Whether the run of a text does.
+fn is_moved(alloc: Global, text: &str, script: &[Asked]) -> Result<bool, Fail> {
+    let mut run = run_of(alloc, text)?;
+    follows(&mut run, script)
+}
+
 #[test]
 fn moves_are_made_where_they_can_be(rt: HostRuntime) -> Result<(), Fail> {
     for (text, script) in SCRIPTS {
-        let mut run = run_of(rt.alloc(), text)?;
-        assert_eq!(rt; run.state(), SourceState::Going);
-        for (slot, stepped, state, spans) in script {
-            assert_eq!(rt; run.step(SourceMove::Move(*slot))?, *stepped, "{text}");
-            assert_eq!(rt; run.state(), *state, "{text}");
-            assert_eq!(rt; run.spans().len(), *spans, "{text}");
-        }
-        assert!(rt; run.spans().iter().all(|span| *span == SPAN), "{text}");
-        assert!(rt; run.output().is_empty(), "{text}");
-        assert!(rt; !run.misused(), "{text}");
+        assert!(rt; is_moved(rt.alloc(), text, script)?, "{text}");
     }
     Ok(())
 }
@@ -74,18 +89,32 @@ fn moves_are_made_where_they_can_be(rt: HostRuntime) -> Result<(), Fail> {
 /// Whether the next move of `main` leads to a check-in, before each of these moves of it.
 static LEADS: [bool; 5] = [true, true, true, true, false];
 
-#[test]
-fn moves_that_lead_to_a_check_in_are_reported(rt: HostRuntime) -> Result<(), Fail> {
-    let mut run = run_of(
-        rt.alloc(),
-        "int main(void) { dsu_tx { dsu_update(); } return 0; }",
-    )?;
-    assert!(rt; run.is_live(0));
-    assert!(rt; !run.is_live(1));
+/// Whether the moves of `main`, which lives alone, lead to check-ins as listed.
+fn leads_as_listed(run: &mut SourceRun) -> Result<bool, Fail> {
+    if !run.is_live(0) || run.is_live(1) {
+        return Ok(false);
+    }
     for leads in LEADS {
-        assert_eq!(rt; run.leads(0), leads);
+        if run.leads(0) != leads {
+            return Ok(false);
+        }
         run.step(SourceMove::Move(0))?;
     }
+    Ok(true)
+}
+
+/// Whether those of a transaction with an update point do.
+fn is_led(alloc: Global) -> Result<bool, Fail> {
+    let mut run = run_of(
+        alloc,
+        "int main(void) { dsu_tx { dsu_update(); } return 0; }",
+    )?;
+    leads_as_listed(&mut run)
+}
+
+#[test]
+fn moves_that_lead_to_a_check_in_are_reported(rt: HostRuntime) -> Result<(), Fail> {
+    assert!(rt; is_led(rt.alloc())?);
     Ok(())
 }
 
@@ -127,18 +156,30 @@ static ORDERS: [[u8; 6]; 4] = [
     [1, 1, 0, 2, 2, 1],
 ];
 
+/// Whether threads that take turns in this order count to 7.
+fn counts(run: &mut SourceRun, order: [u8; 6]) -> Result<bool, Fail> {
+    for turn in 0..100 {
+        for slot in order {
+            run.step(SourceMove::Move(slot))?;
+        }
+    }
+    Ok(
+        run.output() == b"00 3 4 7".as_slice()
+            && run.state() == SourceState::Finished(0)
+            && !run.misused(),
+    )
+}
+
+/// Whether those of the text do.
+fn is_counted(alloc: Global, order: [u8; 6]) -> Result<bool, Fail> {
+    let mut run = run_of(alloc, SHARING)?;
+    counts(&mut run, order)
+}
+
 #[test]
 fn threads_share_an_object_under_a_mutex(rt: HostRuntime) -> Result<(), Fail> {
     for order in ORDERS {
-        let mut run = run_of(rt.alloc(), SHARING)?;
-        for turn in 0..100 {
-            for slot in order {
-                run.step(SourceMove::Move(slot))?;
-            }
-        }
-        assert_eq!(rt; run.output(), b"00 3 4 7".as_slice());
-        assert_eq!(rt; run.state(), SourceState::Finished(0));
-        assert!(rt; !run.misused());
+        assert!(rt; is_counted(rt.alloc(), order)?);
     }
     Ok(())
 }
@@ -155,16 +196,30 @@ int main(void) {
 }
 "#;
 
+/// Whether the threads come to wait for each other.
+fn waits_at_last(run: &mut SourceRun) -> Result<bool, Fail> {
+    for slot in [0, 0, 0, 1] {
+        if run.state() != SourceState::Going || run.step(SourceMove::Move(slot))? != Stepped::Done {
+            return Ok(false);
+        }
+    }
+    Ok(
+        run.state() == SourceState::Stuck
+            && run.ending().is_none()
+            && run.waits(0) == Some(SourceWait::Thread(1))
+            && run.waits(1) == Some(SourceWait::Mutex("m", 0))
+            && run.waits(2).is_none(),
+    )
+}
+
+/// Whether those of the text do.
+fn is_waiting(alloc: Global) -> Result<bool, Fail> {
+    let mut run = run_of(alloc, WAITING)?;
+    waits_at_last(&mut run)
+}
+
 #[test]
 fn what_threads_wait_for_is_reported(rt: HostRuntime) -> Result<(), Fail> {
-    let mut run = run_of(rt.alloc(), WAITING)?;
-    for slot in [0, 0, 0, 1] {
-        assert_eq!(rt; run.state(), SourceState::Going);
-        assert_eq!(rt; run.step(SourceMove::Move(slot))?, Stepped::Done);
-    }
-    assert_eq!(rt; run.state(), SourceState::Stuck);
-    assert_eq!(rt; run.waits(0), Some(SourceWait::Thread(1)));
-    assert_eq!(rt; run.waits(1), Some(SourceWait::Mutex("m", 0)));
-    assert_eq!(rt; run.waits(2), None);
+    assert!(rt; is_waiting(rt.alloc())?);
     Ok(())
 }

@@ -257,13 +257,25 @@ fn take_turns(run: &mut SourceRun) -> Result<(), AllocError> {
     Ok(())
 }
 
+/// Whether a run prints this and ends so.
+fn ends(run: &mut SourceRun, out: &str, state: SourceState) -> Result<bool, Fail> {
+    take_turns(run)?;
+    Ok(run.output() == out.as_bytes() && run.state() == state)
+}
+
+/// Whether the run of a text does.
+fn is_ended(alloc: Global, text: &str, out: &str, state: SourceState) -> Result<bool, Fail> {
+    let mut run = run_of(alloc, text)?;
+    ends(&mut run, out, state)
+}
+
 #[test]
 fn texts_print_what_c_says(rt: HostRuntime) -> Result<(), Fail> {
     for (text, out) in PRINTS {
-        let mut run = run_of(rt.alloc(), text)?;
-        take_turns(&mut run)?;
-        assert_eq!(rt; run.output(), out.as_bytes(), "{text}");
-        assert_eq!(rt; run.state(), SourceState::Finished(0), "{text}");
+        assert!(rt;
+            is_ended(rt.alloc(), text, out, SourceState::Finished(0))?,
+            "{text}"
+        );
     }
     Ok(())
 }
@@ -271,10 +283,7 @@ fn texts_print_what_c_says(rt: HostRuntime) -> Result<(), Fail> {
 #[test]
 fn texts_end_as_c_and_the_profile_say(rt: HostRuntime) -> Result<(), Fail> {
     for (text, state) in ENDS {
-        let mut run = run_of(rt.alloc(), text)?;
-        take_turns(&mut run)?;
-        assert!(rt; run.output().is_empty(), "{text}");
-        assert_eq!(rt; run.state(), state, "{text}");
+        assert!(rt; is_ended(rt.alloc(), text, "", state)?, "{text}");
     }
     Ok(())
 }
