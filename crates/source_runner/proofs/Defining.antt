@@ -1,10 +1,13 @@
 -- What definitions are made of, and what a list of them has by name.
 use Rattle.std.proofs.Common.{◌≡◌, ℕ, ◌+◌, ◌<◌, Bool, true, false, List, [], ◌∷◌, ◌++◌, length, get_or, map, take, find, Option, Some, None, refl, sym, ap, subst, ◌∙◌, if◌then◌else◌}
-use Rattle.std.specs.Prelude.{bytes_eq, Result, Ok, Err, IfOk}
+use Rattle.std.specs.Prelude.{bytes_eq, Result, Ok, Err, IfOk, Vec}
+use Rattle.std.specs.declared.alloc.Global.{Global}
 use Rattle.std.specs.Option.{option_map_or, option_or}
 use Rattle.std.proofs.lemmas.List.{take_more, map-append}
 use Rattle.std.proofs.lemmas.List.Folds.{find-append}
 use Rattle.c_ints.specs.declared.kind.Kind.TheVariants.{I32}
+use Rattle.c_tree.specs.declared.def.Def.{Def}
+use Rattle.c_tree.specs.Bare.{bare_def}
 use Rattle.c_tree.specs.BareExpr.{Bytes}
 use Rattle.c_tree.specs.BareDef.{BareBinding, BareDef, Struct}
 use Rattle.c_semantics.specs.Names.{struct_name}
@@ -16,7 +19,8 @@ use Rattle.source_runner.specs.declared.program.Definition.{Definition}
 use Rattle.resolved_tree.specs.declared.words.Word.{Word}
 use Rattle.resolved_tree.specs.Nodes.{Table, word, type_of, statements_at}
 use Rattle.resolved_tree.specs.Found.{Grows}
-use Rattle.source_runner.specs.Definitions.{bindings_of, kept, IsDefinition, IsPlain, Defines, DefinesIf}
+use Rattle.resolved_tree.specs.Known.{known_of}
+use Rattle.source_runner.specs.Definitions.{bindings_of, kept, IsDefinition, IsPlain, Defines, DefinesIf, AreDefinitions}
 
 -- ---- one definition
 
@@ -124,3 +128,11 @@ defines_some t by look o d own e f h =
 
 pub defines_none : (t : Table) (look : Definitions) (o : Option Definition) (own : BareDef) → o ≡ None → DefinesIf t look o own → defined own ≡ None
 defines_none t look o own f h = let Q : Option Definition → Type 0 = λ x. DefinesIf t look x own in subst Q f h
+
+-- the definitions of a text that are known are the text's own
+pub defined_by_text : {E : Type 0} (now : Table) (known text : List Def) (r : Result (Vec Definition Global) E) → known ≡ text
+    → IfOk r (λ ds. (u : Table) → Grows now u → (name : Bytes) → IsDefinition u (known_of known) (kept u ds.items name) (definition (map bare_def text) name))
+    → IfOk r (λ ds. (u : Table) → Grows now u → AreDefinitions u (map bare_def text) ds.items)
+defined_by_text now known text r same h =
+    let P : List Def → Type 0 = λ k. IfOk r (λ ds. (u : Table) → Grows now u → (name : Bytes) → IsDefinition u (known_of k) (kept u ds.items name) (definition (map bare_def text) name)) in
+    subst P same h

@@ -8,7 +8,7 @@ ghost use Rattle.c_tree.specs.Bare.{bare_binding, bare_def, bare_function, bare_
 ghost use Rattle.c_semantics.specs.Constants.{initial_cells};
 ghost use Rattle.c_semantics.specs.Names.{struct_name};
 ghost use Rattle.c_semantics.specs.Resolved.{NoStatements};
-ghost use Rattle.c_semantics.specs.Texts.{Definitions, result_type};
+ghost use Rattle.c_semantics.specs.Texts.{Definitions, definition, result_type};
 ghost use Rattle.c_semantics.specs.Threads.{bind as bound_to};
 ghost use Rattle.c_semantics.specs.Values.{zero_of};
 ghost use Rattle.source_model.specs.Worlds.{cells_at_first};
@@ -19,7 +19,7 @@ ghost use Rattle.resolved_tree.specs.Known.{known_of};
 ghost use Rattle.resolved_tree.specs.Trees.{table};
 ghost use Rattle.local_evaluation.specs.Values.{seen};
 ghost use Rattle.local_evaluation.specs.Work.{scopes_of};
-ghost use Rattle.source_runner.specs.Definitions.{binding_of, bindings_of, IsPlain, Defines, DefinesIf, AreDefinitions};
+ghost use Rattle.source_runner.specs.Definitions.{binding_of, bindings_of, kept, IsDefinition, IsPlain, Defines, DefinesIf, AreDefinitions};
 ghost use Rattle.source_runner.specs.Programs.{IsProgram, text_of, table_of};
 ghost use Rattle.source_runner.specs.Globals.{cells_of, globals_of};
 ghost use Rattle.source_runner.specs.Places.{place_in};
@@ -86,6 +86,17 @@ pub(crate) struct Loaded {
     pub main: Word,
 }
 
+/// What is made of a program's text.
+#[derive(Drop)]
+struct Parts {
+    trees: Trees,
+    definitions: Vec<Definition>,
+    names: Places,
+    tags: Places,
+    /// The name `main`.
+    main: Word,
+}
+
 /// Makes a text ready to run.
 pub(crate) fn load(alloc: Global, text: Typed) -> Result<Loaded, AllocError>
     ensures text { IfOk result (λ loaded. text_of loaded.program ≡ map bare_def text.definitions) }
@@ -94,11 +105,14 @@ pub(crate) fn load(alloc: Global, text: Typed) -> Result<Loaded, AllocError>
         ≡ filter_map cells_at_first (text_of loaded.program)) }
     ensures main { IfOk result (λ loaded. word_text (table_of loaded.program) loaded.main ≡ codes "main") }
 {
-    let mut trees = Trees::new(alloc);
-    let (definitions, main) = defined(alloc, &mut trees, text.program().definitions.as_slice())?;
-    let names = places_of_names(alloc, &trees, definitions.as_slice())?;
-    let tags = places_of_tags(alloc, &trees, definitions.as_slice())?;
-    let globals = globals_of(alloc, text.program().definitions.as_slice())?;
+    let globals = globals_in(alloc, text.program().definitions.as_slice())?;
+    let Parts {
+        trees,
+        definitions,
+        names,
+        tags,
+        main,
+    } = parts_of(alloc, text.program().definitions.as_slice())?;
     Ok(Loaded {
         program: Program {
             text,
@@ -107,9 +121,54 @@ pub(crate) fn load(alloc: Global, text: Typed) -> Result<Loaded, AllocError>
             names,
             tags,
         },
-        globals: found_by_name(alloc, globals)?,
+        globals,
         main,
     })
+}
+
+/// The globals and arrays of a text, found by their names.
+fn globals_in(alloc: Global, text: &[Def]) -> Result<Globals, AllocError>
+    ensures { IfOk result (λ globals. globals_of globals.list.items ≡ filter_map cells_at_first (map bare_def text.now)) }
+{
+    let list = globals_of(alloc, text)?;
+    found_by_name(alloc, list)
+}
+
+/// The parts of a program that are made of its text.
+fn parts_of(alloc: Global, text: &[Def]) -> Result<Parts, AllocError>
+    ensures definitions { IfOk result (λ parts. AreDefinitions (table parts.trees) (map bare_def text.now) parts.definitions.items) }
+    ensures names { IfOk result (λ parts. (name : Bytes) → place_in parts.names name
+        ≡ position (λ d. bytes_eq name (word_text (table parts.trees) d.name)) parts.definitions.items) }
+    ensures tags { IfOk result (λ parts. (tag : Bytes) → place_in parts.tags tag
+        ≡ position (λ d. bytes_eq (struct_name tag) (word_text (table parts.trees) d.name)) parts.definitions.items) }
+    ensures main { IfOk result (λ parts. word_text (table parts.trees) parts.main ≡ codes "main") }
+{
+    let mut trees = Trees::new(alloc);
+    let (definitions, main) = defined(alloc, &mut trees, text)?;
+    let (names, tags) = places_of(alloc, &trees, definitions.as_slice())?;
+    Ok(Parts {
+        trees,
+        definitions,
+        names,
+        tags,
+        main,
+    })
+}
+
+/// Where the first definition of each name is, and where that of the struct with each tag is.
+fn places_of(
+    alloc: Global,
+    trees: &Trees,
+    definitions: &[Definition],
+) -> Result<(Places, Places), AllocError>
+    ensures names { IfOk result (λ both. (name : Bytes) → place_in both.0 name
+        ≡ position (λ d. bytes_eq name (word_text (table trees.now) d.name)) definitions.now) }
+    ensures tags { IfOk result (λ both. (tag : Bytes) → place_in both.1 tag
+        ≡ position (λ d. bytes_eq (struct_name tag) (word_text (table trees.now) d.name)) definitions.now) }
+{
+    let names = places_of_names(alloc, trees, definitions)?;
+    let tags = places_of_tags(alloc, trees, definitions)?;
+    Ok((names, tags))
 }
 
 /// The definitions of a text, and the name `main`.
@@ -178,7 +237,6 @@ impl Program {
     ghost use Rattle.c_tree.specs.Bare.{bare_def};
     ghost use Rattle.std.specs.Option.{is_some};
     ghost use Rattle.c_semantics.specs.Names.{struct_name};
-    ghost use Rattle.c_semantics.specs.Texts.{definition};
     ghost use Rattle.c_semantics.specs.Texts.{members_of as texts_members_of};
     ghost use Rattle.source_model.specs.Versions.{current, first_table};
     ghost use Rattle.source_model.specs.Uses.{is_right};
@@ -378,9 +436,23 @@ fn definitions_of(
     ensures grows { Grows (table trees.old) (table trees.new) }
 {
     let known = Known::of(alloc, text)?;
+    known_definitions(alloc, trees, &known, text)
+}
+
+/// The same, where the text's definitions are known: the tables of them are borrowed, not owned, over the loop.
+fn known_definitions(
+    alloc: Global,
+    trees: &mut Trees,
+    known: &Known,
+    text: &[Def],
+) -> Result<Vec<Definition>, AllocError>
+    ensures definitions { IfOk result (λ ds. (u : Table) → Grows (table trees.new) u → (name : Bytes)
+        → IsDefinition u (known_of known.now) (kept u ds.items name) (definition (map bare_def text.now) name)) }
+    ensures grows { Grows (table trees.old) (table trees.new) }
+{
     let mut definitions = Vec::new(alloc);
     for definition in text {
-        if let Some(made) = definition_of(alloc, trees, &known, definition)? {
+        if let Some(made) = definition_of(alloc, trees, known, definition)? {
             definitions.push(made)?;
         }
     }

@@ -57,12 +57,12 @@ pub(crate) fn start(
     ensures capacity { IfOk result (λ m. m.store.capacity ≡ objects) }
     ensures stands { IsLoaded loaded → IfOk result (λ m. Stands m (first_world (text_of loaded.program) (record { objects = objects; slots = slots }))) }
 {
+    let slots = slots_of(alloc, main_slot(alloc, loaded.main), slots)?;
     let Loaded {
         program,
         globals,
-        main,
+        ..
     } = loaded;
-    let slots = slots_of(alloc, main_slot(alloc, main), slots)?;
     Ok(Machine {
         program,
         store: Store {

@@ -1,17 +1,18 @@
 //! Stops that change threads.
-ghost use Rattle.std.specs.Prelude.{◌≡◌, ◌<◌, ◌∷◌, ℕ, drop, length, slice_index_or, slice_set, true, None, option_map, IfOk, IfSome, OnOk, MatchOption};
+ghost use Rattle.std.specs.Prelude.{◌≡◌, ◌<◌, ◌∷◌, Bool, List, ℕ, drop, length, slice_index_or, slice_set, true, None, option_map, IfOk, IfSome, OnOk, MatchOption};
 ghost use Rattle.c_semantics.specs.Values.{Started as IsStartedValue};
+ghost use Rattle.c_tree.specs.BareDef.{BareDef};
 ghost use Rattle.std.specs.List.{position};
 ghost use Rattle.c_ints.specs.Number.{value_of};
-ghost use Rattle.c_semantics.specs.Threads.{Thread as SeenThread};
-ghost use Rattle.source_model.specs.Worlds.{World, in_slot, with_slot, Free as IsFree, Over as IsOver};
+ghost use Rattle.c_semantics.specs.Threads.{Thread as SeenThread, started};
+ghost use Rattle.source_model.specs.Worlds.{World, in_slot, with_slot, Free as IsFree, Live as IsLive, Over as IsOver};
 ghost use Rattle.source_model.specs.Moves.{Standing, begin_at, call, end_at, finish_thread, goes_on, gone_on, join, join_slot, number_of, return, return_to, spawn};
 ghost use Rattle.local_evaluation.specs.declared.piece.Stop.TheVariants.{Spawn as AtSpawn, Join as AtJoin, Call as AtCall, Return as AtReturn, Begin as AtBegin, End as AtEnd};
 ghost use Rattle.source_runner.specs.declared.thread.Slot.TheVariants.{Free as FreeSlot};
 ghost use Rattle.source_runner.specs.Frames.{frames_of};
 ghost use Rattle.source_runner.specs.Joins.{is_free_slot, result_of};
-ghost use Rattle.source_runner.specs.Machines.{IsPut, IsStarted, IsStopped, IsUser, Moves, Stands, StandsBut, enter_with, standing_at, stands_at};
-ghost use Rattle.resolved_tree.specs.Nodes.{word};
+ghost use Rattle.source_runner.specs.Machines.{IsPut, IsSlot, IsStarted, IsStopped, IsUser, Moves, Stands, StandsBut, enter_with, standing_at, stands_at};
+ghost use Rattle.resolved_tree.specs.Nodes.{Table, word};
 ghost use Rattle.source_runner.specs.Programs.{table_of, text_of};
 ghost use Rattle.local_evaluation.specs.Values.{seen, seen_thread};
 ghost use Rattle.local_evaluation.specs.Work.{newest};
@@ -24,7 +25,7 @@ use c_ints::Int;
 use local_evaluation::stack::{discard, last, push};
 use local_evaluation::{Halt, Stop, ThreadRef, Value};
 use resolved_tree::{Word, later};
-use std::alloc::AllocError;
+use std::alloc::{AllocError, Global};
 
 /// The place of the least slot that is free.
 fn free_slot(slots: &[Slot]) -> Option<usize>
@@ -71,6 +72,33 @@ fn result_of(slots: &[Slot], slot: usize, named: ThreadRef) -> Option<Value>
         Some(Slot::Over(ended, value)) if *ended == named.serial => Some(*value),
         _ => None,
     }
+}
+
+/// A thread that begins: it enters a function with an argument.
+fn entering(
+    alloc: Global,
+    serial: usize,
+    name: Word,
+    argument: Value,
+    version: usize,
+) -> Result<Slot, AllocError>
+    ensures { IfOk result (λ slot. (text : List BareDef) (t : Table) (over : Bool)
+        → IsSlot text t over slot (IsLive (started serial (enter_with t name argument version)))) }
+{
+    let mut arguments = Vec::new(alloc);
+    arguments.push(argument)?;
+    Ok(Slot::Live(
+        Thread {
+            serial,
+            below: Vec::new(alloc),
+            depth: 0,
+        },
+        Next::Enter(Enter {
+            function: name,
+            arguments,
+            version,
+        }),
+    ))
 }
 
 impl Machine {
@@ -151,20 +179,9 @@ impl Machine {
     {
         let threads = later(self.threads)?;
         let alloc = *self.slots.allocator();
-        let mut arguments = Vec::new(alloc);
-        arguments.push(argument)?;
-        let thread = Thread {
-            serial: self.threads,
-            below: Vec::new(alloc),
-            depth: 0,
-        };
-        let due = Enter {
-            function: name,
-            arguments,
-            version,
-        };
+        let slot = entering(alloc, self.threads, name, argument, version)?;
         self.threads = threads;
-        self.slots[place] = Slot::Live(thread, Next::Enter(due));
+        self.slots[place] = slot;
         Ok(())
     }
 
