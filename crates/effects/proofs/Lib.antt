@@ -1,0 +1,7 @@
+mod Reachable
+mod Deciding
+mod Least
+mod Growing
+mod Unending
+mod OneRow
+mod Examples
