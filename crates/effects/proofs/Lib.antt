@@ -1,7 +1,7 @@
-mod Reachable
-mod Deciding
-mod Least
-mod Growing
-mod Unending
-mod OneRow
-mod Examples
+pub mod Reachable
+pub mod Deciding
+pub mod Least
+pub mod Growing
+pub mod Unending
+pub mod OneRow
+pub mod Examples
