@@ -1,0 +1,5 @@
+pub mod ChainLemmas
+pub mod PassLemmas
+pub mod ReachLemmas
+pub mod SolveLemmas
+pub mod WaitLemmas

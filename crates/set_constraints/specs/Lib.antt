@@ -1,0 +1,6 @@
+pub mod Chains
+pub mod Constraints
+pub mod Laws
+pub mod Passing
+pub mod Places
+pub mod Waiting

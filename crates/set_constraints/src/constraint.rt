@@ -1,0 +1,33 @@
+//! Edges, and the order in which nodes are looked at.
+ghost use Rattle.std.specs.Prelude.{◌≡◌, ◌<◌};
+ghost use Rattle.set_constraints.specs.Places.{node_at};
+
+/// The set of the node `to` contains that of the node `from`. Nodes go by their number.
+#[derive(Clone, Copy)]
+pub struct Edge {
+    pub from: u32,
+    pub to: u32,
+}
+
+/// The order in which nodes are looked at first. The answer doesn't depend on it, the time does: most edges should lead
+/// the same way.
+#[derive(Clone, Copy)]
+pub enum Order {
+    /// From the lowest number on.
+    Rising,
+    /// From the highest number down.
+    Falling,
+}
+
+impl Order {
+    /// The node at a place of the order of all nodes below `count`.
+    pub(crate) fn node_at(self, place: usize, count: usize) -> usize
+        requires { place < count }
+        ensures { result ≡ node_at self place count }
+    {
+        match self {
+            Order::Rising => place,
+            Order::Falling => count - 1 - place,
+        }
+    }
+}
