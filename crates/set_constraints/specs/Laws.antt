@@ -12,8 +12,8 @@ ContainsSeeds = (seeds : List ℕ) (edges : List Edge) (n id : ℕ) → Holds (s
 abbrev pub MeetsEdges : Type 0
 MeetsEdges = (seeds : List ℕ) (edges : List Edge) (e : Edge) (id : ℕ) → Contains edges e → Reaches seeds edges e.from id → Reaches seeds edges e.to id
 
--- a family of sets that contains the seeds and meets each edge contains the reached names; it is given by a test, as a
--- clause can't speak of each relation
+-- a family of sets, given by a test, that contains the seeds and meets each edge contains the reached names; `reached_in`
+-- in proofs/ says it of a family that is given by any relation, of which a clause can't speak
 abbrev pub IsLeast : Type 0
 IsLeast =
     (seeds : List ℕ) (edges : List Edge) (family : ℕ → ℕ → Bool)

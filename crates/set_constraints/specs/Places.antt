@@ -1,4 +1,4 @@
--- The orders of nodes.
+-- The orders in which nodes are looked at first.
 use Rattle.std.specs.Prelude.{ℕ, ◌-◌}
 use Rattle.set_constraints.specs.declared.constraint.Order.{Order}
 use Rattle.set_constraints.specs.declared.constraint.Order.TheVariants.{Rising, Falling}

@@ -5,7 +5,7 @@ use Rattle.std.specs.Prelude.{◌≡◌, ℕ, ◌<◌, List, Bool, false, length
 abbrev pub NoneWaits : List Bool → Type 0
 NoneWaits waits = (n : ℕ) → slice_index_or waits n false ≡ false
 
--- the node waits no longer
+-- the node is one of the list, and waits no longer
 pub record Takes (old : List Bool) (node : ℕ) (new : List Bool) : Type 0 where
   pub known : node < length old
   pub waits : new ≡ slice_set old node false
