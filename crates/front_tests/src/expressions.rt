@@ -1,26 +1,30 @@
 //! Expressions: their trees, their faults and their depth.
-use crate::reading::{expression_of, tokens_of};
+use crate::reading::{expression_of, text_of, tokens_of};
 use c_expr_parser::SyntaxFault;
 use c_lexer::Token;
 use c_tree::{Expr, ExprNode, same_expr};
 use std::alloc::Global;
 use std::test::Fail;
 
-/// How many tokens of a text are read at a depth, or the fault.
-fn read(alloc: Global, text: &str, depth: u32) -> Result<Result<usize, SyntaxFault>, Fail> {
-    let tokens = tokens_of(alloc, text)?;
-    Ok(count_of(alloc, &tokens, depth))
+/// How many tokens are read at a depth, or the fault.
+fn count_of(alloc: Global, tokens: &[Token], depth: u32) -> Result<usize, SyntaxFault> {
+    let (tree, to) = expression_of(alloc, tokens, depth)?;
+    drop(tree);
+    Ok(to)
 }
 
-/// The same of some tokens.
-fn count_of(alloc: Global, tokens: &[Token], depth: u32) -> Result<usize, SyntaxFault> {
-    let (_, to) = expression_of(alloc, tokens, depth)?;
-    Ok(to)
+/// The same of a text.
+fn read(alloc: Global, text: &str, depth: u32) -> Result<Result<usize, SyntaxFault>, Fail> {
+    let tokens = tokens_of(alloc, text)?;
+    let count = count_of(alloc, &tokens, depth);
+    drop(tokens);
+    Ok(count)
 }
 
 /// A tree, if it is of all tokens.
 fn only(tree: Expr, to: usize, count: usize) -> Result<Expr, Fail> {
     if to < count {
+        drop(tree);
         Err(Fail::new("more than an expression"))
     } else {
         Ok(tree)
@@ -36,304 +40,228 @@ fn whole_of(alloc: Global, tokens: &[Token]) -> Result<Expr, Fail> {
 /// The tree of a text that is an expression from end to end.
 fn whole(alloc: Global, text: &str) -> Result<Expr, Fail> {
     let tokens = tokens_of(alloc, text)?;
-    whole_of(alloc, &tokens)
+    let tree = whole_of(alloc, &tokens);
+    drop(tokens);
+    tree
 }
 
 /// Whether a text is an expression that is the same as a tree.
 fn is_same(alloc: Global, tree: &Expr, text: &str) -> Result<bool, Fail> {
     let other = whole(alloc, text)?;
-    Ok(same_expr(tree, &other))
+    let is_same = same_expr(tree, &other);
+    drop(other);
+    Ok(is_same)
 }
 
 /// Whether two texts are one expression.
 fn is_one(alloc: Global, a: &str, b: &str) -> Result<bool, Fail> {
     let tree = whole(alloc, a)?;
-    is_same(alloc, &tree, b)
+    let is_same = is_same(alloc, &tree, b);
+    drop(tree);
+    is_same
 }
 
-/// Whether a tree is printed with a part.
-fn shows(alloc: Global, tree: &Expr, part: &str) -> Result<bool, Fail> {
-    let shown = format!(in alloc; "{tree:?}")?;
-    Ok(contains(shown.as_str(), part))
-}
-
-fn contains(shown: &str, part: &str) -> bool {
-    shown.contains(part)
-}
-
-/// Texts, how the expression with which each begins is printed up to its form, and how many tokens that has.
-static NODES: [(&str, &str, usize); 60] = [
+/// Texts by kind, each a line: a text, `@`, and what is read of it, up to the form of the expression's node or, with a full stop,
+/// to its end. A table of as many texts as there are parts would be dear to prove.
+static NODES: [&str; 6] = [
     // One operand (6.5.2, 6.5.3).
-    ("+a", "Expr { place: 0, node: Unary(Plus,", 2),
-    ("-a", "Expr { place: 0, node: Unary(Negate,", 2),
-    ("~a", "Expr { place: 0, node: Unary(Complement,", 2),
-    ("!a", "Expr { place: 0, node: Unary(Not,", 2),
-    ("++a", "Expr { place: 0, node: Step(PreIncrement,", 2),
-    ("--a", "Expr { place: 0, node: Step(PreDecrement,", 2),
-    (
-        "x a",
-        "Expr { place: 0, node: Variable(Text { inner: \"x\" })",
-        1,
-    ),
-    ("a++", "Expr { place: 0, node: Step(PostIncrement,", 2),
-    ("a--", "Expr { place: 0, node: Step(PostDecrement,", 2),
-    // Assignments (6.5.16), and other punctuators.
-    ("a = b", "Expr { place: 0, node: Assign(", 3),
-    ("a += b", "Expr { place: 0, node: Update(Add,", 3),
-    ("a -= b", "Expr { place: 0, node: Update(Sub,", 3),
-    ("a *= b", "Expr { place: 0, node: Update(Mul,", 3),
-    ("a /= b", "Expr { place: 0, node: Update(Div,", 3),
-    ("a %= b", "Expr { place: 0, node: Update(Rem,", 3),
-    ("a &= b", "Expr { place: 0, node: Update(And,", 3),
-    ("a |= b", "Expr { place: 0, node: Update(Or,", 3),
-    ("a ^= b", "Expr { place: 0, node: Update(Xor,", 3),
-    ("a <<= b", "Expr { place: 0, node: Update(Shl,", 3),
-    ("a >>= b", "Expr { place: 0, node: Update(Shr,", 3),
-    ("a == b", "Expr { place: 0, node: Binary(Eq,", 3),
-    ("a <= b", "Expr { place: 0, node: Binary(Le,", 3),
-    (
-        "a 1",
-        "Expr { place: 0, node: Variable(Text { inner: \"a\" })",
-        1,
-    ),
-    (
-        "a ! b",
-        "Expr { place: 0, node: Variable(Text { inner: \"a\" })",
-        1,
-    ),
-    ("a->b", "Expr { place: 0, node: Arrow(", 3),
-    ("old.b", "Expr { place: 0, node: Dot(", 3),
+    "+a@2 Expr { place: 0, node: Unary(Plus,\n\
+     -a@2 Expr { place: 0, node: Unary(Negate,\n\
+     ~a@2 Expr { place: 0, node: Unary(Complement,\n\
+     !a@2 Expr { place: 0, node: Unary(Not,\n\
+     ++a@2 Expr { place: 0, node: Step(PreIncrement,\n\
+     --a@2 Expr { place: 0, node: Step(PreDecrement,\n\
+     x a@1 Expr { place: 0, node: Variable(Text { inner: \"x\" })\n\
+     a++@2 Expr { place: 0, node: Step(PostIncrement,\n\
+     a--@2 Expr { place: 0, node: Step(PostDecrement,",
+    // Assignments (6.5.16).
+    "a = b@3 Expr { place: 0, node: Assign(\n\
+     a += b@3 Expr { place: 0, node: Update(Add,\n\
+     a -= b@3 Expr { place: 0, node: Update(Sub,\n\
+     a *= b@3 Expr { place: 0, node: Update(Mul,\n\
+     a /= b@3 Expr { place: 0, node: Update(Div,\n\
+     a %= b@3 Expr { place: 0, node: Update(Rem,\n\
+     a &= b@3 Expr { place: 0, node: Update(And,\n\
+     a |= b@3 Expr { place: 0, node: Update(Or,\n\
+     a ^= b@3 Expr { place: 0, node: Update(Xor,\n\
+     a <<= b@3 Expr { place: 0, node: Update(Shl,\n\
+     a >>= b@3 Expr { place: 0, node: Update(Shr,",
+    // Two operands (6.5.5 to 6.5.14), and other punctuators.
+    "a * b@3 Expr { place: 0, node: Binary(Mul,\n\
+     a / b@3 Expr { place: 0, node: Binary(Div,\n\
+     a % b@3 Expr { place: 0, node: Binary(Rem,\n\
+     a + b@3 Expr { place: 0, node: Binary(Add,\n\
+     a - b@3 Expr { place: 0, node: Binary(Sub,\n\
+     a << b@3 Expr { place: 0, node: Binary(Shl,\n\
+     a >> b@3 Expr { place: 0, node: Binary(Shr,\n\
+     a < b@3 Expr { place: 0, node: Binary(Lt,\n\
+     a > b@3 Expr { place: 0, node: Binary(Gt,\n\
+     a >= b@3 Expr { place: 0, node: Binary(Ge,\n\
+     a != b@3 Expr { place: 0, node: Binary(Ne,\n\
+     a & b@3 Expr { place: 0, node: Binary(And,\n\
+     a ^ b@3 Expr { place: 0, node: Binary(Xor,\n\
+     a | b@3 Expr { place: 0, node: Binary(Or,\n\
+     a && b@3 Expr { place: 0, node: And(\n\
+     a || b@3 Expr { place: 0, node: Or(\n\
+     a == b@3 Expr { place: 0, node: Binary(Eq,\n\
+     a <= b@3 Expr { place: 0, node: Binary(Le,\n\
+     a 1@1 Expr { place: 0, node: Variable(Text { inner: \"a\" })\n\
+     a ! b@1 Expr { place: 0, node: Variable(Text { inner: \"a\" })\n\
+     a->b@3 Expr { place: 0, node: Arrow(\n\
+     old.b@3 Expr { place: 0, node: Dot(",
     // Numbers (6.4.4.1) and characters (6.4.4.4).
-    ("0", "Expr { place: 0, node: Number(I32(0))", 1),
-    ("017", "Expr { place: 0, node: Number(I32(15))", 1),
-    ("0x1fUL", "Expr { place: 0, node: Number(U64(31))", 1),
-    ("42lu", "Expr { place: 0, node: Number(U64(42))", 1),
-    (
-        "9223372036854775807",
-        "Expr { place: 0, node: Number(I64(9223372036854775807))",
-        1,
-    ),
-    ("'a'", "Expr { place: 0, node: Character(I32(97))", 1),
-    ("'\"'", "Expr { place: 0, node: Character(I32(34))", 1),
-    ("'\\n'", "Expr { place: 0, node: Character(I32(10))", 1),
-    ("'\\t'", "Expr { place: 0, node: Character(I32(9))", 1),
-    ("'\\r'", "Expr { place: 0, node: Character(I32(13))", 1),
-    ("'\\0'", "Expr { place: 0, node: Character(I32(0))", 1),
-    ("'\\\\'", "Expr { place: 0, node: Character(I32(92))", 1),
-    ("'\\''", "Expr { place: 0, node: Character(I32(39))", 1),
-    ("'\\\"'", "Expr { place: 0, node: Character(I32(34))", 1),
+    "0@1 Expr { place: 0, node: Number(I32(0))\n\
+     017@1 Expr { place: 0, node: Number(I32(15))\n\
+     0x1fUL@1 Expr { place: 0, node: Number(U64(31))\n\
+     42lu@1 Expr { place: 0, node: Number(U64(42))\n\
+     9223372036854775807@1 Expr { place: 0, node: Number(I64(9223372036854775807))\n\
+     'a'@1 Expr { place: 0, node: Character(I32(97))\n\
+     '\"'@1 Expr { place: 0, node: Character(I32(34))\n\
+     '\\n'@1 Expr { place: 0, node: Character(I32(10))\n\
+     '\\t'@1 Expr { place: 0, node: Character(I32(9))\n\
+     '\\r'@1 Expr { place: 0, node: Character(I32(13))\n\
+     '\\0'@1 Expr { place: 0, node: Character(I32(0))\n\
+     '\\\\'@1 Expr { place: 0, node: Character(I32(92))\n\
+     '\\''@1 Expr { place: 0, node: Character(I32(39))\n\
+     '\\\"'@1 Expr { place: 0, node: Character(I32(34))",
     // Types, their words in every order (6.7.2p2).
-    ("(char) x", "Expr { place: 0, node: Cast(Integer(I8),", 4),
-    (
-        "(signed char) x",
-        "Expr { place: 0, node: Cast(Integer(I8),",
-        5,
-    ),
-    (
-        "(char unsigned) x",
-        "Expr { place: 0, node: Cast(Integer(U8),",
-        5,
-    ),
-    ("(short) x", "Expr { place: 0, node: Cast(Integer(I16),", 4),
-    (
-        "(short int) x",
-        "Expr { place: 0, node: Cast(Integer(I16),",
-        5,
-    ),
-    (
-        "(int signed short) x",
-        "Expr { place: 0, node: Cast(Integer(I16),",
-        6,
-    ),
-    (
-        "(int unsigned short) x",
-        "Expr { place: 0, node: Cast(Integer(U16),",
-        6,
-    ),
-    ("(int) x", "Expr { place: 0, node: Cast(Integer(I32),", 4),
-    ("(signed) x", "Expr { place: 0, node: Cast(Integer(I32),", 4),
-    (
-        "(int signed) x",
-        "Expr { place: 0, node: Cast(Integer(I32),",
-        5,
-    ),
-    (
-        "(unsigned) x",
-        "Expr { place: 0, node: Cast(Integer(U32),",
-        4,
-    ),
-    (
-        "(int unsigned) x",
-        "Expr { place: 0, node: Cast(Integer(U32),",
-        5,
-    ),
-    ("(long) x", "Expr { place: 0, node: Cast(Integer(I64),", 4),
-    (
-        "(int long) x",
-        "Expr { place: 0, node: Cast(Integer(I64),",
-        5,
-    ),
-    (
-        "(long signed int) x",
-        "Expr { place: 0, node: Cast(Integer(I64),",
-        6,
-    ),
-    (
-        "(unsigned long) x",
-        "Expr { place: 0, node: Cast(Integer(U64),",
-        5,
-    ),
-    (
-        "(int long unsigned) x",
-        "Expr { place: 0, node: Cast(Integer(U64),",
-        6,
-    ),
-    (
-        "(struct node *) x",
-        "Expr { place: 0, node: Cast(Handle(Name { place: 8, text: Text { inner: \"node\" } }),",
-        6,
-    ),
-    ("(thrd_t) x", "Expr { place: 0, node: Cast(Thread,", 4),
-    (
-        "count ; 1",
-        "Expr { place: 0, node: Variable(Text { inner: \"count\" })",
-        1,
-    ),
+    "(char) x@4 Expr { place: 0, node: Cast(Integer(I8),\n\
+     (signed char) x@5 Expr { place: 0, node: Cast(Integer(I8),\n\
+     (char unsigned) x@5 Expr { place: 0, node: Cast(Integer(U8),\n\
+     (short) x@4 Expr { place: 0, node: Cast(Integer(I16),\n\
+     (short int) x@5 Expr { place: 0, node: Cast(Integer(I16),\n\
+     (int signed short) x@6 Expr { place: 0, node: Cast(Integer(I16),\n\
+     (int unsigned short) x@6 Expr { place: 0, node: Cast(Integer(U16),\n\
+     (int) x@4 Expr { place: 0, node: Cast(Integer(I32),\n\
+     (signed) x@4 Expr { place: 0, node: Cast(Integer(I32),\n\
+     (int signed) x@5 Expr { place: 0, node: Cast(Integer(I32),\n\
+     (unsigned) x@4 Expr { place: 0, node: Cast(Integer(U32),\n\
+     (int unsigned) x@5 Expr { place: 0, node: Cast(Integer(U32),\n\
+     (long) x@4 Expr { place: 0, node: Cast(Integer(I64),\n\
+     (int long) x@5 Expr { place: 0, node: Cast(Integer(I64),\n\
+     (long signed int) x@6 Expr { place: 0, node: Cast(Integer(I64),\n\
+     (unsigned long) x@5 Expr { place: 0, node: Cast(Integer(U64),\n\
+     (int long unsigned) x@6 Expr { place: 0, node: Cast(Integer(U64),\n\
+     (struct node *) x@6 Expr { place: 0, node: Cast(Handle(Name { place: 8, text: Text { inner: \"node\" } }),\n\
+     (thrd_t) x@4 Expr { place: 0, node: Cast(Thread,\n\
+     count ; 1@1 Expr { place: 0, node: Variable(Text { inner: \"count\" })",
+    // Whole trees.
+    "(a)@3 Expr { place: 1, node: Variable(Text { inner: \"a\" }) }.\n\
+     a - b - c@5 Expr { place: 0, node: Binary(Sub, Boxed { inner: Expr { place: 0, node: Binary(Sub, Boxed { inner: Expr { place: 0, node: Variable(Text { inner: \"a\" }) } }, Boxed { inner: Expr { place: 4, node: Variable(Text { inner: \"b\" }) } }) } }, Boxed { inner: Expr { place: 8, node: Variable(Text { inner: \"c\" }) } }) }.\n\
+     a = (b) = 1@7 Expr { place: 0, node: Assign(Boxed { inner: Expr { place: 0, node: Variable(Text { inner: \"a\" }) } }, Boxed { inner: Expr { place: 4, node: Assign(Boxed { inner: Expr { place: 5, node: Variable(Text { inner: \"b\" }) } }, Boxed { inner: Expr { place: 10, node: Number(I32(1)) } }) } }) }.\n\
+     f(-x, y->z)@9 Expr { place: 0, node: Call(Text { inner: \"f\" }, List { inner: [Expr { place: 2, node: Unary(Negate, Boxed { inner: Expr { place: 3, node: Variable(Text { inner: \"x\" }) } }) }, Expr { place: 6, node: Arrow(Boxed { inner: Expr { place: 6, node: Variable(Text { inner: \"y\" }) } }, Name { place: 9, text: Text { inner: \"z\" } }) }] }) }.",
 ];
 
-/// Whether a tree of so many tokens is of this node and has these many.
-fn is_node(alloc: Global, tree: &Expr, to: usize, node: &str, count: usize) -> Result<bool, Fail> {
-    if to == count {
-        shows(alloc, tree, node)
-    } else {
-        Ok(false)
-    }
+/// Whether a tree of so many tokens is printed so.
+fn is_printed(alloc: Global, tree: &Expr, to: usize, want: &str) -> Result<bool, Fail> {
+    let shown = format!(in alloc; "{to} {tree:?}.")?;
+    Ok(begins(shown.as_str(), want))
 }
 
-/// Whether tokens begin with so many that are an expression of this node.
-fn begin(alloc: Global, tokens: &[Token], node: &str, count: usize) -> Result<bool, Fail> {
+fn begins(shown: &str, want: &str) -> bool {
+    shown.starts_with(want)
+}
+
+/// Whether what some tokens are read as is printed so.
+fn are_printed(alloc: Global, tokens: &[Token], want: &str) -> Result<bool, Fail> {
     let (tree, to) = expression_of(alloc, tokens, 0)?;
-    is_node(alloc, &tree, to, node, count)
+    let is_printed = is_printed(alloc, &tree, to, want);
+    drop(tree);
+    is_printed
 }
 
 /// The same of a text.
-fn begins(alloc: Global, text: &str, node: &str, count: usize) -> Result<bool, Fail> {
+fn is_read(alloc: Global, text: &str, want: &str) -> Result<bool, Fail> {
     let tokens = tokens_of(alloc, text)?;
-    begin(alloc, &tokens, node, count)
+    let are_printed = are_printed(alloc, &tokens, want);
+    drop(tokens);
+    are_printed
+}
+
+/// The same of a line.
+fn is_line_read(alloc: Global, line: &str) -> Result<bool, Fail> {
+    match line.split_once("@") {
+        Some((text, want)) => is_read(alloc, text, want),
+        None => Ok(false),
+    }
+}
+
+/// The first of some lines that is read otherwise, or `None`.
+fn first_other(alloc: Global, lines: &'static str) -> Result<Option<&'static str>, Fail> {
+    for line in lines.lines() {
+        if !is_line_read(alloc, line)? {
+            return Ok(Some(line));
+        }
+    }
+    Ok(None)
 }
 
 #[test]
-fn nodes_are_told_by_their_tokens(rt: HostRuntime) -> Result<(), Fail> {
-    for (text, node, count) in NODES.iter() {
-        let is_told = begins(rt.alloc(), text, node, *count)?;
-        assert!(rt; is_told, "{text}");
+fn texts_are_read_as_their_trees(rt: HostRuntime) -> Result<(), Fail> {
+    for lines in NODES.iter() {
+        let other = first_other(rt.alloc(), lines)?;
+        assert_eq!(rt; other, None);
     }
     Ok(())
 }
 
-/// Texts with a whole tree.
-static TREES: [(&str, &str); 4] = [
-    (
-        "(a)",
-        "Expr { place: 1, node: Variable(Text { inner: \"a\" }) }",
-    ),
-    (
-        "a - b - c",
-        "Expr { place: 0, node: Binary(Sub, Boxed { inner: Expr { place: 0, node: Binary(Sub, Boxed { inner: Expr { place: 0, node: Variable(Text { inner: \"a\" }) } }, Boxed { inner: Expr { place: 4, node: Variable(Text { inner: \"b\" }) } }) } }, Boxed { inner: Expr { place: 8, node: Variable(Text { inner: \"c\" }) } }) }",
-    ),
-    (
-        "a = (b) = 1",
-        "Expr { place: 0, node: Assign(Boxed { inner: Expr { place: 0, node: Variable(Text { inner: \"a\" }) } }, Boxed { inner: Expr { place: 4, node: Assign(Boxed { inner: Expr { place: 5, node: Variable(Text { inner: \"b\" }) } }, Boxed { inner: Expr { place: 10, node: Number(I32(1)) } }) } }) }",
-    ),
-    (
-        "f(-x, y->z)",
-        "Expr { place: 0, node: Call(Text { inner: \"f\" }, List { inner: [Expr { place: 2, node: Unary(Negate, Boxed { inner: Expr { place: 3, node: Variable(Text { inner: \"x\" }) } }) }, Expr { place: 6, node: Arrow(Boxed { inner: Expr { place: 6, node: Variable(Text { inner: \"y\" }) } }, Name { place: 9, text: Text { inner: \"z\" } }) }] }) }",
-    ),
+/// The operators with two operands, by their levels (6.5.5 to 6.5.14).
+static JOINTS: [(&str, u32); 18] = [
+    ("*", 1),
+    ("/", 1),
+    ("%", 1),
+    ("+", 2),
+    ("-", 2),
+    ("<<", 3),
+    (">>", 3),
+    ("<", 4),
+    (">", 4),
+    ("<=", 4),
+    (">=", 4),
+    ("==", 5),
+    ("!=", 5),
+    ("&", 6),
+    ("^", 7),
+    ("|", 8),
+    ("&&", 9),
+    ("||", 10),
 ];
 
-/// Whether a tree is printed so.
-fn prints(alloc: Global, tree: &Expr, want: &str) -> Result<bool, Fail> {
-    let shown = format!(in alloc; "{tree:?}")?;
-    Ok(shown.as_str() == want)
-}
-
-/// Whether the tree of a text is printed so.
-fn is_printed(alloc: Global, text: &str, want: &str) -> Result<bool, Fail> {
-    let tree = whole(alloc, text)?;
-    prints(alloc, &tree, want)
-}
-
-#[test]
-fn trees_hold_forms_and_places(rt: HostRuntime) -> Result<(), Fail> {
-    for (text, want) in TREES.iter() {
-        let holds = is_printed(rt.alloc(), text, want)?;
-        assert!(rt; holds, "{text}");
-    }
-    Ok(())
-}
-
-/// The operators with two operands by their levels (6.5.5 to 6.5.14), and the node that each makes.
-static JOINTS: [(&str, u32, &str); 18] = [
-    ("*", 1, "Expr { place: 0, node: Binary(Mul,"),
-    ("/", 1, "Expr { place: 0, node: Binary(Div,"),
-    ("%", 1, "Expr { place: 0, node: Binary(Rem,"),
-    ("+", 2, "Expr { place: 0, node: Binary(Add,"),
-    ("-", 2, "Expr { place: 0, node: Binary(Sub,"),
-    ("<<", 3, "Expr { place: 0, node: Binary(Shl,"),
-    (">>", 3, "Expr { place: 0, node: Binary(Shr,"),
-    ("<", 4, "Expr { place: 0, node: Binary(Lt,"),
-    (">", 4, "Expr { place: 0, node: Binary(Gt,"),
-    ("<=", 4, "Expr { place: 0, node: Binary(Le,"),
-    (">=", 4, "Expr { place: 0, node: Binary(Ge,"),
-    ("==", 5, "Expr { place: 0, node: Binary(Eq,"),
-    ("!=", 5, "Expr { place: 0, node: Binary(Ne,"),
-    ("&", 6, "Expr { place: 0, node: Binary(And,"),
-    ("^", 7, "Expr { place: 0, node: Binary(Xor,"),
-    ("|", 8, "Expr { place: 0, node: Binary(Or,"),
-    ("&&", 9, "Expr { place: 0, node: And("),
-    ("||", 10, "Expr { place: 0, node: Or("),
-];
-
-/// Whether two operands with an operator between them are this node.
-fn joins(alloc: Global, x: &str, node: &str) -> Result<bool, Fail> {
-    let text = format!(in alloc; "a {x} b")?;
-    begins(alloc, &text, node, 3)
-}
-
-/// Whether three operands group from the left.
-fn groups_left(alloc: Global, x: &str, y: &str) -> Result<bool, Fail> {
-    let plain = format!(in alloc; "a {x} b {y} c")?;
+/// Whether three operands with no parentheses group from the left.
+fn group_left(alloc: Global, plain: &str, x: &str, y: &str) -> Result<bool, Fail> {
     let left = format!(in alloc; "(a {x} b) {y} c")?;
-    is_one(alloc, &plain, &left)
+    is_one(alloc, plain, &left)
 }
 
 /// Whether they group from the right.
-fn groups_right(alloc: Global, x: &str, y: &str) -> Result<bool, Fail> {
-    let plain = format!(in alloc; "a {x} b {y} c")?;
+fn group_right(alloc: Global, plain: &str, x: &str, y: &str) -> Result<bool, Fail> {
     let right = format!(in alloc; "a {x} (b {y} c)")?;
-    is_one(alloc, &plain, &right)
+    is_one(alloc, plain, &right)
 }
 
-#[test]
-fn operators_join_two_operands(rt: HostRuntime) -> Result<(), Fail> {
-    for (x, _, node) in JOINTS.iter() {
-        let is_joint = joins(rt.alloc(), x, node)?;
-        assert!(rt; is_joint, "{x}");
-    }
-    Ok(())
+/// Whether they group from the left alone, or from the right alone.
+fn group_one_way(
+    alloc: Global,
+    plain: &str,
+    x: &str,
+    y: &str,
+    is_left: bool,
+) -> Result<bool, Fail> {
+    let left = group_left(alloc, plain, x, y)?;
+    let right = group_right(alloc, plain, x, y)?;
+    Ok(left == is_left && right != is_left)
 }
 
-/// Whether three operands group from the left exactly where the first operator's level is no higher.
+/// Whether they group from the left exactly where the first operator's level is no higher.
 fn bind_by_levels(alloc: Global, x: &str, low: u32, y: &str, high: u32) -> Result<bool, Fail> {
-    let left = groups_left(alloc, x, y)?;
-    let right = groups_right(alloc, x, y)?;
-    Ok(left == (low <= high) && right == (low > high))
+    let plain = format!(in alloc; "a {x} b {y} c")?;
+    group_one_way(alloc, &plain, x, y, low <= high)
 }
 
 #[test]
 fn operators_bind_by_their_levels(rt: HostRuntime) -> Result<(), Fail> {
-    for (x, low, _) in JOINTS.iter() {
-        for (y, high, _) in JOINTS.iter() {
+    for (x, low) in JOINTS.iter() {
+        for (y, high) in JOINTS.iter() {
             let is_bound = bind_by_levels(rt.alloc(), x, *low, y, *high)?;
             assert!(rt; is_bound, "{x} {y}");
         }
@@ -341,24 +269,22 @@ fn operators_bind_by_their_levels(rt: HostRuntime) -> Result<(), Fail> {
     Ok(())
 }
 
-/// Texts that are no tokens.
-static NO_TOKENS: [&str; 5] = ["18446744073709551616u", "''", "'ab'", "'\u{e9}'", "'"];
-
-#[test]
-fn malformed_literals_are_no_tokens(rt: HostRuntime) {
-    for text in NO_TOKENS.iter() {
-        assert!(rt; tokens_of(rt.alloc(), text).is_err(), "{text}");
-    }
-}
-
-/// Adjacent strings, what they mean, and how many tokens they are.
+/// Calls with adjacent strings, what these mean, and how many tokens each is.
 static STRINGS: [(&str, &str, usize); 6] = [
-    ("\"\"", "", 1),
-    ("\"a\\n\\t\\r\\\\\\'\\\"z\"", "a\n\t\r\\'\"z", 1),
-    ("\"\\\\n\"", "\\n", 1),
-    ("\"caf\u{e9} \u{1f600}\\n\"", "caf\u{e9} \u{1f600}\n", 1),
-    ("\"one \" \"\u{fc}ber\"\"\\\\\"", "one \u{fc}ber\\", 3),
-    ("\"'\\\\\\\\\"", "'\\\\", 1),
+    ("printf(\"\")", "", 4),
+    ("printf(\"a\\n\\t\\r\\\\\\'\\\"z\")", "a\n\t\r\\'\"z", 4),
+    ("printf(\"\\\\n\")", "\\n", 4),
+    (
+        "printf(\"caf\u{e9} \u{1f600}\\n\")",
+        "caf\u{e9} \u{1f600}\n",
+        4,
+    ),
+    (
+        "printf(\"one \" \"\u{fc}ber\"\"\\\\\")",
+        "one \u{fc}ber\\",
+        6,
+    ),
+    ("printf(\"'\\\\\\\\\")", "'\\\\", 4),
 ];
 
 /// The place of a call's format, and the format.
@@ -372,91 +298,82 @@ fn format_of(tree: &Expr) -> Option<(usize, &str)> {
 /// Whether tokens begin with so many that are a call with this format, whose strings are at byte 7.
 fn have_format(alloc: Global, tokens: &[Token], want: &str, count: usize) -> Result<bool, Fail> {
     let (tree, to) = expression_of(alloc, tokens, 0)?;
-    Ok(to == count && format_of(&tree) == Some((7, want)))
+    let have_format = to == count && format_of(&tree) == Some((7, want));
+    drop(tree);
+    Ok(have_format)
 }
 
-/// The same of a call with these strings.
-fn has_format(alloc: Global, strings: &str, want: &str, count: usize) -> Result<bool, Fail> {
-    let text = format!(in alloc; "printf({strings})")?;
-    let tokens = tokens_of(alloc, &text)?;
-    have_format(alloc, &tokens, want, count)
+/// The same of a text.
+fn has_format(alloc: Global, text: &str, want: &str, count: usize) -> Result<bool, Fail> {
+    let tokens = tokens_of(alloc, text)?;
+    let have_format = have_format(alloc, &tokens, want, count);
+    drop(tokens);
+    have_format
 }
 
 #[test]
 fn adjacent_strings_are_one(rt: HostRuntime) -> Result<(), Fail> {
-    for (strings, want, count) in STRINGS.iter() {
-        let is_one = has_format(rt.alloc(), strings, want, *count + 3)?;
-        assert!(rt; is_one, "{strings}");
+    for (text, want, count) in STRINGS.iter() {
+        let is_one = has_format(rt.alloc(), text, want, *count)?;
+        assert!(rt; is_one, "{text}");
     }
     Ok(())
 }
 
-/// Expressions, and the same ones with all their parentheses.
-static GROUPS: [(&str, &str); 38] = [
-    ("a-b-c", "(a-b)-c"),
-    ("a-b*c-d", "(a-(b*c))-d"),
-    ("a*b%c/d", "((a*b)%c)/d"),
-    ("a<<b+c", "a<<(b+c)"),
-    ("a<b<<c", "a<(b<<c)"),
-    ("a==b<c", "a==(b<c)"),
-    ("a&b==c", "a&(b==c)"),
-    ("a^b&c", "a^(b&c)"),
-    ("a|b^c", "a|(b^c)"),
-    ("a&&b|c", "a&&(b|c)"),
-    ("a||b&&c", "a||(b&&c)"),
-    ("a||b||c", "(a||b)||c"),
-    ("a!=b==c", "(a!=b)==c"),
-    ("a>=b<=c>d", "((a>=b)<=c)>d"),
-    ("a?b:c", "(a)?(b):(c)"),
-    ("a?b:c?d:e", "a?b:(c?d:e)"),
-    ("a?b?c:d:e", "a?(b?c:d):e"),
-    ("a?b=c:d", "a?(b=c):d"),
-    ("a||b?c:d", "(a||b)?c:d"),
-    ("a=b=c", "a=(b=c)"),
-    ("a=b?c:d", "a=(b?c:d)"),
-    ("a+=b<<=c", "a+=(b<<=c)"),
-    ("-a=b", "(-a)=b"),
-    ("-a-b", "(-a)-b"),
-    ("- -a", "-(-a)"),
-    ("!~+a", "!(~(+a))"),
-    ("-a++", "-(a++)"),
-    ("++a->b", "++(a->b)"),
-    ("a++++", "((a++)++)"),
-    ("a->b->c", "(a->b)->c"),
-    ("f(a)->b++", "((f(a))->b)++"),
-    ("a[b]++", "(a[b])++"),
-    ("(int)a*b", "((int)a)*b"),
-    ("(int)-a", "(int)(-a)"),
-    ("(int)(long)a", "(int)((long)a)"),
-    ("(struct t*)p->q", "(struct t*)(p->q)"),
-    ("-(int)a", "-((int)a)"),
-    ("f(a,b=c,d?e:g)", "f((a),(b=c),(d?e:g))"),
+/// Expressions, others with more parentheses or another order, and whether the two are the same.
+static GROUPS: [(&str, &str, bool); 44] = [
+    ("a-b-c", "(a-b)-c", true),
+    ("a-b*c-d", "(a-(b*c))-d", true),
+    ("a*b%c/d", "((a*b)%c)/d", true),
+    ("a<<b+c", "a<<(b+c)", true),
+    ("a<b<<c", "a<(b<<c)", true),
+    ("a==b<c", "a==(b<c)", true),
+    ("a&b==c", "a&(b==c)", true),
+    ("a^b&c", "a^(b&c)", true),
+    ("a|b^c", "a|(b^c)", true),
+    ("a&&b|c", "a&&(b|c)", true),
+    ("a||b&&c", "a||(b&&c)", true),
+    ("a||b||c", "(a||b)||c", true),
+    ("a!=b==c", "(a!=b)==c", true),
+    ("a>=b<=c>d", "((a>=b)<=c)>d", true),
+    ("a?b:c", "(a)?(b):(c)", true),
+    ("a?b:c?d:e", "a?b:(c?d:e)", true),
+    ("a?b?c:d:e", "a?(b?c:d):e", true),
+    ("a?b=c:d", "a?(b=c):d", true),
+    ("a||b?c:d", "(a||b)?c:d", true),
+    ("a=b=c", "a=(b=c)", true),
+    ("a=b?c:d", "a=(b?c:d)", true),
+    ("a+=b<<=c", "a+=(b<<=c)", true),
+    ("-a=b", "(-a)=b", true),
+    ("-a-b", "(-a)-b", true),
+    ("- -a", "-(-a)", true),
+    ("!~+a", "!(~(+a))", true),
+    ("-a++", "-(a++)", true),
+    ("++a->b", "++(a->b)", true),
+    ("a++++", "((a++)++)", true),
+    ("a->b->c", "(a->b)->c", true),
+    ("f(a)->b++", "((f(a))->b)++", true),
+    ("a[b]++", "(a[b])++", true),
+    ("(int)a*b", "((int)a)*b", true),
+    ("(int)-a", "(int)(-a)", true),
+    ("(int)(long)a", "(int)((long)a)", true),
+    ("(struct t*)p->q", "(struct t*)(p->q)", true),
+    ("-(int)a", "-((int)a)", true),
+    ("f(a,b=c,d?e:g)", "f((a),(b=c),(d?e:g))", true),
+    // Expressions that differ.
+    ("a-b-c", "a-(b-c)", false),
+    ("a*b+c", "a*(b+c)", false),
+    ("-a++", "(-a)++", false),
+    ("(int)a*b", "(int)(a*b)", false),
+    ("a?b:c", "a?c:b", false),
+    ("f(a,b)", "f(b,a)", false),
 ];
 
 #[test]
 fn operators_group_as_in_c(rt: HostRuntime) -> Result<(), Fail> {
-    for (short, long) in GROUPS.iter() {
-        let is_same = is_one(rt.alloc(), short, long)?;
-        assert!(rt; is_same, "{short}");
-    }
-    Ok(())
-}
-
-/// Expressions that differ.
-static OTHERS: [(&str, &str); 6] = [
-    ("a-b-c", "a-(b-c)"),
-    ("a*b+c", "a*(b+c)"),
-    ("-a++", "(-a)++"),
-    ("(int)a*b", "(int)(a*b)"),
-    ("a?b:c", "a?c:b"),
-    ("f(a,b)", "f(b,a)"),
-];
-
-#[test]
-fn other_groups_are_other_trees(rt: HostRuntime) -> Result<(), Fail> {
-    for (a, b) in OTHERS.iter() {
-        let is_same = is_one(rt.alloc(), a, b)?;
-        assert!(rt; !is_same, "{a}");
+    for (short, long, is_same) in GROUPS.iter() {
+        let found = is_one(rt.alloc(), short, long)?;
+        assert_eq!(rt; found, *is_same, "{short} {long}");
     }
     Ok(())
 }
@@ -555,25 +472,6 @@ fn expressions_end_where_the_grammar_ends(rt: HostRuntime) -> Result<(), Fail> {
     Ok(())
 }
 
-/// A text of so many copies of a piece, a middle and as many copies of another piece.
-fn nested(
-    alloc: Global,
-    count: usize,
-    open: &str,
-    middle: &str,
-    close: &str,
-) -> Result<String, Fail> {
-    let mut text = String::new(alloc);
-    for _ in 0..count {
-        text.push_str(open)?;
-    }
-    text.push_str(middle)?;
-    for _ in 0..count {
-        text.push_str(close)?;
-    }
-    Ok(text)
-}
-
 /// What nests an expression, and the first token that is too deep where it is nested 65 times.
 static NESTS: [(&str, &str, usize); 6] = [
     ("(", ")", 65),
@@ -588,20 +486,25 @@ static NESTS: [(&str, &str, usize); 6] = [
 fn fault_of_nest(
     alloc: Global,
     count: usize,
-    open: &str,
-    close: &str,
+    open: &'static str,
+    close: &'static str,
 ) -> Result<Option<SyntaxFault>, Fail> {
-    let text = nested(alloc, count, open, "x", close)?;
-    Ok(read(alloc, &text, 0)?.err())
+    let text = text_of(alloc, &[(open, count), ("x", 1), (close, count)], 0)?;
+    let found = read(alloc, &text, 0);
+    drop(text);
+    Ok(found?.err())
 }
 
 /// Whether an expression that is nested 64 times is read, and with one level more stops as too deep at a token.
-fn has_64_levels(alloc: Global, open: &str, close: &str, place: usize) -> Result<bool, Fail> {
-    if fault_of_nest(alloc, 64, open, close)?.is_some() {
-        return Ok(false);
-    }
+fn has_64_levels(
+    alloc: Global,
+    open: &'static str,
+    close: &'static str,
+    place: usize,
+) -> Result<bool, Fail> {
+    let most = fault_of_nest(alloc, 64, open, close)?;
     let more = fault_of_nest(alloc, 65, open, close)?;
-    Ok(more == Some(SyntaxFault::TooDeep(place)))
+    Ok(most.is_none() && more == Some(SyntaxFault::TooDeep(place)))
 }
 
 #[test]

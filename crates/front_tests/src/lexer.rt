@@ -1,8 +1,10 @@
 //! That `c_lexer` cuts texts as C11 6.4 says, over the standard's examples and the language's own words,
 //! and that a text of any length takes linear time.
 
+use crate::reading::{Piece, text_of, tokens_of};
 use c_lexer::TokenKind::{Character, Identifier, Keyword, LibraryWord, Number, Punctuator, Str};
 use c_lexer::{LexFault, Token, TokenKind, lex};
+use std::alloc::Global;
 use std::test::Fail;
 
 /// A token as a table has it: kind, place, spelling.
@@ -102,7 +104,7 @@ static TEXTS: [(&str, &[Row]); 14] = [
 ];
 
 /// Texts with their first faults.
-static FAULTS: [(&[u8], LexFault); 32] = [
+static FAULTS: [(&[u8], LexFault); 35] = [
     (b"int x = 08;", LexFault::BadLiteral(8)),
     (b"/* open", LexFault::BadByte(0)),
     (b"a/*/", LexFault::BadByte(1)),
@@ -135,6 +137,9 @@ static FAULTS: [(&[u8], LexFault); 32] = [
     (b"1\xc3\xa9", LexFault::BadLiteral(0)),
     (b"18446744073709551616u", LexFault::BadLiteral(0)),
     (b"''", LexFault::BadLiteral(0)),
+    (b"'", LexFault::BadLiteral(0)),
+    (b"'ab'", LexFault::BadLiteral(0)),
+    (b"'\xc3\xa9'", LexFault::BadLiteral(0)),
     (b"'\n'", LexFault::BadLiteral(0)),
     (b"a \"\\0\"", LexFault::BadLiteral(2)),
     (b"\"\xff\"", LexFault::BadLiteral(0)),
@@ -159,11 +164,19 @@ fn are_rows(tokens: &[Token], rows: &[Row]) -> bool {
     tokens.len() == rows.len()
 }
 
+/// Whether a text has the tokens of the rows.
+fn has_rows(alloc: Global, text: &str, rows: &[Row]) -> Result<bool, LexFault> {
+    let tokens = tokens_of(alloc, text)?;
+    let are_rows = are_rows(&tokens, rows);
+    drop(tokens);
+    Ok(are_rows)
+}
+
 #[test]
 fn texts_have_their_tokens(rt: HostRuntime) -> Result<(), Fail> {
     for (text, rows) in &TEXTS {
-        let tokens = lex(rt.alloc(), text.as_bytes())?;
-        assert!(rt; are_rows(tokens.as_slice(), rows), "{text}");
+        let has_rows = has_rows(rt.alloc(), text, rows)?;
+        assert!(rt; has_rows, "{text}");
     }
     Ok(())
 }
@@ -175,44 +188,53 @@ fn faults_stand_at_their_places(rt: HostRuntime) {
     }
 }
 
-#[test]
-fn a_text_has_so_many_tokens(rt: HostRuntime) -> Result<(), Fail> {
-    let text = vec![in rt.alloc(); b';'; 65_536]?;
-    assert!(rt; lex(rt.alloc(), text.as_slice())?.len() == 65_536);
-    Ok(())
-}
-
-/// What comes after 65,536 punctuators, and the fault of the whole text.
-static PAST: [(&[u8], LexFault); 2] = [
-    (b"$", LexFault::BadByte(65_536)),
-    (b";$;", LexFault::TooMany(65_536)),
+/// Long texts, and how many tokens each has, or its fault.
+static LONG: [(&[Piece], Result<usize, LexFault>); 10] = [
+    // As many tokens as a text may have. A fault comes before a token too many.
+    (&[(";", 65_536)], Ok(65_536)),
+    (
+        &[("int x;\n", 21_842), ("int x, y; int x, y;", 1)],
+        Ok(65_536),
+    ),
+    (&[(";", 65_536), ("$", 1)], Err(LexFault::BadByte(65_536))),
+    (&[(";", 65_536), (";$;", 1)], Err(LexFault::TooMany(65_536))),
+    // One byte 1,048,576 times: such a text takes linear time.
+    (&[("                ", 65_536)], Ok(0)),
+    (
+        &[("1111111111111111", 65_536)],
+        Err(LexFault::BadLiteral(0)),
+    ),
+    (&[("xxxxxxxxxxxxxxxx", 65_536)], Ok(1)),
+    (&[("////////////////", 65_536)], Ok(0)),
+    (
+        &[("''''''''''''''''", 65_536)],
+        Err(LexFault::BadLiteral(0)),
+    ),
+    (
+        &[("\"\"\"\"\"\"\"\"\"\"\"\"\"\"\"\"", 65_536)],
+        Err(LexFault::TooMany(131_072)),
+    ),
 ];
 
-#[test]
-fn a_fault_comes_before_a_token_too_many(rt: HostRuntime) -> Result<(), Fail> {
-    for (past, fault) in &PAST {
-        let mut text = vec![in rt.alloc(); b';'; 65_536]?;
-        text.extend_from_slice(past)?;
-        assert!(rt; lex(rt.alloc(), text.as_slice()).err() == Some(*fault));
-    }
-    Ok(())
+/// How many tokens a text has, or its fault.
+fn count_of(alloc: Global, text: &str) -> Result<usize, LexFault> {
+    let tokens = tokens_of(alloc, text)?;
+    let count = tokens.len();
+    drop(tokens);
+    Ok(count)
 }
 
-/// One byte many times, and what the text is.
-static LONG: [(u8, Option<LexFault>); 6] = [
-    (b' ', None),
-    (b'1', Some(LexFault::BadLiteral(0))),
-    (b'x', None),
-    (b'/', None),
-    (b'\'', Some(LexFault::BadLiteral(0))),
-    (b'"', Some(LexFault::TooMany(131_072))),
-];
+/// The same of the text of some pieces.
+fn count_in(alloc: Global, pieces: &[Piece]) -> Result<Result<usize, LexFault>, Fail> {
+    let text = text_of(alloc, pieces, 0)?;
+    Ok(count_of(alloc, &text))
+}
 
 #[test]
 fn long_texts_take_linear_time(rt: HostRuntime) -> Result<(), Fail> {
-    for (byte, fault) in &LONG {
-        let text = vec![in rt.alloc(); *byte; 1_048_576]?;
-        assert!(rt; lex(rt.alloc(), text.as_slice()).err() == *fault, "{byte}");
+    for (row, (pieces, count)) in LONG.iter().enumerate() {
+        let found = count_in(rt.alloc(), pieces)?;
+        assert_eq!(rt; found, *count, "row {row}");
     }
     Ok(())
 }

@@ -1,132 +1,135 @@
 //! Programs: their items, their faults and their depth.
-use crate::reading::{program_in, program_of, tokens_of};
+use crate::reading::{Piece, program_in, program_of, text_of, tokens_of};
 use c_expr_parser::SyntaxFault;
+use c_expr_parser::SyntaxFault::{At, TooDeep};
 use c_lexer::Token;
 use c_tree::{Def, DefKind, Stmt, StmtNode};
 use std::alloc::Global;
 use std::test::Fail;
 
-/// Texts with an item of each kind, and how many definitions they make.
-static ACCEPTED: [(&str, usize); 16] = [
-    ("", 0),
-    ("struct T;", 1),
-    ("struct T { int a, b; struct U *p, *q; };", 1),
-    ("mtx_t m; static mtx_t n;", 2),
-    ("thrd_t t[4]; int a, b = 2, c[3] = {1, 2,};", 4),
-    ("struct T *p, *q; static struct T *r = NULL;", 3),
+/// Texts, and how many definitions each makes, or its fault.
+static TEXTS: [(&str, Result<usize, SyntaxFault>); 32] = [
+    // An item of each kind.
+    ("", Ok(0)),
+    ("struct T;", Ok(1)),
+    ("struct T { int a, b; struct U *p, *q; };", Ok(1)),
+    ("mtx_t m; static mtx_t n;", Ok(2)),
+    ("thrd_t t[4]; int a, b = 2, c[3] = {1, 2,};", Ok(4)),
+    ("struct T *p, *q; static struct T *r = NULL;", Ok(3)),
     (
         "int f(); int g(void); void h(int a, struct T *b); int k(int, thrd_t);",
-        4,
+        Ok(4),
     ),
-    ("static struct T *f(void) { return NULL; }", 1),
-    ("dsu_transform struct T { a = old.b + 1; c = 2; }", 1),
-    ("dsu_transform struct T { }", 1),
-    ("dsu_transform g = old + 1;", 1),
+    ("static struct T *f(void) { return NULL; }", Ok(1)),
+    ("dsu_transform struct T { a = old.b + 1; c = 2; }", Ok(1)),
+    ("dsu_transform struct T { }", Ok(1)),
+    ("dsu_transform g = old + 1;", Ok(1)),
     (
         "void f(void) { int a, b = 1; struct T *p = q, *r; ; { } a = b; }",
-        1,
+        Ok(1),
     ),
     (
         "void f(void) { while (1) break; do continue; while (0); return; }",
-        1,
+        Ok(1),
     ),
     (
         "void f(void) { for (;;) ; for (i = 0; i < 3; i++) g(i); }",
-        1,
+        Ok(1),
     ),
     (
         "void f(void) { for (int i = 0, j = 1; ; ) { dsu_update(); } }",
-        1,
+        Ok(1),
     ),
     (
         "void f(void) { dsu_tx { int a = 1; b = a; } dsu_tx { } }",
-        1,
+        Ok(1),
     ),
+    // Texts that are none, and the number of the token where that is seen.
+    ("int main(void) { return 1", Err(At(8))),
+    ("int x = 1", Err(At(4))),
+    ("int x", Err(At(2))),
+    ("int a[2] = {,};", Err(At(7))),
+    ("static struct T { int a; };", Err(At(3))),
+    ("void f(void) { else; }", Err(At(6))),
+    ("int f(int, int b);", Err(At(6))),
+    ("int f(int a, int);", Err(At(7))),
+    ("void g;", Err(At(2))),
+    ("dsu_transform x = 1", Err(At(4))),
+    ("int f(void) { dsu_tx; }", Err(At(7))),
+    ("struct T { };", Err(At(3))),
+    ("int x = 1, ;", Err(At(5))),
+    ("mtx_t m, n;", Err(At(2))),
+    ("int f(void) { for (;) ; }", Err(At(9))),
+    ("int x; }", Err(At(3))),
 ];
 
 /// How many definitions some tokens of a text of so many bytes are, and the end of the program.
 fn read_of(alloc: Global, tokens: &[Token], end: usize) -> Result<(usize, usize), SyntaxFault> {
     let program = program_of(alloc, tokens, end)?;
-    Ok((program.definitions.as_slice().len(), program.end))
+    let found = (program.definitions.as_slice().len(), program.end);
+    drop(program);
+    Ok(found)
 }
 
 /// The same of a text.
-fn read(alloc: Global, text: &str) -> Result<(usize, usize), Fail> {
+fn read(alloc: Global, text: &str) -> Result<Result<(usize, usize), SyntaxFault>, Fail> {
     let tokens = tokens_of(alloc, text)?;
-    Ok(read_of(alloc, &tokens, text.len())?)
+    let found = read_of(alloc, &tokens, text.len());
+    drop(tokens);
+    Ok(found)
+}
+
+/// What is read of a text with these definitions or this fault.
+fn due(text: &str, count: Result<usize, SyntaxFault>) -> Result<(usize, usize), SyntaxFault> {
+    Ok((count?, text.len()))
 }
 
 #[test]
-fn each_kind_of_item_is_read(rt: HostRuntime) -> Result<(), Fail> {
-    for (text, count) in ACCEPTED.iter() {
+fn texts_have_their_items_or_a_fault(rt: HostRuntime) -> Result<(), Fail> {
+    for (text, count) in TEXTS.iter() {
         let found = read(rt.alloc(), text)?;
-        assert_eq!(rt; found, (*count, text.len()), "{text}");
+        assert_eq!(rt; found, due(text, *count), "{text}");
     }
     Ok(())
 }
 
-/// The fault of a text.
-fn fault(alloc: Global, text: &str) -> Result<Option<SyntaxFault>, Fail> {
-    let tokens = tokens_of(alloc, text)?;
-    Ok(read_of(alloc, &tokens, text.len()).err())
-}
-
-/// Texts that are none, and the number of the token where that is seen.
-static REFUSED: [(&str, usize); 16] = [
-    ("int main(void) { return 1", 8),
-    ("int x = 1", 4),
-    ("int x", 2),
-    ("int a[2] = {,};", 7),
-    ("static struct T { int a; };", 3),
-    ("void f(void) { else; }", 6),
-    ("int f(int, int b);", 6),
-    ("int f(int a, int);", 7),
-    ("void g;", 2),
-    ("dsu_transform x = 1", 4),
-    ("int f(void) { dsu_tx; }", 7),
-    ("struct T { };", 3),
-    ("int x = 1, ;", 5),
-    ("mtx_t m, n;", 2),
-    ("int f(void) { for (;) ; }", 9),
-    ("int x; }", 3),
+/// Texts at a limit, and how many definitions each makes, or its fault.
+static LIMITS: [(&[Piece], Result<usize, SyntaxFault>); 3] = [
+    (
+        &[("int x = ", 1), ("(", 64), ("1", 1), (")", 64), (";", 1)],
+        Ok(1),
+    ),
+    // The sixty-fifth level is too deep.
+    (
+        &[("int x = ", 1), ("(", 65), ("1", 1), (")", 65), (";", 1)],
+        Err(TooDeep(68)),
+    ),
+    // As many tokens as a text may have: 65,536.
+    (
+        &[("int x;\n", 21_842), ("int x, y; int x, y;", 1)],
+        Ok(21_846),
+    ),
 ];
 
-#[test]
-fn faults_are_told_by_their_tokens(rt: HostRuntime) -> Result<(), Fail> {
-    for (text, place) in REFUSED.iter() {
-        let found = fault(rt.alloc(), text)?;
-        assert_eq!(rt; found, Some(SyntaxFault::At(*place)), "{text}");
-    }
-    Ok(())
-}
-
-/// A text whose initialiser is in so many parentheses.
-fn nested(alloc: Global, depth: u32) -> Result<String, Fail> {
-    let mut text = String::new(alloc);
-    text.push_str("int x = ")?;
-    for _ in 0..depth {
-        text.push_str("(")?;
-    }
-    text.push_str("1")?;
-    for _ in 0..depth {
-        text.push_str(")")?;
-    }
-    text.push_str(";")?;
-    Ok(text)
-}
-
-/// The fault of such a text.
-fn fault_of_nest(alloc: Global, depth: u32) -> Result<Option<SyntaxFault>, Fail> {
-    let text = nested(alloc, depth)?;
-    fault(alloc, &text)
+/// Whether the text of some pieces has so many definitions, or this fault.
+fn has_count(
+    alloc: Global,
+    pieces: &[Piece],
+    count: Result<usize, SyntaxFault>,
+) -> Result<bool, Fail> {
+    let text = text_of(alloc, pieces, 0)?;
+    let found = read(alloc, &text);
+    let due = due(&text, count);
+    drop(text);
+    Ok(found? == due)
 }
 
 #[test]
-fn the_sixty_fifth_level_is_too_deep(rt: HostRuntime) -> Result<(), Fail> {
-    let most = fault_of_nest(rt.alloc(), 64)?;
-    assert_eq!(rt; most, None);
-    let more = fault_of_nest(rt.alloc(), 65)?;
-    assert_eq!(rt; more, Some(SyntaxFault::TooDeep(68)));
+fn texts_are_read_up_to_the_limits(rt: HostRuntime) -> Result<(), Fail> {
+    for (row, (pieces, count)) in LIMITS.iter().enumerate() {
+        let has_count = has_count(rt.alloc(), pieces, *count)?;
+        assert!(rt; has_count, "row {row}");
+    }
     Ok(())
 }
 
@@ -167,7 +170,9 @@ fn have_nested_if(defs: &[Def], place: usize, tokens: u32) -> bool {
 /// The same of a text.
 fn has_nested_if_in(alloc: Global, text: &str, place: usize, tokens: u32) -> Result<bool, Fail> {
     let program = program_in(alloc, text)?;
-    Ok(have_nested_if(program.definitions.as_slice(), place, tokens))
+    let has_one = have_nested_if(program.definitions.as_slice(), place, tokens);
+    drop(program);
+    Ok(has_one)
 }
 
 #[test]
@@ -175,30 +180,5 @@ fn an_else_belongs_to_the_nearest_if(rt: HostRuntime) -> Result<(), Fail> {
     let text = "static int f(void) { if (a) if (b) x; else y; }";
     let holds = has_nested_if_in(rt.alloc(), text, 7, 20)?;
     assert!(rt; holds);
-    Ok(())
-}
-
-/// A text with as many tokens as one may have.
-fn longest(alloc: Global) -> Result<String, Fail> {
-    let mut text = String::new(alloc);
-    for _ in 0..21_842 {
-        text.push_str("int x;\n")?;
-    }
-    text.push_str("int x, y; int x, y;")?;
-    Ok(text)
-}
-
-/// How many tokens a text has, and how many definitions.
-fn counts(alloc: Global, text: &str) -> Result<(usize, usize), Fail> {
-    let tokens = tokens_of(alloc, text)?;
-    let (definitions, _) = read_of(alloc, &tokens, text.len())?;
-    Ok((tokens.len(), definitions))
-}
-
-#[test]
-fn the_longest_text_is_read(rt: HostRuntime) -> Result<(), Fail> {
-    let text = longest(rt.alloc())?;
-    let found = counts(rt.alloc(), &text)?;
-    assert_eq!(rt; found, (65_536, 21_846));
     Ok(())
 }

@@ -3,8 +3,6 @@
 
 use c_scope::Scopes;
 use std::alloc::{AllocError, Global};
-use std::process::Abort;
-use std::test::Fail;
 
 /// A call, and what it answers.
 enum Call {
@@ -15,7 +13,7 @@ enum Call {
     Find(&'static str, Option<u32>),
 }
 
-static CALLS: [Call; 31] = [
+static CALLS: [Call; 46] = [
     Call::Find("x", None),
     Call::Declare("x", 1, true),
     Call::Declare("f", 2, true),
@@ -47,6 +45,22 @@ static CALLS: [Call; 31] = [
     Call::Leave,
     Call::Find("x", Some(1)),
     Call::Find("y", None),
+    // Names are their bytes.
+    Call::Declare("e", 10, true),
+    Call::Declare("é", 11, true),
+    Call::Declare("e\u{301}", 12, true),
+    Call::Declare("E", 13, true),
+    Call::Declare("ee", 14, true),
+    Call::Declare("e\0", 15, true),
+    Call::Declare("", 16, true),
+    Call::Find("e", Some(10)),
+    Call::Find("é", Some(11)),
+    Call::Find("e\u{301}", Some(12)),
+    Call::Find("E", Some(13)),
+    Call::Find("ee", Some(14)),
+    Call::Find("e\0", Some(15)),
+    Call::Find("", Some(16)),
+    Call::Find("e\u{301}\u{301}", None),
 ];
 
 /// Makes a call, and says whether it answers as listed.
@@ -68,44 +82,23 @@ fn answers(scopes: &mut Scopes<u32>, call: &Call) -> Result<bool, AllocError> {
     }
 }
 
-#[test]
-fn tables_answer_as_listed(rt: HostRuntime) -> Result<(), Fail> {
-    let mut scopes: Scopes<u32> = Scopes::new(rt.alloc());
+/// The first call that answers otherwise than listed, or `None`.
+fn first_other_answer(scopes: &mut Scopes<u32>) -> Result<Option<usize>, AllocError> {
     for (place, call) in CALLS.iter().enumerate() {
-        assert!(rt; answers(&mut scopes, call)?, "call {place}");
-    }
-    assert!(rt; !scopes.is_nested());
-    Ok(())
-}
-
-static BYTES: [&str; 7] = ["e", "é", "e\u{301}", "E", "ee", "e\0", ""];
-
-/// Declares each of these names as its place.
-fn declare_bytes(rt: &impl Abort, scopes: &mut Scopes<u32>) {
-    for (value, name) in BYTES.iter().enumerate() {
-        assert!(rt;
-            matches!(scopes.declare(name, value as u32), Ok(true)),
-            "at {name}"
-        );
-    }
-}
-
-/// Whether each of these names stands for its place.
-fn are_at_their_places(scopes: &Scopes<u32>) -> bool {
-    for (value, name) in BYTES.iter().enumerate() {
-        if scopes.find(name).copied() != Some(value as u32) {
-            return false;
+        if !answers(scopes, call)? {
+            return Ok(Some(place));
         }
     }
-    true
+    Ok(None)
 }
 
 #[test]
-fn names_are_their_bytes(rt: HostRuntime) {
+fn tables_answer_as_listed(rt: HostRuntime) {
     let mut scopes: Scopes<u32> = Scopes::new(rt.alloc());
-    declare_bytes(&rt, &mut scopes);
-    assert!(rt; are_at_their_places(&scopes));
-    assert!(rt; scopes.find("e\u{301}\u{301}").is_none());
+    let other = first_other_answer(&mut scopes);
+    assert!(rt; other == Ok(None), "{other:?}");
+    assert!(rt; !scopes.is_nested());
+    drop(scopes);
 }
 
 /// Declares a name that ends in a number.
@@ -121,48 +114,78 @@ fn declare_numbered(
     }
 }
 
-/// Declares `name0` and so on in the innermost table, which has all of them or none. Without a value
-/// each stands for its number.
+/// Declares `name0` and so on in the innermost table. Says whether each answer is the one expected: that
+/// the name is new there, or that it isn't. Without a value each stands for its number.
 fn declare_many(
-    rt: &impl Abort,
     alloc: Global,
     scopes: &mut Scopes<u32>,
     count: u32,
     value: Option<u32>,
     are_new: bool,
-) {
+) -> Result<bool, AllocError> {
     for number in 0..count {
-        let answer = declare_numbered(alloc, scopes, number, value.unwrap_or(number));
-        assert!(rt; answer == Ok(are_new), "name{number}");
+        if declare_numbered(alloc, scopes, number, value.unwrap_or(number))? != are_new {
+            return Ok(false);
+        }
     }
+    Ok(true)
+}
+
+/// Enters a table and declares 256 names in it, twice. Says whether the answers are right, and the names hide those outside.
+fn enter_with_names(
+    alloc: Global,
+    scopes: &mut Scopes<u32>,
+    depth: u32,
+) -> Result<bool, AllocError> {
+    scopes.enter()?;
+    let are_first = declare_many(alloc, scopes, 256, Some(depth), true)?;
+    let are_second = declare_many(alloc, scopes, 256, Some(depth), false)?;
+    Ok(
+        are_first
+            && are_second
+            && stands_for(scopes, "name255", depth)
+            && stands_for(scopes, "name65535", 65_535),
+    )
+}
+
+/// Whether a name stands for a value.
+fn stands_for(scopes: &Scopes<u32>, name: &str, value: u32) -> bool {
+    scopes.find(name).copied() == Some(value)
+}
+
+/// Enters 64 tables with names, one in another, above 65,536 names in the outermost.
+fn fill(alloc: Global, scopes: &mut Scopes<u32>) -> Result<bool, AllocError> {
+    let mut are_right = declare_many(alloc, scopes, 65_536, None, true)?;
+    for depth in 0..64u32 {
+        are_right = are_right && enter_with_names(alloc, scopes, depth)?;
+    }
+    Ok(are_right)
+}
+
+/// Leaves 64 tables. Says whether a name stands for its value in each.
+fn leave_all(scopes: &mut Scopes<u32>) -> bool {
+    for depth in 0..64u32 {
+        if !stands_for(scopes, "name7", 63 - depth) || !scopes.is_nested() {
+            return false;
+        }
+        scopes.leave();
+    }
+    stands_for(scopes, "name7", 7) && !scopes.is_nested()
 }
 
 /// The tables of a text that nests as deep, and has as many names, as any.
 #[test]
-fn a_text_may_be_deep_and_long(rt: HostRuntime) -> Result<(), Fail> {
+fn a_text_may_be_deep_and_long(rt: HostRuntime) {
     let mut scopes: Scopes<u32> = Scopes::new(rt.alloc());
-    declare_many(&rt, rt.alloc(), &mut scopes, 65_536, None, true);
-    for depth in 0..64u32 {
-        scopes.enter()?;
-        for is_new in [true, false] {
-            declare_many(&rt, rt.alloc(), &mut scopes, 256, Some(depth), is_new);
-        }
-        assert!(rt; scopes.find("name255").copied() == Some(depth));
-        assert!(rt; scopes.find("name65535").copied() == Some(65_535));
-    }
-    for depth in 0..64u32 {
-        assert!(rt; scopes.find("name7").copied() == Some(63 - depth));
-        assert!(rt; scopes.is_nested());
-        scopes.leave();
-    }
-    assert!(rt; scopes.find("name7").copied() == Some(7));
-    assert!(rt; !scopes.is_nested());
-    Ok(())
+    let is_filled = fill(rt.alloc(), &mut scopes);
+    assert!(rt; is_filled == Ok(true));
+    assert!(rt; leave_all(&mut scopes));
+    drop(scopes);
 }
 
-/// Whether a name stands for a text.
-fn stands_for(scopes: &Scopes<String>, name: &str, text: &str) -> bool {
-    match scopes.find(name) {
+/// Whether `a` stands for a text.
+fn has_text(scopes: &Scopes<String>, text: &str) -> bool {
+    match scopes.find("a") {
         Some(found) => found.as_str() == text,
         None => false,
     }
@@ -180,22 +203,29 @@ fn declare_text(
     }
 }
 
-/// Declares `a` in the outermost table and, another time, in one within it.
-fn declare_twice(rt: &impl Abort, alloc: Global, scopes: &mut Scopes<String>) {
-    for (text, is_new) in [("outer", true), ("again", false)] {
-        assert!(rt; declare_text(alloc, scopes, text) == Ok(is_new), "{text}");
+/// Declares `a` twice in the outermost table and another time in one within it. Says whether it was new, each time.
+fn declare_texts(alloc: Global, scopes: &mut Scopes<String>) -> Result<[bool; 3], AllocError> {
+    let outer = declare_text(alloc, scopes, "outer")?;
+    let again = declare_text(alloc, scopes, "again")?;
+    scopes.enter()?;
+    Ok([outer, again, declare_text(alloc, scopes, "inner")?])
+}
+
+/// Whether `a` stands for the inner text, and outside for the first one.
+fn are_left(scopes: &mut Scopes<String>) -> bool {
+    if !has_text(scopes, "inner") || !scopes.is_nested() {
+        return false;
     }
-    assert!(rt; scopes.enter().is_ok());
-    assert!(rt; declare_text(alloc, scopes, "inner") == Ok(true));
+    scopes.leave();
+    has_text(scopes, "outer")
 }
 
 /// Values that own memory go with their tables.
 #[test]
 fn values_may_own_memory(rt: HostRuntime) {
     let mut scopes: Scopes<String> = Scopes::new(rt.alloc());
-    declare_twice(&rt, rt.alloc(), &mut scopes);
-    assert!(rt; stands_for(&scopes, "a", "inner"));
-    assert!(rt; scopes.is_nested());
-    scopes.leave();
-    assert!(rt; stands_for(&scopes, "a", "outer"));
+    let are_new = declare_texts(rt.alloc(), &mut scopes);
+    assert!(rt; are_new == Ok([true, false, true]));
+    assert!(rt; are_left(&mut scopes));
+    drop(scopes);
 }
