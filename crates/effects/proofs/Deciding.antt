@@ -17,20 +17,20 @@ item : {A : Type 0} (a b : A) → Some a ≡ Some b → a ≡ b
 item a b e = cc
 
 -- what is made of each item of a list, in order
-abbrev collect : {A B : Type 0} → (A → List B) → List A → List B
+abbrev pub collect : {A B : Type 0} → (A → List B) → List A → List B
 collect make [] = []
 collect make (x ∷ xs) = make x ++ collect make xs
 
-among_left : {A : Type 0} (xs ys : List A) (a : A) → Among xs a → Among (xs ++ ys) a
+pub among_left : {A : Type 0} (xs ys : List A) (a : A) → Among xs a → Among (xs ++ ys) a
 among_left [] ys a m = absurd m
 among_left (x ∷ xs) ys a (inl e) = inl e
 among_left (x ∷ xs) ys a (inr m) = inr (among_left xs ys a m)
 
-among_right : {A : Type 0} (xs ys : List A) (a : A) → Among ys a → Among (xs ++ ys) a
+pub among_right : {A : Type 0} (xs ys : List A) (a : A) → Among ys a → Among (xs ++ ys) a
 among_right [] ys a m = m
 among_right (x ∷ xs) ys a m = inr (among_right xs ys a m)
 
-among_cases : {A : Type 0} (xs ys : List A) (a : A) → Among (xs ++ ys) a → Among xs a ⊎ Among ys a
+pub among_cases : {A : Type 0} (xs ys : List A) (a : A) → Among (xs ++ ys) a → Among xs a ⊎ Among ys a
 among_cases [] ys a m = inr m
 among_cases (x ∷ xs) ys a (inl e) = inl (inl e)
 among_cases (x ∷ xs) ys a (inr m) = elim (among_cases xs ys a m) [ inl l ↦ inl (inr l) | inr r ↦ inr r ]
@@ -76,11 +76,11 @@ same_decides (Some a) None = (λ e. cc, λ e. cc)
 same_decides (Some a) (Some b) =
     (λ e. ap Some ((bytes_eq-Decides a b).0 e), λ e. (bytes_eq-Decides a b).1 (item a b e))
 
-abbrev callee : PointKind → Option Bytes
+abbrev pub callee : PointKind → Option Bytes
 callee (Call f) = Some f
 callee _ = None
 
-is_call : (k : PointKind) (f : Bytes) → callee k ≡ Some f → k ≡ Call f
+pub is_call : (k : PointKind) (f : Bytes) → callee k ≡ Some f → k ≡ Call f
 is_call (Call g) f e = ap Call (item g f e)
 is_call _ f e = cc
 

@@ -14,12 +14,12 @@ no : false ≡ true → ⊥
 no e = cc
 
 -- the order of names
-data Before : Bytes → Bytes → Type 0 where
+pub data Before : Bytes → Bytes → Type 0 where
   shorter : (y : ℕ) (ys : Bytes) → Before [] (y ∷ ys)
   less : (x y : ℕ) (xs ys : Bytes) → x < y → Before (x ∷ xs) (y ∷ ys)
   later : (x y : ℕ) (xs ys : Bytes) → x ≡ y → Before xs ys → Before (x ∷ xs) (y ∷ ys)
 
-not_itself : (a b : Bytes) → Before a b → a ≡ b → ⊥
+pub not_itself : (a b : Bytes) → Before a b → a ≡ b → ⊥
 not_itself _ _ (shorter y ys) e = cc
 not_itself _ _ (less x y xs ys l) e = apart x y l (head e)
   where
@@ -47,7 +47,7 @@ two _ _ _ (less x y xs ys l) (later _ z _ zs e b) = less x z xs zs (omega arith)
 two _ _ _ (later x y xs ys e b) (less _ z _ zs k) = less x z xs zs (omega arith)
 two _ _ _ (later x y xs ys e b) (later _ z _ zs f c) = later x z xs zs (e ∙ f) (two xs ys zs b c)
 
-test : (a b : Bytes) → Before a b → precedes a b ≡ true
+pub test : (a b : Bytes) → Before a b → precedes a b ≡ true
 test _ _ (shorter y ys) = refl
 test _ _ (less x y xs ys l) = first (nat_lt x y) (x == y && precedes xs ys) (grind (arith, nat_tests))
   where
@@ -87,11 +87,11 @@ tested (x ∷ xs) (y ∷ ys) e = by (nat_lt x y) (x == y) refl refl (tested xs y
     by false false l f rest e = cc
 
 -- a name is before each of some
-abbrev First : Bytes → List Bytes → Type 0
+abbrev pub First : Bytes → List Bytes → Type 0
 First n [] = Unit {0}
 First n (m ∷ ms) = Before n m × First n ms
 
-abbrev Ascending : List Bytes → Type 0
+abbrev pub Ascending : List Bytes → Type 0
 Ascending [] = Unit {0}
 Ascending (n ∷ ns) = First n ns × Ascending ns
 
@@ -110,7 +110,7 @@ first_with m n (k ∷ ks) b f = by (bytes_eq n k) (precedes n k) (first_with m n
     by false true rest = (b, f)
     by false false rest = (f.0, rest)
 
-ascending_with : (n : Bytes) (ns : List Bytes) → Ascending ns → Ascending (with_name n ns)
+pub ascending_with : (n : Bytes) (ns : List Bytes) → Ascending ns → Ascending (with_name n ns)
 ascending_with n [] a = (tt, tt)
 ascending_with n (k ∷ ks) a = by (bytes_eq n k) (precedes n k) refl refl (ascending_with n ks a.1)
   where
@@ -125,7 +125,7 @@ ascending_with n (k ∷ ks) a = by (bytes_eq n k) (precedes n k) refl refl (asce
     by false true e f rest = ((tested n k f, first_two n k ks (tested n k f) a.0), a)
     by false false e f rest = (first_with k n ks (after e f (either n k)) a.0, rest)
 
-set_ascends : (ns : List Bytes) → Ascending (name_set ns)
+pub set_ascends : (ns : List Bytes) → Ascending (name_set ns)
 set_ascends [] = tt
 set_ascends (n ∷ ns) = ascending_with n (name_set ns) (set_ascends ns)
 
@@ -139,21 +139,21 @@ among_first n m (k ∷ ks) f e = by (bytes_eq m k) refl (among_first n m ks f.1)
     by false t rest e = rest e
 
 -- a name among some is the first or among the others
-cases_of : (n m : Bytes) (ns : List Bytes) → is_among (m ∷ ns) n ≡ true → (n ≡ m) ⊎ (is_among ns n ≡ true)
+pub cases_of : (n m : Bytes) (ns : List Bytes) → is_among (m ∷ ns) n ≡ true → (n ≡ m) ⊎ (is_among ns n ≡ true)
 cases_of n m ns e = by (bytes_eq n m) refl e
   where
     by : (s : Bool) → bytes_eq n m ≡ s → (s || is_among ns n) ≡ true → (n ≡ m) ⊎ (is_among ns n ≡ true)
     by true t e = inl ((bytes_eq-Decides n m).0 t)
     by false t e = inr e
 
-among_itself : (n : Bytes) (ns : List Bytes) → is_among (n ∷ ns) n ≡ true
+pub among_itself : (n : Bytes) (ns : List Bytes) → is_among (n ∷ ns) n ≡ true
 among_itself n ns = by (bytes_eq n n) ((bytes_eq-Decides n n).1 refl)
   where
     by : (s : Bool) → s ≡ true → (s || is_among ns n) ≡ true
     by true e = refl
     by false e = cc
 
-among_later : (n m : Bytes) (ns : List Bytes) → is_among ns n ≡ true → is_among (m ∷ ns) n ≡ true
+pub among_later : (n m : Bytes) (ns : List Bytes) → is_among ns n ≡ true → is_among (m ∷ ns) n ≡ true
 among_later n m ns e = by (bytes_eq n m)
   where
     by : (s : Bool) → (s || is_among ns n) ≡ true

@@ -101,3 +101,7 @@ FutureEnds = (bodies : List Body) (p : Site) (f name : Bytes) → IsEndingEnd bo
 -- a mark has at most one row
 abbrev pub OneRow : Type 0
 OneRow = (bodies : List Body) (mark : Mark) (a b : Row) → IsRowOf bodies mark a → IsRowOf bodies mark b → a ≡ b
+
+-- and it has one
+abbrev pub EachHasARow : Type 0
+EachHasARow = (bodies : List Body) (mark : Mark) → (row : Row) × IsRowOf bodies mark row

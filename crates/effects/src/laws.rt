@@ -1,7 +1,7 @@
 //! What the definitions of effects promise, each as the contract of a call that does nothing.
 
 ghost use Rattle.effects.specs.GrowthLaws.{ConcreteGrows, FutureGrows, NestedGrows, PriorGrows, RowsGrow, StandardGrows, StoresGrow};
-ghost use Rattle.effects.specs.LeastLaws.{ConcreteLeast, FutureEnds, FutureLeast, GoesOnOrEnds, NestedLeast, NestedOrNot, OneRow, PriorIsInside, PriorLeast, StandardLeast};
+ghost use Rattle.effects.specs.LeastLaws.{ConcreteLeast, EachHasARow, FutureEnds, FutureLeast, GoesOnOrEnds, NestedLeast, NestedOrNot, OneRow, PriorIsInside, PriorLeast, StandardLeast};
 
 /// Each family of sets is closed under its rules, and each decided family that is closed under them contains it. (In
 /// `proofs/Least.antt` the same is shown for families that aren't decided.)
@@ -34,7 +34,8 @@ pub fn effects_grow()
     ensures stores { StoresGrow }
 {}
 
-/// A mark has at most one row over the bodies of a store.
-pub fn rows_are_fixed()
-    ensures { OneRow }
+/// A mark has exactly one row over the bodies of a store.
+pub fn each_mark_has_one_row()
+    ensures exists { EachHasARow }
+    ensures unique { OneRow }
 {}

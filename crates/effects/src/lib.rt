@@ -12,4 +12,4 @@
 
 mod laws;
 
-pub use laws::{effects_are_least, effects_end, effects_grow, rows_are_fixed};
+pub use laws::{each_mark_has_one_row, effects_are_least, effects_end, effects_grow};
