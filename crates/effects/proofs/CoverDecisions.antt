@@ -1,6 +1,6 @@
 -- Whether a name comes to a check-in or to a start from the points that it covers is decided, where it is decided of each
 -- point whether it has the name.
-use Rattle.std.proofs.Common.{◌≡◌, List, refl, sym, subst, inl, inr, not}
+use Rattle.std.proofs.Common.{◌≡◌, List, refl, subst, inr, not}
 use Rattle.c_tree.specs.BareExpr.{Bytes}
 use Rattle.c_semantics.specs.Skeletons.{is_check_in_kind}
 use Rattle.c_semantics.specs.Store.{Body}
@@ -9,7 +9,7 @@ use Rattle.effects.proofs.Reachable.{Among}
 use Rattle.effects.proofs.Decisions.{Decision, same_as, both, some_or_not}
 use Rattle.effects.proofs.FiniteFlows.{Finite, flows_or_not}
 use Rattle.effects.proofs.Points.{of_is_point, kind_is_point, passes_is_point, next_is_to_point}
-use Rattle.effects.proofs.StoreSites.{sites, places, point_is_among, point_is_placed, function_occurs, called_occurs}
+use Rattle.effects.proofs.StoreSites.{sites, point_is_among, point_is_placed, function_occurs, called_occurs}
 use Rattle.effects.proofs.PointDecisions.{same_site, passes_or_not, call_or_not, return_or_not, entry_or_not, next_or_not}
 use Rattle.effects.proofs.NodeDecisions.{row_nodes, same_row_node, from_is_node, to_is_node, entries_is_node, starts_is_node, returns_is_node}
 use Rattle.effects.proofs.RowEquations.{RowNode, From, To, Entries, Starts, Returns, Lands, at_check_in, passing, OwnSeed, RowEdge, on, call, enter, return, resume, start, RowFlows}

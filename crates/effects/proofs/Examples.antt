@@ -1,19 +1,11 @@
--- Effects of a small text: what is in them, shown by the rules.
-use Rattle.std.proofs.Common.{◌≡◌, ℕ, suc, true, not, List, [], ◌∷◌, ◌++◌, map, Some, refl, sym, subst, ap, zero, false, ◌∙◌, ◌≢◌, None, ◌<◌, slice_index_or, arith}
-use Rattle.std.specs.Prelude.{Option, codes, Contains, slice_get, option_map}
-use Rattle.std.specs.Option.{option_and_then}
-use Rattle.std.specs.List.{range_with_len}
-use Rattle.bytecode.specs.CheckIns.{Entry}
-use Rattle.bytecode.specs.CheckIns as check_in
-use Rattle.bytecode.specs.Skeleton.{PointKind, Point, CheckIn, Call, Print, Return, Begin, End, direct_use, point_at, successors}
+-- The effects of the text at its check-ins: what is in them, and that there is no more.
+use Rattle.std.proofs.Common.{◌≡◌, ◌↔◌, ℕ, zero, suc, ◌+◌, ◌-◌, ◌<◌, ◌≤◌, true, List, [], ◌∷◌, refl, sym, subst, inl, inr, arith}
+use Rattle.std.specs.Prelude.{IsTrue, bytes_eq, slice_index_or, if◌then◌else◌, codes}
+use Rattle.name_sets.specs.NameLists.{is_among}
+use Rattle.con_freeness.specs.Rows.{Names}
 use Rattle.c_tree.specs.BareExpr.{Bytes}
-use Rattle.c_semantics.specs.Resolved.{Expression, Statement, Statements, NoExpressions, NoStatements, StatementThen, ExpressionThen}
-use Rattle.c_semantics.specs.Resolved as tree
-use Rattle.c_semantics.specs.Points.{at_depth}
-use Rattle.c_semantics.specs.Skeletons.{skeleton}
-use Rattle.c_semantics.specs.Store.{Body, Mark, CheckInOf}
-use Rattle.effects.specs.Sites.{Site, IsKind, Next, after_call, point_in, is_outer_end}
-use Rattle.effects.specs.Standard.{Standard, Adds}
+use Rattle.effects.specs.Sites.{Site, IsEntry, Next}
+use Rattle.effects.specs.Standard.{Standard}
 use Rattle.effects.specs.Standard as standard
 use Rattle.effects.specs.Nested.{Nested, Inside, IsEndingEnd, GoesOn}
 use Rattle.effects.specs.Nested as nested
@@ -21,273 +13,402 @@ use Rattle.effects.specs.Contextual.{Prior, Future}
 use Rattle.effects.specs.Contextual as contextual
 use Rattle.effects.specs.Concrete.{Concrete}
 use Rattle.effects.specs.Concrete as concrete
-use Rattle.effects.specs.Rows.{Covers, IsCheckIn, InPrior, InFuture}
-use Rattle.effects.specs.Rows as rows
-use Rattle.effects.proofs.Deciding.{is_nested, nested_decides}
-use Rattle.effects.proofs.Unending.{prior_is_inside, future_ends}
+use Rattle.effects.proofs.OneRow.{cases_of}
+use Rattle.effects.proofs.Tables.{Table, Passed, prior_in, future_in, concrete_in}
+use Rattle.effects.proofs.ExampleText.{bodies, m, h, f, g, next, nested_h, nested_g, nested_f, standard_f, goes_on}
 
-abbrev in_order : List Statement → Statements
-in_order [] = NoStatements
-in_order (a ∷ more) = StatementThen a (in_order more)
+-- the names that these points may have, by body and point
+abbrev rows_of : List (List Names) → Site → Names
+rows_of rows p = slice_index_or (slice_index_or rows p.body []) p.point []
 
-abbrev call : Bytes → Expression
-call name = tree.Call name NoExpressions
+abbrev as_h : Names
+as_h = codes "h" ∷ []
 
--- any expression without points stands for a constant
-abbrev nil : Expression
-nil = tree.Read (tree.Local [])
+abbrev as_g : Names
+as_g = codes "g" ∷ []
 
-abbrev prints : Expression → Statement
-prints e = tree.Evaluate (tree.Print [] (ExpressionThen e NoExpressions))
+abbrev as_f : Names
+as_f = codes "f" ∷ []
 
-abbrev body : Bytes → List Statement → Body
-body name statements = record { function = name; generation = 1; skeleton = skeleton (in_order statements); tokens = 1 }
+abbrev as_f_g : Names
+as_f_g = codes "f" ∷ codes "g" ∷ []
 
--- int h(void) { return 0; }
--- int g(void) { return 1; }
--- int f(void) { return g(); }
--- int main(void) {
---   dsu_tx { printf("start\n"); h(); printf("%d\n", g()); printf("%d\n", f()); }
---   return 0;
--- }
-abbrev main : List Statement
-main =
-    tree.Transaction (in_order
-    (tree.Evaluate (tree.Print [] NoExpressions) ∷ tree.Evaluate (call (codes "h")) ∷ prints (call (codes "g"))
-    ∷ prints (call (codes "f")) ∷ []))
-    ∷ tree.Return nil ∷ []
+abbrev as_g_h : Names
+as_g_h = codes "g" ∷ codes "h" ∷ []
 
-abbrev bodies : List Body
-bodies =
-    body (codes "h") (tree.Return nil ∷ []) ∷ body (codes "g") (tree.Return nil ∷ [])
-    ∷ body (codes "f") (tree.Return (call (codes "g")) ∷ []) ∷ body (codes "main") main ∷ []
+abbrev as_f_g_h : Names
+as_f_g_h = codes "f" ∷ codes "g" ∷ codes "h" ∷ []
 
--- the points of main, and where control may go from them
-points : (skeleton (in_order main)).points
-    ≡ at_depth 0 (CheckIn Entry) ∷ at_depth 0 Begin ∷ at_depth 1 (CheckIn check_in.Begin) ∷ at_depth 1 Print
-    ∷ at_depth 1 (Call (codes "h")) ∷ at_depth 1 (CheckIn check_in.Call) ∷ at_depth 1 (Call (codes "g"))
-    ∷ at_depth 1 (CheckIn check_in.Call) ∷ at_depth 1 Print ∷ at_depth 1 (Call (codes "f"))
-    ∷ at_depth 1 (CheckIn check_in.Call) ∷ at_depth 1 Print ∷ at_depth 1 End ∷ at_depth 0 (CheckIn check_in.End)
-    ∷ at_depth 0 Return ∷ at_depth 0 Return ∷ []
-points = refl
-
-ways : (skeleton (in_order main)).next ≡ map (λ n. suc n ∷ []) (range_with_len 0 14) ++ [] ∷ [] ∷ []
-ways = refl
-
--- point n of main, of h, of f
-abbrev m : ℕ → Site
-m n = record { body = 3; point = n }
-
-abbrev h : ℕ → Site
-h n = record { body = 0; point = n }
-
-abbrev f : ℕ → Site
-f n = record { body = 2; point = n }
-
-one_way : (xs : List ℕ) (b : ℕ) → xs ≡ b ∷ [] → Contains xs b
-one_way xs b e = subst (λ ys. Contains ys b) (sym e) (0, omega arith, refl)
-
--- from point a control goes to the next one alone
-next : (p : Site) (x : Body) (from to : Point) → slice_get bodies p.body ≡ Some x
-    → successors x.skeleton p.point ≡ suc p.point ∷ [] → point_at x.skeleton p.point ≡ Some from
-    → point_at x.skeleton (suc p.point) ≡ Some to → Next bodies p (after_call p)
-next p x from to stored e is_from is_to = record {
-  body = x;
-  stored = stored;
-  same = refl;
-  leads = record { leads = one_way (successors x.skeleton p.point) (suc p.point) e };
-  from = from;
-  to = to;
-  is_from = is_from;
-  is_to = is_to;
+abbrev table : Table
+table = record {
+  nested = is_among as_f_g_h;
+  standard = λ f. if bytes_eq f (codes "f") then as_g else (if bytes_eq f (codes "main") then as_f_g_h else []);
+  prior = rows_of
+      ((as_h ∷ as_h ∷ [] ∷ []) ∷ (as_f_g_h ∷ as_f_g_h ∷ [] ∷ [])
+      ∷ (as_f_g_h ∷ as_f_g_h ∷ as_f_g_h ∷ as_f_g_h ∷ [] ∷ [])
+      ∷ ([] ∷ [] ∷ [] ∷ [] ∷ [] ∷ as_h ∷ as_h ∷ as_g_h ∷ as_g_h ∷ as_g_h ∷ as_f_g_h ∷ as_f_g_h ∷ as_f_g_h ∷ []) ∷ []);
+  future = rows_of
+      ((as_f_g ∷ as_f_g ∷ as_f_g ∷ []) ∷ (as_f_g ∷ as_f_g ∷ as_f_g ∷ []) ∷ (as_g ∷ as_g ∷ [])
+      ∷ (as_f_g_h ∷ as_f_g_h ∷ as_f_g_h ∷ as_f_g_h ∷ as_f_g_h ∷ as_f_g ∷ as_f_g ∷ as_f_g ∷ as_f_g ∷ as_f_g ∷ []) ∷ []);
+  concrete = rows_of
+      ((as_f_g ∷ as_f_g ∷ as_f_g ∷ []) ∷ (as_f ∷ as_f ∷ as_f ∷ []) ∷ (as_g ∷ as_g ∷ [])
+      ∷ (as_f_g_h ∷ as_f_g_h ∷ as_f_g_h ∷ as_f_g_h ∷ as_f_g_h ∷ as_f_g ∷ as_f_g ∷ as_f ∷ as_f ∷ as_f ∷ []) ∷ []);
 }
 
--- each of h, g and f is nested: main calls it in its transaction
-nested_h : Nested bodies (codes "h")
-nested_h = nested.in_transaction (codes "h") (m 4) (record { is_kind = refl }) (record { passes = refl })
+passed : Passed bodies table
+passed = record {
+  nested = refl;
+  standard = refl;
+  before = refl;
+  entries = refl;
+  future = refl;
+  future_returns = refl;
+  concrete = refl;
+  concrete_returns = refl;
+}
 
-nested_g : Nested bodies (codes "g")
-nested_g = nested.in_transaction (codes "g") (m 6) (record { is_kind = refl }) (record { passes = refl })
+-- the names of a family are exactly those of a list
+abbrev pub Exactly : (Bytes → Type 0) → Names → Type 0
+Exactly In names = (z : Bytes) → IsTrue (is_among names z) ↔ In z
 
-nested_f : Nested bodies (codes "f")
-nested_f = nested.in_transaction (codes "f") (m 9) (record { is_kind = refl }) (record { passes = refl })
+-- each name of a list is one of a family
+abbrev Each : (Bytes → Type 0) → Names → Type 0
+Each In [] = Unit {0}
+Each In (n ∷ names) = In n × Each In names
 
--- f may use g
-standard_f : Standard bodies (codes "f") (codes "g")
-standard_f = standard.used (codes "f") (codes "g") (f 1) (record { is_of = refl }) (record { uses = refl })
+each_is_in : (In : Bytes → Type 0) (names : Names) (z : Bytes) → Each In names → is_among names z ≡ true → In z
+each_is_in In [] z x e = cc
+each_is_in In (n ∷ names) z x e =
+    elim (cases_of z n names e) [ inl same ↦ subst In (sym same) x.0 | inr f ↦ each_is_in In names z x.1 f ]
 
--- main may use g also by its call of f
-standard_main : Standard bodies (codes "main") (codes "g")
-standard_main =
-    standard.Standard.called (codes "main") (codes "f") (codes "g") (m 9) (record { is_of = refl }) (record { is_kind = refl })
-    standard_f
+-- the effects of a point, exactly
+pub record Effects (p : Site) (before later direct : Names) : Type 0 where
+  pub prior : Exactly (Prior bodies p) before
+  pub future : Exactly (Future bodies p) later
+  pub concrete : Exactly (Concrete bodies p) direct
 
--- before the call of g main may have used h, and after it g
-prior_h : Prior bodies (m 5) (codes "h")
+-- the table has all names, so those of a point are exactly its own if each of them is in the effect
+effects : (p : Site) → Each (Prior bodies p) (table.prior p) → Each (Future bodies p) (table.future p)
+    → Each (Concrete bodies p) (table.concrete p) → Effects p (table.prior p) (table.future p) (table.concrete p)
+effects p a b c = record {
+  prior = λ z. (each_is_in (Prior bodies p) (table.prior p) z a, prior_in bodies table passed p z);
+  future = λ z. (each_is_in (Future bodies p) (table.future p) z b, future_in bodies table passed p z);
+  concrete = λ z. (each_is_in (Concrete bodies p) (table.concrete p) z c, concrete_in bodies table passed p z);
+}
+
+-- main goes on from point to point until its transaction ends, and it is inside from the check-in of the begin on
+pub record Step (n : ℕ) : Type 0 where
+  pub on : GoesOn bodies (m n)
+  pub next : Next bodies (m n) (m (suc n))
+
+-- what holds of some numbers from one on, shown for one after the other
+abbrev FromOn : (ℕ → Type 0) → ℕ → ℕ → Type 0
+FromOn P n zero = Unit {0}
+FromOn P n (suc k) = P n × FromOn P (suc n) k
+
+at_number : (P : ℕ → Type 0) (n k i : ℕ) → FromOn P n k → i < k → P (n + i)
+at_number P n zero i x l = absurd (none l)
+  where
+    none : i < zero → ⊥
+    none l = omega arith
+at_number P n (suc k) zero x l = subst P (omega arith) x.0
+at_number P n (suc k) (suc i) x l = subst P (omega arith) (at_number P (suc n) k i x.1 (omega arith))
+
+steps : FromOn Step 0 12
+steps = (
+  record { on = goes_on (m 0) refl; next = next (m 0) _ _ _ refl refl refl refl },
+  (
+    record { on = goes_on (m 1) refl; next = next (m 1) _ _ _ refl refl refl refl },
+    (
+      record { on = goes_on (m 2) refl; next = next (m 2) _ _ _ refl refl refl refl },
+      (
+        record { on = goes_on (m 3) refl; next = next (m 3) _ _ _ refl refl refl refl },
+        (
+          record { on = goes_on (m 4) refl; next = next (m 4) _ _ _ refl refl refl refl },
+          (
+            record { on = goes_on (m 5) refl; next = next (m 5) _ _ _ refl refl refl refl },
+            (
+              record { on = goes_on (m 6) refl; next = next (m 6) _ _ _ refl refl refl refl },
+              (
+                record { on = goes_on (m 7) refl; next = next (m 7) _ _ _ refl refl refl refl },
+                (
+                  record { on = goes_on (m 8) refl; next = next (m 8) _ _ _ refl refl refl refl },
+                  (
+                    record { on = goes_on (m 9) refl; next = next (m 9) _ _ _ refl refl refl refl },
+                    (
+                      record { on = goes_on (m 10) refl; next = next (m 10) _ _ _ refl refl refl refl },
+                      (
+                        record { on = goes_on (m 11) refl; next = next (m 11) _ _ _ refl refl refl refl },
+                        tt,
+                      ),
+                    ),
+                  ),
+                ),
+              ),
+            ),
+          ),
+        ),
+      ),
+    ),
+  ),
+)
+
+pub step : (n : ℕ) → n < 12 → Step n
+step n l = subst Step (omega arith) (at_number Step 0 12 n steps l)
+
+insides : FromOn (λ n. Inside bodies (m n)) 2 11
+insides = (
+  nested.enclosed (m 2) (record { passes = refl }),
+  (
+    nested.enclosed (m 3) (record { passes = refl }),
+    (
+      nested.enclosed (m 4) (record { passes = refl }),
+      (
+        nested.enclosed (m 5) (record { passes = refl }),
+        (
+          nested.enclosed (m 6) (record { passes = refl }),
+          (
+            nested.enclosed (m 7) (record { passes = refl }),
+            (
+              nested.enclosed (m 8) (record { passes = refl }),
+              (
+                nested.enclosed (m 9) (record { passes = refl }),
+                (
+                  nested.enclosed (m 10) (record { passes = refl }),
+                  (
+                    nested.enclosed (m 11) (record { passes = refl }),
+                    (
+                      nested.enclosed (m 12) (record { passes = refl }),
+                      tt,
+                    ),
+                  ),
+                ),
+              ),
+            ),
+          ),
+        ),
+      ),
+    ),
+  ),
+)
+
+inside : (n : ℕ) → 1 < n → n ≤ 12 → Inside bodies (m n)
+inside n f l =
+    subst (λ i. Inside bodies (m i)) (omega arith)
+    (at_number (λ i. Inside bodies (m i)) 2 11 (n - 2) insides (omega arith))
+
+-- what comes later in main may be used from there on, and what came before may have been used
+future_back : (z : Bytes) (k n : ℕ) → n + k ≤ 12 → Future bodies (m (n + k)) z → Future bodies (m n) z
+future_back z zero n l x = subst (λ i. Future bodies (m i) z) (omega arith) x
+future_back z (suc k) n l x =
+    let s = step n (omega arith) in
+    contextual.Future.later (m n) (m (suc n)) z s.on s.next
+    (future_back z k (suc n) (omega arith) (subst (λ i. Future bodies (m i) z) (omega arith) x))
+
+concrete_back : (z : Bytes) (k n : ℕ) → n + k ≤ 12 → Concrete bodies (m (n + k)) z → Concrete bodies (m n) z
+concrete_back z zero n l x = subst (λ i. Concrete bodies (m i) z) (omega arith) x
+concrete_back z (suc k) n l x =
+    concrete.later (m n) (m (suc n)) z (step n (omega arith)).next
+    (concrete_back z k (suc n) (omega arith) (subst (λ i. Concrete bodies (m i) z) (omega arith) x))
+
+pub prior_on : (z : Bytes) (k n : ℕ) → 1 ≤ n → n + k ≤ 12 → Prior bodies (m n) z → Prior bodies (m (n + k)) z
+prior_on z zero n f l x = subst (λ i. Prior bodies (m i) z) (omega arith) x
+prior_on z (suc k) n f l x =
+    subst (λ i. Prior bodies (m i) z) (omega arith)
+    (prior_on z k (suc n) (omega arith) (omega arith)
+    (contextual.before (m n) (m (suc n)) z (inside (suc n) (omega arith) (omega arith)) (step n (omega arith)).next x))
+
+-- each call of main uses its function, and after the call of f, which calls g, g may have been used too
+future_h : Future bodies (m 4) (codes "h")
+future_h = contextual.Future.added (m 4) (codes "h") (step 4 (omega arith)).on (standard.direct (m 4) (codes "h") (record { uses = refl }))
+
+future_g : Future bodies (m 6) (codes "g")
+future_g = contextual.Future.added (m 6) (codes "g") (step 6 (omega arith)).on (standard.direct (m 6) (codes "g") (record { uses = refl }))
+
+future_f : Future bodies (m 9) (codes "f")
+future_f = contextual.Future.added (m 9) (codes "f") (step 9 (omega arith)).on (standard.direct (m 9) (codes "f") (record { uses = refl }))
+
+future_g_of_f : Future bodies (m 9) (codes "g")
+future_g_of_f =
+    contextual.Future.added (m 9) (codes "g") (step 9 (omega arith)).on
+    (standard.Adds.called (m 9) (codes "f") (codes "g") (record { is_kind = refl }) standard_f)
+
+concrete_h : Concrete bodies (m 4) (codes "h")
+concrete_h = concrete.used (m 4) (codes "h") (record { uses = refl })
+
+concrete_g : Concrete bodies (m 6) (codes "g")
+concrete_g = concrete.used (m 6) (codes "g") (record { uses = refl })
+
+concrete_f : Concrete bodies (m 9) (codes "f")
+concrete_f = concrete.used (m 9) (codes "f") (record { uses = refl })
+
+pub prior_h : Prior bodies (m 5) (codes "h")
 prior_h =
-    contextual.Prior.added (m 4) (m 5) (codes "h") (nested.enclosed (m 5) (record { passes = refl })) (next (m 4) _ _ _ refl refl refl refl)
+    contextual.Prior.added (m 4) (m 5) (codes "h") (inside 5 (omega arith) (omega arith)) (step 4 (omega arith)).next
     (standard.direct (m 4) (codes "h") (record { uses = refl }))
-
-prior_later : Prior bodies (m 7) (codes "h")
-prior_later =
-    contextual.before (m 6) (m 7) (codes "h") (nested.enclosed (m 7) (record { passes = refl })) (next (m 6) _ _ _ refl refl refl refl)
-    (contextual.before (m 5) (m 6) (codes "h") (nested.enclosed (m 6) (record { passes = refl })) (next (m 5) _ _ _ refl refl refl refl)
-    prior_h)
 
 prior_g : Prior bodies (m 7) (codes "g")
 prior_g =
-    contextual.Prior.added (m 6) (m 7) (codes "g") (nested.enclosed (m 7) (record { passes = refl })) (next (m 6) _ _ _ refl refl refl refl)
+    contextual.Prior.added (m 6) (m 7) (codes "g") (inside 7 (omega arith) (omega arith)) (step 6 (omega arith)).next
     (standard.direct (m 6) (codes "g") (record { uses = refl }))
 
--- at the entry of h main may have used h alone; f is called after it, so f may have been used by then
-prior_of_h : Prior bodies (h 0) (codes "h")
-prior_of_h = contextual.entered (h 0) (codes "h") (record { is_entry = refl; is_of = record { is_of = refl } }) nested_h
+prior_f : Prior bodies (m 10) (codes "f")
+prior_f =
+    contextual.Prior.added (m 9) (m 10) (codes "f") (inside 10 (omega arith) (omega arith)) (step 9 (omega arith)).next
+    (standard.direct (m 9) (codes "f") (record { uses = refl }))
 
--- after h main may still use g and f, and h's own entry has that from its return on
-goes_on : (p : Site) → option_map (λ at. not (is_outer_end at)) (point_in bodies p) ≡ Some true → GoesOn bodies p
-goes_on p e = nested.no_outer_end p (record { passes = e })
+-- h and g return into main
+from_h : (z : Bytes) → Future bodies (m 5) z → Future bodies (h 0) z
+from_h z x =
+    contextual.Future.later (h 0) (h 1) z (goes_on (h 0) refl) (next (h 0) _ _ _ refl refl refl refl)
+    (contextual.Future.returned (h 1) (m 4) (codes "h") z
+    (record { is_return = record { is_kind = refl }; is_of = record { is_of = refl } }) (record { is_kind = refl }) x)
 
-future_g : Future bodies (m 5) (codes "g")
-future_g =
-    contextual.Future.later (m 5) (m 6) (codes "g") (goes_on (m 5) refl) (next (m 5) _ _ _ refl refl refl refl)
-    (contextual.Future.added (m 6) (codes "g") (goes_on (m 6) refl) (standard.direct (m 6) (codes "g") (record { uses = refl })))
+from_g : (z : Bytes) → Future bodies (m 7) z → Future bodies (g 0) z
+from_g z x =
+    contextual.Future.later (g 0) (g 1) z (goes_on (g 0) refl) (next (g 0) _ _ _ refl refl refl refl)
+    (contextual.Future.returned (g 1) (m 6) (codes "g") z
+    (record { is_return = record { is_kind = refl }; is_of = record { is_of = refl } }) (record { is_kind = refl }) x)
 
-future_of_h : Future bodies (h 0) (codes "g")
-future_of_h =
-    contextual.Future.later (h 0) (h 1) (codes "g") (goes_on (h 0) refl) (next (h 0) _ _ _ refl refl refl refl)
-    (contextual.Future.returned (h 1) (m 4) (codes "h") (codes "g")
-    (record { is_return = record { is_kind = refl }; is_of = record { is_of = refl } }) (record { is_kind = refl }) future_g)
+concrete_from_h : (z : Bytes) → Concrete bodies (m 5) z → Concrete bodies (h 0) z
+concrete_from_h z x =
+    concrete.later (h 0) (h 1) z (next (h 0) _ _ _ refl refl refl refl)
+    (concrete.returned (h 1) (m 4) (codes "h") z
+    (record { is_return = record { is_kind = refl }; is_of = record { is_of = refl } }) (record { is_kind = refl }) x)
 
--- the check-in after the call of g, the fourth of main, covers the entry of f
-covers_f : Covers bodies (m 7) (f 0)
-covers_f =
-    rows.then (m 9) (f 0)
-    (rows.then (m 8) (m 9)
-    (rows.first (m 8) (rows.on (m 7) (m 8) (record { passes = refl }) (next (m 7) _ _ _ refl refl refl refl))) (record { passes = refl })
-    (rows.on (m 8) (m 9) (record { passes = refl }) (next (m 8) _ _ _ refl refl refl refl)))
-    (record { passes = refl })
-    (rows.call (m 9) (f 0) (codes "f") (record { is_kind = refl })
-    (record { is_entry = refl; is_of = record { is_of = refl } }))
+concrete_from_g : (z : Bytes) → Concrete bodies (m 7) z → Concrete bodies (g 0) z
+concrete_from_g z x =
+    concrete.later (g 0) (g 1) z (next (g 0) _ _ _ refl refl refl refl)
+    (concrete.returned (g 1) (m 6) (codes "g") z
+    (record { is_return = record { is_kind = refl }; is_of = record { is_of = refl } }) (record { is_kind = refl }) x)
 
-abbrev after_g : Mark
-after_g = CheckInOf (codes "main") 1 3
+-- f calls g and may have been used itself before that; main calls f after g and h
+entry_of_g : IsEntry bodies (g 0) (codes "g")
+entry_of_g = record { is_entry = refl; is_of = record { is_of = refl } }
 
-is_after_g : IsCheckIn bodies (m 7) (codes "main") 1 3
-is_after_g = record {
-  body = body (codes "main") main;
-  stored = refl;
-  function = refl;
-  of_generation = refl;
-  is_check_in = record { passes = refl };
-  counted = refl;
-}
+entry_of_f : IsEntry bodies (f 0) (codes "f")
+entry_of_f = record { is_entry = refl; is_of = record { is_of = refl } }
 
--- so its prior set has f beside g and h, and its future set has g, which f may use
-f_in_prior : InPrior bodies after_g (codes "f")
-f_in_prior = record {
-  site = f 0;
-  covered = rows.passed (codes "main") 1 3 (m 7) (f 0) is_after_g covers_f;
-  prior = contextual.entered (f 0) (codes "f") (record { is_entry = refl; is_of = record { is_of = refl } }) nested_f;
-}
+in_f : (n : ℕ) → n ≤ 2 → Inside bodies (f n)
+in_f zero l = nested.Inside.in_nested (f 0) (codes "f") (record { is_of = refl }) nested_f
+in_f (suc zero) l = nested.Inside.in_nested (f 1) (codes "f") (record { is_of = refl }) nested_f
+in_f (suc (suc zero)) l = nested.Inside.in_nested (f 2) (codes "f") (record { is_of = refl }) nested_f
+in_f (suc (suc (suc n))) l = absurd (past n l)
+  where
+    past : (n : ℕ) → suc (suc (suc n)) ≤ 2 → ⊥
+    past n l = omega arith
 
-h_in_prior : InPrior bodies after_g (codes "h")
-h_in_prior = record {
-  site = m 7;
-  covered = rows.passed (codes "main") 1 3 (m 7) (m 7) is_after_g rows.itself;
-  prior = prior_later;
-}
+into_f : (z : Bytes) → Prior bodies (m 9) z → Prior bodies (f 0) z
+into_f z x =
+    contextual.before_call (f 0) (m 9) (codes "f") z entry_of_f nested_f (record { is_kind = refl })
+    (inside 9 (omega arith) (omega arith)) x
 
-g_in_future : InFuture bodies after_g (codes "g")
-g_in_future = record {
-  site = f 0;
-  covered = rows.passed (codes "main") 1 3 (m 7) (f 0) is_after_g covers_f;
-  future =
+to_call_in_f : (z : Bytes) → Prior bodies (f 0) z → Prior bodies (f 1) z
+to_call_in_f z x = contextual.before (f 0) (f 1) z (in_f 1 (omega arith)) (next (f 0) _ _ _ refl refl refl refl) x
+
+after_call_in_f : (z : Bytes) → Prior bodies (f 0) z → Prior bodies (f 2) z
+after_call_in_f z x =
+    contextual.before (f 1) (f 2) z (in_f 2 (omega arith)) (next (f 1) _ _ _ refl refl refl refl) (to_call_in_f z x)
+
+pub prior_f_in_f : Prior bodies (f 0) (codes "f")
+prior_f_in_f = contextual.entered (f 0) (codes "f") entry_of_f nested_f
+
+prior_g_in_f : Prior bodies (f 0) (codes "g")
+prior_g_in_f = into_f (codes "g") (prior_on (codes "g") 2 7 (omega arith) (omega arith) prior_g)
+
+prior_h_in_f : Prior bodies (f 0) (codes "h")
+prior_h_in_f = into_f (codes "h") (prior_on (codes "h") 4 5 (omega arith) (omega arith) prior_h)
+
+into_g : (z : Bytes) → Prior bodies (f 0) z → Prior bodies (g 0) z
+into_g z x =
+    contextual.before_call (g 0) (f 1) (codes "g") z entry_of_g nested_g (record { is_kind = refl }) (in_f 1 (omega arith))
+    (to_call_in_f z x)
+
+-- the entries of h, of g and of f
+at_entry_of_h : Effects (h 0) as_h as_f_g as_f_g
+at_entry_of_h =
+    effects (h 0)
+    (contextual.entered (h 0) (codes "h") (record { is_entry = refl; is_of = record { is_of = refl } }) nested_h, tt) (
+      from_h (codes "f") (future_back (codes "f") 4 5 (omega arith) future_f),
+      (from_h (codes "g") (future_back (codes "g") 1 5 (omega arith) future_g), tt),
+    ) (
+      concrete_from_h (codes "f") (concrete_back (codes "f") 4 5 (omega arith) concrete_f),
+      (concrete_from_h (codes "g") (concrete_back (codes "g") 1 5 (omega arith) concrete_g), tt),
+    )
+
+at_entry_of_g : Effects (g 0) as_f_g_h as_f_g as_f
+at_entry_of_g =
+    effects (g 0)
+    (into_g (codes "f") prior_f_in_f, (into_g (codes "g") prior_g_in_f, (into_g (codes "h") prior_h_in_f, tt))) (
+      from_g (codes "f") (future_back (codes "f") 2 7 (omega arith) future_f),
+      (from_g (codes "g") (future_back (codes "g") 2 7 (omega arith) future_g_of_f), tt),
+    )
+    (concrete_from_g (codes "f") (concrete_back (codes "f") 2 7 (omega arith) concrete_f), tt)
+
+pub at_entry_of_f : Effects (f 0) as_f_g_h as_g as_g
+at_entry_of_f =
+    effects (f 0) (prior_f_in_f, (prior_g_in_f, (prior_h_in_f, tt))) (
       contextual.Future.later (f 0) (f 1) (codes "g") (goes_on (f 0) refl) (next (f 0) _ _ _ refl refl refl refl)
-      (contextual.Future.added (f 1) (codes "g") (goes_on (f 1) refl)
-      (standard.direct (f 1) (codes "g") (record { uses = refl })));
-}
+          (contextual.Future.added (f 1) (codes "g") (goes_on (f 1) refl) (standard.direct (f 1) (codes "g") (record { uses = refl }))),
+      tt,
+    ) (
+      concrete.later (f 0) (f 1) (codes "g") (next (f 0) _ _ _ refl refl refl refl)
+          (concrete.used (f 1) (codes "g") (record { uses = refl })),
+      tt,
+    )
 
--- what main's entry still uses directly, calls included
-concrete_f : Concrete bodies (m 8) (codes "f")
-concrete_f = concrete.later (m 8) (m 9) (codes "f") (next (m 8) _ _ _ refl refl refl refl) (concrete.used (m 9) (codes "f") (record { uses = refl }))
+-- after the call of g in f nothing is to come, in f or in main
+after_call_of_g_in_f : Effects (f 2) as_f_g_h [] []
+after_call_of_g_in_f =
+    effects (f 2) (
+      after_call_in_f (codes "f") prior_f_in_f,
+      (after_call_in_f (codes "g") prior_g_in_f, (after_call_in_f (codes "h") prior_h_in_f, tt)),
+    )
+    tt tt
 
--- main isn't nested, so its transaction's end ends it
-main_not_nested : Nested bodies (codes "main") → ⊥
-main_not_nested n = never ((nested_decides bodies (codes "main")).1 n)
-  where
-    never : is_nested bodies (codes "main") ≡ true → ⊥
-    never e = cc
+-- the check-ins of main
+at_entry_of_main : Effects (m 0) [] as_f_g_h as_f_g_h
+at_entry_of_main =
+    effects (m 0) tt (
+      future_back (codes "f") 9 0 (omega arith) future_f,
+      (future_back (codes "g") 6 0 (omega arith) future_g, (future_back (codes "h") 4 0 (omega arith) future_h, tt)),
+    ) (
+      concrete_back (codes "f") 9 0 (omega arith) concrete_f,
+      (concrete_back (codes "g") 6 0 (omega arith) concrete_g, (concrete_back (codes "h") 4 0 (omega arith) concrete_h, tt)),
+    )
 
-end_of_main : IsEndingEnd bodies (m 12) (codes "main")
-end_of_main = record { is_end = record { passes = refl }; is_of = record { is_of = refl }; not_nested = main_not_nested }
+after_begin : Effects (m 2) [] as_f_g_h as_f_g_h
+after_begin =
+    effects (m 2) tt (
+      future_back (codes "f") 7 2 (omega arith) future_f,
+      (future_back (codes "g") 4 2 (omega arith) future_g, (future_back (codes "h") 2 2 (omega arith) future_h, tt)),
+    ) (
+      concrete_back (codes "f") 7 2 (omega arith) concrete_f,
+      (concrete_back (codes "g") 4 2 (omega arith) concrete_g, (concrete_back (codes "h") 2 2 (omega arith) concrete_h, tt)),
+    )
 
-item : {A : Type 0} (a b : A) → Some a ≡ Some b → a ≡ b
-item a b e = cc
+after_call_of_h : Effects (m 5) as_h as_f_g as_f_g
+after_call_of_h =
+    effects (m 5) (prior_h, tt)
+    (future_back (codes "f") 4 5 (omega arith) future_f, (future_back (codes "g") 1 5 (omega arith) future_g, tt))
+    (concrete_back (codes "f") 4 5 (omega arith) concrete_f, (concrete_back (codes "g") 1 5 (omega arith) concrete_g, tt))
 
--- before it main has used nothing in a transaction
-nothing_before : (name : Bytes) → Prior bodies (m 0) name → ⊥
-nothing_before name x = by (prior_is_inside bodies (m 0) name x)
-  where
-    no_true : Some false ≡ Some true → ⊥
-    no_true e = cc
+after_call_of_g : Effects (m 7) as_g_h as_f_g as_f
+after_call_of_g =
+    effects (m 7) (prior_g, (prior_on (codes "h") 2 5 (omega arith) (omega arith) prior_h, tt))
+    (future_back (codes "f") 2 7 (omega arith) future_f, (future_back (codes "g") 2 7 (omega arith) future_g_of_f, tt))
+    (concrete_back (codes "f") 2 7 (omega arith) concrete_f, tt)
 
-    by : Inside bodies (m 0) → ⊥
-    by (nested.enclosed p e) = no_true e.passes
-    by (nested.Inside.in_nested p g of n) = main_not_nested (subst (Nested bodies) (sym (item (codes "main") g of.is_of)) n)
+after_call_of_f : Effects (m 10) as_f_g_h [] []
+after_call_of_f =
+    effects (m 10) (
+      prior_f,
+      (
+        prior_on (codes "g") 3 7 (omega arith) (omega arith) prior_g,
+        (prior_on (codes "h") 5 5 (omega arith) (omega arith) prior_h, tt),
+      ),
+    )
+    tt tt
 
-single : (n y : ℕ) → Contains (n ∷ []) y → n ≡ y
-single n y c = by c.0 c.1 c.2
-  where
-    none : (k : ℕ) → suc k < 1 → ⊥
-    none k l = omega arith
-
-    by : (k : ℕ) → k < 1 → slice_index_or (n ∷ []) k y ≡ y → n ≡ y
-    by zero l e = e
-    by (suc k) l e = absurd (none k l)
-
--- where control goes from a point with one way
-only_way : (p : Site) (x : Body) (n : ℕ) → slice_get bodies p.body ≡ Some x → successors x.skeleton p.point ≡ n ∷ []
-    → (q : Site) → Next bodies p q → record { body = p.body; point = n } ≡ q
-only_way p x n stored e q w =
-    let is_x : w.body ≡ x = item w.body x (sym w.stored ∙ stored) in
-    let at : Contains (n ∷ []) q.point =
-    subst (λ ys. Contains ys q.point) (ap (λ b. successors b.skeleton p.point) is_x ∙ e) w.leads.leads in
-    same_site p.body n q.body q.point (sym w.same) (single n q.point at)
-  where
-    same_site : (i n j k : ℕ) → i ≡ j → n ≡ k
-        → record { body = i; point = n } ≡ (let s : Site = record { body = j; point = k } in s)
-    same_site i n j k a b = λ t. record { body = a t; point = b t }
-
--- a point that uses nothing and is no return adds nothing to what is after it
-adds_nothing : (p : Site) (k : PointKind) (name : Bytes)
-    → IsKind bodies p k → direct_use k ≡ None → Adds bodies p name → ⊥
-adds_nothing _ k _ is none (standard.direct p name u) = by (point_in bodies p) is.is_kind u.uses
-  where
-    no_name : None ≡ Some name → ⊥
-    no_name e = cc
-
-    by : (o : Option Point) → option_map (λ at. at.kind) o ≡ Some k → option_and_then (λ at. direct_use at.kind) o ≡ Some name
-        → ⊥
-    by None e u = cc
-    by (Some at) e u = no_name (sym none ∙ ap direct_use (sym (item at.kind k e)) ∙ u)
-adds_nothing _ k _ is none (standard.Adds.called p g name call s) =
-    no_name (sym none ∙ ap direct_use (item k (Call g) (sym is.is_kind ∙ call.is_kind)))
-  where
-    no_name : None ≡ Some g → ⊥
-    no_name e = cc
-
-quiet : (k : PointKind) (x : Body) (n : ℕ) (p : Site) (name : Bytes)
-    → IsKind bodies p k → direct_use k ≡ None → k ≢ Return → slice_get bodies p.body ≡ Some x
-    → successors x.skeleton p.point ≡ n ∷ [] → Future bodies p name → Future bodies (record { body = p.body; point = n }) name
-quiet k x n _ _ is none stays stored e (contextual.Future.added p name on adds) = absurd (adds_nothing p k name is none adds)
-quiet k x n _ _ is none stays stored e (contextual.Future.later p q name on w more) =
-    subst (λ s. Future bodies s name) (sym (only_way p x n stored e q w)) more
-quiet k x n _ _ is none stays stored e (contextual.Future.returned r c g name ret call more) =
-    absurd (stays (item k Return (sym is.is_kind ∙ ret.is_return.is_kind)))
-
--- after the call of f nothing is to come in main's transaction
-nothing_after : (name : Bytes) → Future bodies (m 10) name → ⊥
-nothing_after name x =
-    future_ends bodies (m 12) (codes "main") name end_of_main
-    (quiet Print (body (codes "main") main) 12 (m 11) name (record { is_kind = refl }) refl (λ e. cc) refl refl
-    (quiet (CheckIn check_in.Call) (body (codes "main") main) 11 (m 10) name (record { is_kind = refl }) refl (λ e. cc) refl refl x))
+after_end : Effects (m 13) [] [] []
+after_end = effects (m 13) tt tt tt

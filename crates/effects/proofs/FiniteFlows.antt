@@ -1,6 +1,5 @@
 -- In a finite system of constraints whose seeds and edges are decided it is decided what comes to a node.
-use Rattle.std.proofs.Common.{◌≡◌, Bool, List, [], ◌∷◌, refl, sym, subst, ◌⊎◌, inl, inr}
-use Rattle.std.specs.Bool.{Decides}
+use Rattle.std.proofs.Common.{◌≡◌, Bool, List, [], ◌∷◌, refl, sym, subst, inl, inr}
 use Rattle.c_tree.specs.BareExpr.{Bytes}
 use Rattle.effects.proofs.Reachable.{Among, Way, way, Reached, begins, goes, decide, decided}
 use Rattle.effects.proofs.Deciding.{collect, among_left, among_right, among_cases}

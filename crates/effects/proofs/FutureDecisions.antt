@@ -1,5 +1,5 @@
 -- Whether a name is in a future effect is decided.
-use Rattle.std.proofs.Common.{◌≡◌, List, refl, subst, inl, inr}
+use Rattle.std.proofs.Common.{◌≡◌, List, refl, subst, inr}
 use Rattle.c_tree.specs.BareExpr.{Bytes}
 use Rattle.c_semantics.specs.Store.{Body}
 use Rattle.effects.specs.Sites.{Site, IsCall, IsReturn, Next, Uses, after_call}

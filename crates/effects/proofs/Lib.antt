@@ -26,4 +26,8 @@ pub mod CoverDecisions
 pub mod EffectNames
 pub mod SetsOfNames
 pub mod RowsExist
+pub mod PointLists
+pub mod Tables
+pub mod ExampleText
 pub mod Examples
+pub mod RowExamples

@@ -1,5 +1,5 @@
 -- What is said of the points of a store is decided.
-use Rattle.std.proofs.Common.{◌≡◌, ◌≢◌, ℕ, suc, Bool, true, false, List, Contains, Some, None, refl, sym, subst, ap, ◌∙◌, inl, inr, not}
+use Rattle.std.proofs.Common.{◌≡◌, ℕ, Bool, true, false, List, Some, None, refl, sym, subst, ap, ◌∙◌, inl, inr, not}
 use Rattle.std.specs.Prelude.{Option, option_map, slice_get}
 use Rattle.std.specs.Option.{option_and_then}
 use Rattle.std.proofs.lemmas.Bool.{cases_eq}
@@ -9,13 +9,13 @@ use Rattle.bytecode.specs.Skeleton.{Point, PointKind, Skeleton, Leads, Call, Ret
 use Rattle.c_tree.specs.BareExpr.{Bytes}
 use Rattle.c_semantics.specs.Skeletons.{is_check_in_kind}
 use Rattle.c_semantics.specs.Store.{Body, check_in_number}
-use Rattle.effects.specs.Sites.{Site, IsOf, IsKind, IsCall, IsReturn, IsEntry, Next, Passes, Uses, point_in, function_in, is_enclosed, is_outer_end}
+use Rattle.effects.specs.Sites.{Site, IsOf, IsCall, IsReturn, IsEntry, Next, Passes, Uses, point_in, function_in, is_enclosed, is_outer_end}
 use Rattle.effects.specs.Nested.{Nested, Inside, GoesOn}
 use Rattle.effects.specs.Nested as nested
 use Rattle.effects.specs.Rows.{IsCheckIn}
 use Rattle.effects.proofs.Deciding.{callee, is_call, nested_or_not}
 use Rattle.effects.proofs.Points.{inside_by_function, goes_on_by_function}
-use Rattle.effects.proofs.Decisions.{Decision, by_test, same_as, both, either, some_or_not, same_bool, same_bytes, same_as_some}
+use Rattle.effects.proofs.Decisions.{Decision, by_test, same_as, both, either, same_bool, same_bytes, same_as_some}
 
 -- sites are the same
 pub same_site : (p q : Site) → Decision (p ≡ q)

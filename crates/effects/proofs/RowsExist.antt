@@ -1,6 +1,5 @@
 -- Each mark has a row.
-use Rattle.std.proofs.Common.{◌≡◌, ◌↔◌, ℕ, List, ◌∷◌, inl, inr, refl, sym, subst}
-use Rattle.con_freeness.specs.Rows.{Row}
+use Rattle.std.proofs.Common.{ℕ, List, ◌∷◌, inl, inr, refl}
 use Rattle.c_tree.specs.BareExpr.{Bytes}
 use Rattle.c_semantics.specs.Store.{Body, Mark, Start, CheckInOf}
 use Rattle.effects.specs.Sites.{Site}

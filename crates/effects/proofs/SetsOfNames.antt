@@ -1,5 +1,5 @@
 -- A decided family of names, all of them in a list, has a set.
-use Rattle.std.proofs.Common.{◌≡◌, ◌↔◌, Bool, true, false, ◌||◌, List, [], ◌∷◌, refl, sym, subst, ap, ◌∙◌, ◌⊎◌, inl, inr}
+use Rattle.std.proofs.Common.{◌≡◌, Bool, true, false, List, [], ◌∷◌, refl, sym, subst, ap, ◌∙◌, ◌⊎◌, inl, inr}
 use Rattle.std.specs.Prelude.{bytes_eq, if◌then◌else◌}
 use Rattle.std.proofs.lemmas.Slice.Eq.{bytes_eq-Decides}
 use Rattle.name_sets.specs.NameLists.{precedes, is_among, with_name, name_set}
@@ -8,7 +8,7 @@ use Rattle.c_tree.specs.BareExpr.{Bytes}
 use Rattle.effects.specs.Rows.{IsSet}
 use Rattle.effects.proofs.Reachable.{Among}
 use Rattle.effects.proofs.Decisions.{Decision}
-use Rattle.effects.proofs.OneRow.{Before, First, Ascending, not_itself, test, ascending_with, cases_of, among_itself, among_later}
+use Rattle.effects.proofs.OneRow.{First, Ascending, not_itself, test, ascending_with, cases_of, among_itself, among_later}
 
 -- an ordered set stays as it is
 first_goes_first : (n : Bytes) (ns : List Bytes) → First n ns → with_name n ns ≡ n ∷ ns

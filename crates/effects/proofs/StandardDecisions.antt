@@ -1,5 +1,5 @@
 -- Whether a name is in a standard effect is decided.
-use Rattle.std.proofs.Common.{List, inl, inr}
+use Rattle.std.proofs.Common.{List, inr}
 use Rattle.c_tree.specs.BareExpr.{Bytes}
 use Rattle.c_semantics.specs.Store.{Body}
 use Rattle.effects.specs.Sites.{Site, IsOf, IsCall, Uses}

@@ -1,5 +1,5 @@
 -- A store has finitely many points, and finitely many names occur in it.
-use Rattle.std.proofs.Common.{◌≡◌, ℕ, zero, suc, ◌<◌, List, [], ◌∷◌, ◌++◌, Contains, Some, None, length, refl, sym, subst, ap, ◌∙◌, inl, inr, arith}
+use Rattle.std.proofs.Common.{◌≡◌, ℕ, zero, suc, ◌<◌, List, [], ◌∷◌, ◌++◌, Some, None, length, refl, sym, subst, ap, inl, inr, arith}
 use Rattle.std.specs.Prelude.{Option, option_map, slice_get}
 use Rattle.std.specs.Option.{option_and_then}
 use Rattle.std.proofs.lemmas.Bool.{cases_eq}
@@ -10,7 +10,6 @@ use Rattle.c_semantics.specs.Store.{Body}
 use Rattle.effects.specs.Sites.{Site, IsOf, IsCall, Uses, point_in, function_in, after_call}
 use Rattle.effects.proofs.Reachable.{Among}
 use Rattle.effects.proofs.Deciding.{collect, among_left, among_right}
-use Rattle.effects.proofs.Decisions.{Decision, same_as, by_test}
 use Rattle.effects.proofs.FiniteFlows.{among_collected}
 use Rattle.effects.proofs.Points.{IsPoint, uses_is_point, of_is_point}
 

@@ -1,4 +1,4 @@
--- Each family is the least that its rules allow, and has nothing where it is to be empty.
+-- Each family is the least that its rules allow, and has nothing where it is to be empty. Each mark has exactly one row.
 use Rattle.std.specs.Prelude.{◌≡◌, Bool, IsTrue, List, ◌⊎◌, ◌↔◌}
 use Rattle.c_tree.specs.BareExpr.{Bytes}
 use Rattle.con_freeness.specs.Rows.{Row}
@@ -102,6 +102,6 @@ FutureEnds = (bodies : List Body) (p : Site) (f name : Bytes) → IsEndingEnd bo
 abbrev pub OneRow : Type 0
 OneRow = (bodies : List Body) (mark : Mark) (a b : Row) → IsRowOf bodies mark a → IsRowOf bodies mark b → a ≡ b
 
--- and it has one
+-- each mark has a row over the bodies of a store
 abbrev pub EachHasARow : Type 0
 EachHasARow = (bodies : List Body) (mark : Mark) → (row : Row) × IsRowOf bodies mark row

@@ -7,7 +7,8 @@
 //! Read the files of `specs/` in this order: `Sites` (the points of a store), `Standard` (what a function may use),
 //! `Nested` (where a thread may be in a transaction), `Contextual` (prior and future effect of a point), `Concrete` (what
 //! active code uses directly), `Rows` (what a check-in covers, and its row), `GrowthLaws` and `LeastLaws`; the calls of
-//! `laws` carry these. In `proofs/` effects of a small text are shown.
+//! `laws` carry these. `proofs/Examples` has the effects of a small text at each of its check-ins, `proofs/RowExamples` some
+//! of its rows.
 #![tactic(auto)]
 
 mod laws;
