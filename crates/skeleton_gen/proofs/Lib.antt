@@ -1,6 +1,7 @@
 mod Adding
 mod Loops
 mod NamedSpots
+mod Rows
 mod Sizes
 mod StatementParts
 mod StepOrder

@@ -1,6 +1,7 @@
 //! The points of statements, from right to left. Each function adds a part of a tree to a draft: it takes where control
 //! goes after the part, and at a jump out of it, and gives where control goes at its beginning.
-ghost use Rattle.std.specs.Prelude.{ℕ, List, IfOk, Some};
+ghost use Rattle.std.specs.Prelude.{◌≡◌, ℕ, List, IfOk, Some};
+ghost use Rattle.c_semantics.specs.Resolved as resolved;
 ghost use Rattle.c_semantics.specs.Points.{of_statement, of_statements, evaluated, evaluated_if};
 ghost use Rattle.c_semantics.specs.Skeletons.{Targets, goes, guarded};
 ghost use Rattle.c_semantics.specs.Skeletons as flow;
@@ -10,7 +11,7 @@ ghost use Rattle.resolved_tree.specs.Trees.{table};
 ghost use Rattle.skeleton_gen.specs.Adding.{AddsFlow, targets};
 ghost use Rattle.skeleton_gen.specs.Drawn.{drawn};
 ghost use Rattle.skeleton_gen.specs.Loops.{loop_points, loop_flow};
-ghost use Rattle.c_semantics.specs.Resolved as tree;
+ghost use Rattle.skeleton_gen.specs.Rows.{in_a_row};
 
 use crate::draft::Draft;
 use crate::expression::{expression, expression_if};
@@ -18,7 +19,7 @@ use crate::spot::SpotKind;
 use crate::union::{copy, union};
 use resolved_tree::{NodeId, StatementNode, StatementsNode, Trees, sum};
 use skeletons::CheckInKind;
-use std::alloc::AllocError;
+use std::alloc::{AllocError, Global};
 
 /// Where control goes at a `break`, and at a `continue`.
 #[derive(Drop)]
@@ -50,13 +51,27 @@ pub(crate) fn statements(
         IfOk result (λ first. AddsFlow (of_statements depth tree) (λ n. flow.statements tree n k)
         (drawn t draft.old) (drawn t draft.new) first.items) }
 {
-    match trees.statements(ss) {
-        StatementsNode::None => Ok(on),
-        StatementsNode::Then(s, rest) => {
-            let on = statements(trees, draft, depth, rest, on, jumps)?;
-            statement(trees, draft, depth, s, on, jumps)
-        }
+    let list = listed(*on.allocator(), trees, ss)?;
+    let mut to = on;
+    let mut left = list.len();
+    while left > 0 {
+        left -= 1;
+        to = statement(trees, draft, depth, list[left], to, jumps)?;
     }
+    Ok(to)
+}
+
+/// Statements as a list, so that none of them waits for those after it.
+fn listed(alloc: Global, trees: &Trees, ss: NodeId) -> Result<Vec<NodeId>, AllocError>
+    ensures { let t = table trees.now in IfOk result (λ list. in_a_row t list.items ≡ statements_at t ss) }
+{
+    let mut list = Vec::new(alloc);
+    let mut rest = ss;
+    while let StatementsNode::Then(s, next) = trees.statements(rest) {
+        list.push(s)?;
+        rest = next;
+    }
+    Ok(list)
 }
 
 /// A statement.
@@ -114,7 +129,7 @@ fn conditional(
     jumps: &Jumps,
 ) -> Result<Vec<u32>, AllocError>
     ensures { let t = table trees.now in
-        let tree = tree.If (expression_at t c) (statement_at t a) in
+        let tree = resolved.If (expression_at t c) (statement_at t a) in
         let k = targets on.items jumps.now.broken.items jumps.now.continued.items in
         IfOk result (λ first. AddsFlow (of_statement depth tree) (λ n. flow.statement tree n k)
         (drawn t draft.old) (drawn t draft.new) first.items) }
@@ -137,7 +152,7 @@ fn alternative(
     jumps: &Jumps,
 ) -> Result<Vec<u32>, AllocError>
     ensures { let t = table trees.now in
-        let tree = tree.IfElse (expression_at t c) (statement_at t a) (statement_at t b) in
+        let tree = resolved.IfElse (expression_at t c) (statement_at t a) (statement_at t b) in
         let k = targets on.items jumps.now.broken.items jumps.now.continued.items in
         IfOk result (λ first. AddsFlow (of_statement depth tree) (λ n. flow.statement tree n k)
         (drawn t draft.old) (drawn t draft.new) first.items) }
@@ -159,7 +174,7 @@ fn transaction(
     jumps: &Jumps,
 ) -> Result<Vec<u32>, AllocError>
     ensures { let t = table trees.now in
-        let tree = tree.Transaction (statements_at t ss) in
+        let tree = resolved.Transaction (statements_at t ss) in
         let k = targets on.items jumps.now.broken.items jumps.now.continued.items in
         IfOk result (λ first. AddsFlow (of_statement depth tree) (λ n. flow.statement tree n k)
         (drawn t draft.old) (drawn t draft.new) first.items) }
@@ -213,7 +228,7 @@ fn do_turns(
     on: Vec<u32>,
 ) -> Result<Vec<u32>, AllocError>
     ensures { let t = table trees.now in
-        let tree = tree.DoWhile (statement_at t body) (expression_at t c) in
+        let tree = resolved.DoWhile (statement_at t body) (expression_at t c) in
         IfOk result (λ first. (broken continued : List ℕ)
         → AddsFlow (of_statement depth tree) (λ n. flow.statement tree n (targets on.items broken continued))
         (drawn t draft.old) (drawn t draft.new) first.items) }
@@ -278,7 +293,7 @@ fn returned(
     e: NodeId,
     on: Vec<u32>,
 ) -> Result<Vec<u32>, AllocError>
-    ensures { let t = table trees.now in let tree = tree.Return (expression_at t e) in
+    ensures { let t = table trees.now in let tree = resolved.Return (expression_at t e) in
         IfOk result (λ first. (k : Targets)
         → AddsFlow (of_statement depth tree) (λ n. flow.statement tree n k)
         (drawn t draft.old) (drawn t draft.new) first.items) }
@@ -290,8 +305,8 @@ fn returned(
 /// An update point with its check-in.
 fn update_point(draft: &mut Draft, depth: u32, on: Vec<u32>) -> Result<Vec<u32>, AllocError>
     ensures { IfOk result (λ first. (t : Table) (broken continued : List ℕ)
-        → AddsFlow (of_statement depth tree.UpdatePoint)
-        (λ n. flow.statement tree.UpdatePoint n (targets on.items broken continued))
+        → AddsFlow (of_statement depth resolved.UpdatePoint)
+        (λ n. flow.statement resolved.UpdatePoint n (targets on.items broken continued))
         (drawn t draft.old) (drawn t draft.new) first.items) }
 {
     let to = draft.point(SpotKind::CheckIn(CheckInKind::Update), depth, on)?;

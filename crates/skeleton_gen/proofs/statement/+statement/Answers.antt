@@ -1,4 +1,4 @@
-use Rattle.std.proofs.Common.{map, reverse, refl, ap, ◌∙◌, add-one}
+use Rattle.std.proofs.Common.{◌-◌, map, reverse, refl, ap, ◌∙◌, add-one, arith}
 use Rattle.std.proofs.lemmas.Result.{IfOk-weaker}
 use Rattle.resolved_tree.specs.Nodes.{expression_at, expression_if, statement_at, statements_at}
 use Rattle.resolved_tree.specs.Trees.{table}
@@ -6,19 +6,32 @@ use Rattle.skeleton_gen.specs.Adding.{targets}
 use Rattle.skeleton_gen.specs.Drawn.{spot_of}
 use Rattle.skeleton_gen.proofs.Adding.{as_flow}
 use Rattle.skeleton_gen.proofs.Loops.{adds_turns, row_set}
-use Rattle.skeleton_gen.proofs.StatementParts.{adds_then, adds_if_else, adds_while, adds_for, adds_do, adds_transaction, at_statement, at_statements}
+use Rattle.skeleton_gen.specs.Weights as weight
+use Rattle.skeleton_gen.proofs.Rows.{row_weight, adds_one_of_row}
+use Rattle.skeleton_gen.proofs.StatementParts.{adds_if_else, adds_while, adds_for, adds_do, adds_transaction, at_statement}
 use Rattle.skeleton_gen.proofs.statement.+statement.Goals as goal
 
-pub statements-returns-in_ok-on-in-Then : goal.statements-returns-in_ok-on-in-Then
-statements-returns-in_ok-on-in-Then t c =
-    let trees = table c.args.trees.now in
+pub statements-statement-requires : goal.statements-statement-requires
+statements-statement-requires m c =
+    let t = table c.args.trees.now in
+    let list = c.in_ok-list.list.items in
+    let id = c.index.result.now in
+    let light = row_weight t list (c.loop-left.left - 1) id (omega arith) in
+    let here = ap (λ s. weight.of_statement (statement_at t s)) c.index.ensures in
+    let all = ap weight.of_statements c.in_ok-list.ensures in
+    (omega arith, tt)
+
+pub statements-loop-left-preserved : goal.statements-loop-left-preserved
+statements-loop-left-preserved m c =
+    let t = table c.args.trees.now in
     let broken = c.args.jumps.now.broken.items in
     let continued = c.args.jumps.now.continued.items in
-    IfOk-weaker c.statement.result _ _
-    (λ first h. at_statements c.args.depth (targets c.args.on.items broken continued) c.in-Then.ensures
-    (adds_then c.args.depth (statement_at trees c.in-Then.s) (statements_at trees c.in-Then.rest) c.args.on.items broken continued
-    c.in_ok-on-in-Then.ensures h))
-    c.statement.ensures
+    record {
+      within = omega arith;
+      drawn = adds_one_of_row t c.args.depth c.in_ok-list.list.items c.loop-left.left c.index.result.now c.args.on.items broken continued
+          (omega arith) (omega arith) c.loop-left.invariant.drawn
+          (at_statement c.args.depth (targets c.loop-left.to.items broken continued) (ap (statement_at t) c.index.ensures) c.in_ok-to.ensures);
+    }
 
 pub statement-returns-in-Return : goal.statement-returns-in-Return
 statement-returns-in-Return t c =
