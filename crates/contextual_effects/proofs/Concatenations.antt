@@ -2,12 +2,8 @@
 use Rattle.std.proofs.Common.{◌≡◌, ℕ, zero, suc, ◌+◌, ◌<◌, List, [], ◌∷◌, ◌++◌, Some, Contains, length, take, inl, inr, refl, subst, ap, sym, ◌∙◌, arith}
 use Rattle.std.specs.Prelude.{slice_get}
 use Rattle.std.proofs.lemmas.List.{append_assoc, append-nil}
+use Rattle.contextual_effects.specs.Parts.{parts}
 use Rattle.std.proofs.lemmas.List.Elements.{Contains-append_left, Contains-append_right, Contains-append_cases}
-
--- the parts for items that have the places from a number on
-abbrev pub parts : {X A : Type 0} → (ℕ → X → List A) → ℕ → List X → List A
-parts make i [] = []
-parts make i (x ∷ xs) = make i x ++ parts make (suc i) xs
 
 -- an item, its place, and what is made of it
 pub record OfItem {X A : Type 0} (make : ℕ → X → List A) (first : ℕ) (xs : List X) (a : A) : Type 0 where

@@ -11,3 +11,16 @@ pub mod Encoding
 pub mod Numbering
 pub mod Seeds
 pub mod Concatenations
+pub mod EdgeLists
+pub mod Fitting
+pub mod NodesOfPoints
+pub mod EdgesOfNodes
+pub mod SeedLists
+pub mod StandardSystem
+pub mod SharedEdges
+pub mod NestedSystem
+pub mod PriorSystem
+pub mod FutureSystem
+pub mod ConcreteSystem
+pub mod Solutions
+pub mod EffectSets

@@ -1,11 +1,26 @@
-//! Effects of the points of a store, as least sets of systems of inclusion constraints. The crate has the systems, and
-//! proofs that their least sets are the effects of the crate `effects`; it has no code that solves them.
+//! The effects of the points and functions of a store (contextual effects, POPL 2008), as sets of names. [`solve`] takes a
+//! flow and gives, for each point, its prior, future and concrete effect, and for each function its standard effect: exactly
+//! the least sets that the rules of the crate `effects` allow (`specs/Effects.antt`, by `AreEffectsOf`).
+//!
+//! Each kind of effect is the least solution of inclusion constraints over points, functions and names, solved by
+//! `set_constraints`. `specs/Edges.antt` and `specs/Steps.antt` are what the private steps promise one another.
+//!
+//! Read in this order:
+//! - [`nodes`]: the numbers of what has a set
+//! - [`constraints`]: the edges of each system of constraints
+//! - [`initial`]: the names that each node has by itself
+//! - [`solution`]: the effects
 //!
 //! Read the files of `proofs/` in this order: `Systems` (what comes to the nodes of a system), `StandardEquations`,
 //! `NestedEquations`, `PriorEquations`, `FutureEquations`, `ConcreteEquations` (one system each, and that its least sets are
 //! the effects), `RowEquations` and `MarkEquations` (the same of what check-ins cover, and of the rows of marks), `Encoding`
-//! (a system whose nodes and names go by numbers has the least sets of the system that it stands for). `Points`,
-//! `Numbering`, `Seeds` and `Concatenations` help to show that one does.
+//! (a system whose nodes and names go by numbers has the least sets of the system that it stands for), `Points`, `Numbering`,
+//! `Seeds` and `Concatenations` (help for these).
 #![tactic(auto)]
 
-fn nothing() {}
+mod constraints;
+mod initial;
+mod nodes;
+mod solution;
+
+pub use solution::{Effects, solve};

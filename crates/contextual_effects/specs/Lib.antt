@@ -1,0 +1,4 @@
+pub mod Effects
+pub mod Parts
+pub mod Edges
+pub mod Steps
