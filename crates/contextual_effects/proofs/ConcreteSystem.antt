@@ -14,11 +14,11 @@ use Rattle.contextual_effects.specs.declared.constraints.System.TheVariants as s
 use Rattle.contextual_effects.specs.Edges.{in_block, is_return, continues, concrete_of_point, back_of_way, edges_of}
 use Rattle.contextual_effects.specs.Effects.{HasNames}
 use Rattle.contextual_effects.specs.Steps.{AreNone, AreSetsOf}
-use Rattle.contextual_effects.proofs.Systems.{Node, At, Calls, Name, NameSeed}
-use Rattle.contextual_effects.proofs.ConcreteEquations.{ConcreteEdge, used, later, returned, after, ConcreteFlows, concrete_flows}
+use Rattle.effects.proofs.Systems.{Node, At, Calls, Name, NameSeed}
+use Rattle.effects.proofs.ConcreteEquations.{ConcreteEdge, used, later, returned, after, ConcreteFlows, concrete_flows}
 use Rattle.contextual_effects.proofs.Encoding.{Encodes}
 use Rattle.contextual_effects.proofs.Numbering as code
-use Rattle.contextual_effects.proofs.Points.{concrete_is_point}
+use Rattle.effects.proofs.Points.{concrete_is_point}
 use Rattle.contextual_effects.proofs.Seeds.{AreNameSeeds, name_seeds_stand, name_seeds_taken}
 use Rattle.contextual_effects.proofs.SeedLists.{name_seeds}
 use Rattle.contextual_effects.proofs.EdgeLists.{edge_is, is_edge, SomeIs, OfPoint, OfWay, edges_are}

@@ -9,7 +9,7 @@ use Rattle.effect_flow.specs.Parts.{Contents}
 use Rattle.set_constraints.specs.declared.constraint.Edge.{Edge}
 use Rattle.set_constraints.specs.Constraints.{Reaches}
 use Rattle.contextual_effects.specs.Effects.{HasNames}
-use Rattle.contextual_effects.proofs.Systems.{Node, Flows}
+use Rattle.effects.proofs.Systems.{Node, Flows}
 use Rattle.contextual_effects.proofs.Encoding.{Encodes, IsNamed}
 use Rattle.contextual_effects.proofs.Encoding as encoding
 use Rattle.contextual_effects.proofs.Numbering.{ArePlaces, InBlock, NodeCode, of_point, of_calls, of_name, one_node}

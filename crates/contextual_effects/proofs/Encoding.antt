@@ -6,7 +6,7 @@ use Rattle.c_tree.specs.BareExpr.{Bytes}
 use Rattle.set_constraints.specs.declared.constraint.Edge.{Edge as NumberedEdge}
 use Rattle.set_constraints.specs.Constraints.{Reaches}
 use Rattle.set_constraints.specs.Constraints as numbered
-use Rattle.contextual_effects.proofs.Systems.{Flows, seeded, along}
+use Rattle.effects.proofs.Systems.{Flows, seeded, along}
 
 -- the id of a name in a table
 abbrev pub IsNamed : List Bytes → ℕ → Bytes → Type 0

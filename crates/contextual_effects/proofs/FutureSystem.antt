@@ -14,11 +14,11 @@ use Rattle.contextual_effects.specs.declared.constraints.System.TheVariants as s
 use Rattle.contextual_effects.specs.Edges.{in_block, goes_on, is_return, continues, future_of_point, back_of_way, edges_of}
 use Rattle.contextual_effects.specs.Effects.{HasNames}
 use Rattle.contextual_effects.specs.Steps.{HasNested, AreStandard, AreSetsOf}
-use Rattle.contextual_effects.proofs.Systems.{Node, At, Calls, Whole, Name, EffectSeed}
-use Rattle.contextual_effects.proofs.FutureEquations.{FutureEdge, used, called, later, returned, after, FutureFlows, future_flows}
+use Rattle.effects.proofs.Systems.{Node, At, Calls, Whole, Name, EffectSeed}
+use Rattle.effects.proofs.FutureEquations.{FutureEdge, used, called, later, returned, after, FutureFlows, future_flows}
 use Rattle.contextual_effects.proofs.Encoding.{Encodes}
 use Rattle.contextual_effects.proofs.Numbering as code
-use Rattle.contextual_effects.proofs.Points.{future_is_point}
+use Rattle.effects.proofs.Points.{future_is_point}
 use Rattle.contextual_effects.proofs.Seeds.{AreEffectSeeds, effect_seeds_stand, effect_seeds_taken}
 use Rattle.contextual_effects.proofs.SeedLists.{effect_seeds}
 use Rattle.contextual_effects.proofs.EdgeLists.{edge_is, is_edge, SomeIs, OfPoint, OfWay, edges_are}

@@ -1,12 +1,3 @@
-pub mod Points
-pub mod Systems
-pub mod StandardEquations
-pub mod NestedEquations
-pub mod PriorEquations
-pub mod FutureEquations
-pub mod ConcreteEquations
-pub mod RowEquations
-pub mod MarkEquations
 pub mod Encoding
 pub mod Numbering
 pub mod Seeds

@@ -17,7 +17,7 @@ use Rattle.set_constraints.specs.Constraints.{Reaches}
 use Rattle.contextual_effects.specs.declared.constraints.System.TheVariants as system
 use Rattle.contextual_effects.specs.Edges.{in_block, nested_of_point, edges_of}
 use Rattle.contextual_effects.specs.Steps.{AreTokens, IsMarked, HasNested}
-use Rattle.contextual_effects.proofs.NestedEquations.{NestedNode, Transactions, Function, TokenSeed, at_transactions, NestedEdge, in_transaction, in_caller, nested_flows}
+use Rattle.effects.proofs.NestedEquations.{NestedNode, Transactions, Function, TokenSeed, at_transactions, NestedEdge, in_transaction, in_caller, nested_flows}
 use Rattle.contextual_effects.proofs.Encoding.{Encodes, IsNamed, reaches_family}
 use Rattle.contextual_effects.proofs.Numbering.{InBlock, NestedCode, of_transactions, one_nested_node}
 use Rattle.contextual_effects.proofs.Numbering as code

@@ -22,7 +22,7 @@ use Rattle.effect_flow.proofs.PointKinds.{outer_end}
 use Rattle.contextual_effects.specs.Edges.{in_block, has, is_return, is_end, is_inside, goes_on, enters}
 use Rattle.contextual_effects.specs.Steps.{Numbers, HasNested}
 use Rattle.contextual_effects.proofs.Numbering.{ArePlaces, InBlock}
-use Rattle.contextual_effects.proofs.Points.{inside_by_function, goes_on_by_function}
+use Rattle.effects.proofs.Points.{inside_by_function, goes_on_by_function}
 use Rattle.contextual_effects.proofs.Fitting.{called_below, known_at}
 
 -- the place of a site

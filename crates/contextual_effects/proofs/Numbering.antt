@@ -4,9 +4,9 @@ use Rattle.std.proofs.Common.{◌≡◌, ℕ, ◌+◌, ◌<◌, ◌≤◌, List,
 use Rattle.std.specs.Prelude.{slice_get}
 use Rattle.c_tree.specs.BareExpr.{Bytes}
 use Rattle.effects.specs.Sites.{Site}
-use Rattle.contextual_effects.proofs.Systems.{Node, At, Calls, Whole, Name}
-use Rattle.contextual_effects.proofs.NestedEquations.{NestedNode, Transactions, Function}
-use Rattle.contextual_effects.proofs.RowEquations.{RowNode, From, To, Entries, Starts, Returns}
+use Rattle.effects.proofs.Systems.{Node, At, Calls, Whole, Name}
+use Rattle.effects.proofs.NestedEquations.{NestedNode, Transactions, Function}
+use Rattle.effects.proofs.RowEquations.{RowNode, From, To, Entries, Starts, Returns}
 use Rattle.contextual_effects.proofs.Encoding.{IsNamed}
 
 -- each place is below the number of points, and that of one point

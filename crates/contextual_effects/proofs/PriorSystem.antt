@@ -14,8 +14,8 @@ use Rattle.contextual_effects.specs.declared.constraints.System.TheVariants as s
 use Rattle.contextual_effects.specs.Edges.{is_inside, enters, prior_of_point, prior_of_way, edges_of}
 use Rattle.contextual_effects.specs.Effects.{HasNames}
 use Rattle.contextual_effects.specs.Steps.{HasNested, AreStandard, AreSetsOf}
-use Rattle.contextual_effects.proofs.Systems.{Node, At, Calls, Whole, Name, EffectSeed}
-use Rattle.contextual_effects.proofs.PriorEquations.{PriorEdge, before, used, called, entered, from_calls, at_call, prior_flows}
+use Rattle.effects.proofs.Systems.{Node, At, Calls, Whole, Name, EffectSeed}
+use Rattle.effects.proofs.PriorEquations.{PriorEdge, before, used, called, entered, from_calls, at_call, prior_flows}
 use Rattle.contextual_effects.proofs.Encoding.{Encodes}
 use Rattle.contextual_effects.proofs.Numbering as code
 use Rattle.contextual_effects.proofs.Seeds.{AreEffectSeeds, effect_seeds_stand, effect_seeds_taken}

@@ -8,10 +8,10 @@ use Rattle.c_tree.specs.BareExpr.{Bytes}
 use Rattle.c_semantics.specs.Store.{Body}
 use Rattle.effects.specs.Sites.{Site}
 use Rattle.effects.specs.Standard.{Standard}
-use Rattle.contextual_effects.proofs.Systems.{Node, Whole, Name, NameSeed, EffectSeed}
-use Rattle.contextual_effects.proofs.Systems as system
-use Rattle.contextual_effects.proofs.RowEquations.{RowNode, From, To, OwnSeed}
-use Rattle.contextual_effects.proofs.RowEquations as row
+use Rattle.effects.proofs.Systems.{Node, Whole, Name, NameSeed, EffectSeed}
+use Rattle.effects.proofs.Systems as system
+use Rattle.effects.proofs.RowEquations.{RowNode, From, To, OwnSeed}
+use Rattle.effects.proofs.RowEquations as row
 use Rattle.contextual_effects.proofs.Encoding.{IsNamed}
 use Rattle.contextual_effects.proofs.Numbering.{ArePlaces, NodeCode, RowCode}
 use Rattle.contextual_effects.proofs.Numbering as code

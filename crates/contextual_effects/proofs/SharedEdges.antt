@@ -16,10 +16,10 @@ use Rattle.effect_flow.proofs.Ways.{way}
 use Rattle.set_constraints.specs.declared.constraint.Edge.{Edge}
 use Rattle.contextual_effects.specs.declared.constraints.System.{System}
 use Rattle.contextual_effects.specs.Edges.{in_block, edge_if, is_return, continues, of_point, between, edges_of}
-use Rattle.contextual_effects.proofs.Systems.{Node, At, Calls, Whole, Name}
+use Rattle.effects.proofs.Systems.{Node, At, Calls, Whole, Name}
 use Rattle.contextual_effects.proofs.Numbering.{InBlock, NodeCode}
 use Rattle.contextual_effects.proofs.Numbering as code
-use Rattle.contextual_effects.proofs.Points.{IsPoint}
+use Rattle.effects.proofs.Points.{IsPoint}
 use Rattle.contextual_effects.proofs.EdgeLists.{edge, edge_is, is_edge, SomeIs, OfWay, point_has_edge, way_has_edge}
 use Rattle.contextual_effects.proofs.NodesOfPoints.{Setting, within, Aspect, stands, taken, Here, here, PointOf, point_of, returns_at, return_is}
 use Rattle.contextual_effects.proofs.EdgesOfNodes.{Code, EdgeTaken}

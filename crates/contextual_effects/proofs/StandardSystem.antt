@@ -14,8 +14,8 @@ use Rattle.contextual_effects.specs.declared.constraints.System.TheVariants as s
 use Rattle.contextual_effects.specs.Edges.{in_block, standard_of_point, edges_of}
 use Rattle.contextual_effects.specs.Effects.{HasNames}
 use Rattle.contextual_effects.specs.Steps.{AreNone, AreSetsOf}
-use Rattle.contextual_effects.proofs.Systems.{Node, Whole, Name, NameSeed}
-use Rattle.contextual_effects.proofs.StandardEquations.{StandardEdge, used, called, standard_flows}
+use Rattle.effects.proofs.Systems.{Node, Whole, Name, NameSeed}
+use Rattle.effects.proofs.StandardEquations.{StandardEdge, used, called, standard_flows}
 use Rattle.contextual_effects.proofs.Encoding.{Encodes}
 use Rattle.contextual_effects.proofs.Numbering.{ArePlaces, InBlock, NodeCode, of_name}
 use Rattle.contextual_effects.proofs.Numbering as code

@@ -11,11 +11,10 @@
 //! - [`initial`]: the names that each node has by itself
 //! - [`solution`]: the effects
 //!
-//! Read the files of `proofs/` in this order: `Systems` (what comes to the nodes of a system), `StandardEquations`,
-//! `NestedEquations`, `PriorEquations`, `FutureEquations`, `ConcreteEquations` (one system each, and that its least sets are
-//! the effects), `RowEquations` and `MarkEquations` (the same of what check-ins cover, and of the rows of marks), `Encoding`
-//! (a system whose nodes and names go by numbers has the least sets of the system that it stands for), `Points`, `Numbering`,
-//! `Seeds` and `Concatenations` (help for these).
+//! The equations by which each kind of effect is such a solution are in the proofs of `effects` (`Systems`,
+//! `PriorEquations` and its like). Read the files of `proofs/` in this order: `Encoding` (a system whose nodes and names go by
+//! numbers has the least sets of the system that it stands for), `Numbering`, `Seeds` and `Concatenations` (help for it), then
+//! `PriorSystem` and its like (the edges that the code makes stand for those of the equations), `Solutions`.
 #![tactic(auto)]
 
 mod constraints;
