@@ -1,0 +1,4 @@
+pub mod EffectsText
+pub mod Shown
+pub mod Bodies
+pub mod Writing

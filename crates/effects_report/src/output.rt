@@ -1,0 +1,70 @@
+//! The whole text.
+ghost use Rattle.std.specs.Prelude.{◌≡◌, ◌≤◌, [], ◌∷◌, length, map, All, IfOk, IsErrOf};
+ghost use Rattle.c_semantics.specs.SourceTexts.{text_of};
+ghost use Rattle.c_semantics.specs.Store.{store};
+ghost use Rattle.c_semantics.specs.Texts.{definition};
+ghost use Rattle.dsu_io.specs.Causes.{Rose};
+ghost use Rattle.effects_report.specs.EffectsText.{functions, AreBlocksFrom};
+ghost use Rattle.effects_report.specs.Shown.{block_of, IsReady};
+ghost use Rattle.effects_report.specs.Writing.{Writes};
+
+use crate::bodies::bodies_of;
+use crate::report::{Bodies, Report};
+use crate::table::names_of;
+use crate::write::put_sections;
+use c_tree::Program;
+use c_types::Typed;
+use contextual_effects::solve;
+use dsu_io::Sink;
+use std::alloc::{AllocError, Global};
+
+/// Why the text of the effects wasn't written.
+#[derive(Clone, Copy, Debug, PartialEq, Eq)]
+pub enum ReportFault {
+    /// The sink failed.
+    Failed,
+    /// Out of memory. It is also the answer where the text has more than 2,048 names, uses a name that it doesn't define,
+    /// or has a place that isn't in `text` or is 2^32 - 1 or more: none of these occurs in a typed text and its bytes, but
+    /// that isn't proved.
+    Memory,
+}
+
+/// Writes the effects of a typed text. `text` has the bytes of the text.
+pub fn write_effects<S: Sink>(
+    alloc: Global,
+    typed: &Typed,
+    text: &[u8],
+    sink: &mut S,
+) -> Result<(), ReportFault>
+    ensures bytes { Writes typed.now text.now (S.told sink.old) (S.told sink.new) result }
+    ensures later { S.faults sink.old ≤ S.faults sink.new }
+    ensures failed { IsErrOf result ReportFault.Failed → Rose (S.faults sink.old) (S.faults sink.new) }
+    ensures memory { IsErrOf result ReportFault.Memory → sink.new ≡ sink.old }
+{
+    let Ok(report) = report_of(alloc, typed.program(), text.len()) else {
+        return Err(ReportFault::Memory);
+    };
+    let sections = report.sections.as_slice();
+    match put_sections(text, &report.names, &report.effects, sections, sink) {
+        Ok(()) => Ok(()),
+        Err(_) => Err(ReportFault::Failed),
+    }
+}
+
+/// What is written of a program with a text of `size` bytes.
+fn report_of(alloc: Global, program: &Program, size: usize) -> Result<Report, AllocError>
+    ensures blocks { let text = text_of program.now in
+        IfOk result (λ report. AreBlocksFrom (store (text ∷ [])) (definition text.definitions) 0
+        (functions program.now) (map (block_of report.names report.effects) report.sections.items)) }
+    ensures ready { IfOk result (λ report. All (IsReady report.names size) report.sections.items) }
+{
+    let names = names_of(alloc, program.definitions.as_slice())?;
+    let bodies = bodies_of(alloc, program, &names, size)?;
+    let effects = solve(alloc, &bodies.flow)?;
+    let Bodies { flow: _, sections } = bodies;
+    Ok(Report {
+        names,
+        effects,
+        sections,
+    })
+}

@@ -1,0 +1,170 @@
+//! The lines of the text.
+ghost use Rattle.std.specs.Prelude.{◌≡◌, ◌+◌, ◌-◌, ◌++◌, ◌^◌, ◌<◌, ◌≤◌, length, map, All, codes, slice_index};
+ghost use Rattle.std.specs.Fmt.{decimal};
+ghost use Rattle.dsu_report.specs.Places.{line_at, column_at};
+ghost use Rattle.std.specs.List.{flat_map};
+ghost use Rattle.dsu_io.specs.Causes.{HasCause};
+ghost use Rattle.dsu_io.specs.Sinks.{PutAppends};
+ghost use Rattle.name_sets.specs.Texts.{text_of};
+ghost use Rattle.skeletons.specs.Meaning.{check_in_of};
+ghost use Rattle.effects_report.specs.EffectsText.{kind_word, head_text, row_text, line_text, title_text, block_text, blocks_text};
+ghost use Rattle.effects_report.specs.Shown.{IsWithin, IsReady, names_in, row_at, line_of, block_of};
+
+use crate::names::{put_set, text_at};
+use crate::report::{Section, Spot};
+use crate::sets::{concrete_at, future_at, prior_at, standard_at};
+use contextual_effects::Effects;
+use dsu_io::{Failed, Sink, put, put_all};
+use dsu_report::place_of;
+use itoa::Buffer;
+use name_sets::{NameId, Names};
+use skeletons::CheckInKind;
+
+/// The word of a kind of check-in.
+fn kind_word(kind: CheckInKind) -> &'static [u8]
+    ensures { result.now ≡ kind_word (check_in_of kind) }
+{
+    match kind {
+        CheckInKind::Entry => b"entry",
+        CheckInKind::Call => b"call",
+        CheckInKind::Begin => b"begin",
+        CheckInKind::End => b"end",
+        CheckInKind::Update => b"update",
+    }
+}
+
+/// Writes the line, the column and the kind of a check-in.
+fn put_head<S: Sink>(text: &[u8], spot: Spot, sink: &mut S) -> Result<(), Failed>
+    requires { IsWithin (length text.now) spot }
+    ensures bytes { PutAppends (S.told sink.old) (S.told sink.new) result
+        (codes "  " ++ decimal (line_at text.now spot.at) ++ codes ":" ++ decimal (column_at text.now spot.at)
+        ++ codes " " ++ kind_word (check_in_of spot.kind)) }
+    ensures cause { HasCause (S.faults sink.old) (S.faults sink.new) result }
+{
+    let place = place_of(text, spot.at);
+    let mut lines = Buffer::new();
+    let mut columns = Buffer::new();
+    let line = lines.format(place.line).as_bytes();
+    let column = columns.format(place.column).as_bytes();
+    put_all(
+        sink,
+        &[b"  ", line, b":", column, b" ", kind_word(spot.kind)],
+    )
+}
+
+/// Writes the three sets at a place of the flow.
+fn put_row<S: Sink>(names: &Names, effects: &Effects, at: usize, sink: &mut S) -> Result<(), Failed>
+    ensures bytes { PutAppends (S.told sink.old) (S.told sink.new) result
+        (row_text (row_at names.now effects.now at)) }
+    ensures cause { HasCause (S.faults sink.old) (S.faults sink.new) result }
+{
+    put_set(b" prior:", names, &prior_at(effects, at), sink)?;
+    put_set(b" future:", names, &future_at(effects, at), sink)?;
+    put_set(b" concrete:", names, &concrete_at(effects, at), sink)?;
+    put(sink, b"\n")
+}
+
+/// Writes the line of a check-in.
+fn put_line<S: Sink>(
+    text: &[u8],
+    names: &Names,
+    effects: &Effects,
+    spot: Spot,
+    sink: &mut S,
+) -> Result<(), Failed>
+    requires { IsWithin (length text.now) spot }
+    ensures bytes { PutAppends (S.told sink.old) (S.told sink.new) result
+        (line_text text.now (line_of names.now effects.now spot)) }
+    ensures cause { HasCause (S.faults sink.old) (S.faults sink.new) result }
+{
+    put_head(text, spot, sink)?;
+    put_row(names, effects, spot.point, sink)
+}
+
+/// Writes the lines of check-ins.
+fn put_lines<S: Sink>(
+    text: &[u8],
+    names: &Names,
+    effects: &Effects,
+    spots: &[Spot],
+    sink: &mut S,
+) -> Result<(), Failed>
+    requires { All (IsWithin (length text.now)) spots.now }
+    ensures bytes { PutAppends (S.told sink.old) (S.told sink.new) result
+        (flat_map (line_text text.now) (map (line_of names.now effects.now) spots.now)) }
+    ensures cause { HasCause (S.faults sink.old) (S.faults sink.new) result }
+{
+    for spot in spots {
+        match put_line(text, names, effects, *spot, sink) {
+            Ok(()) => {}
+            Err(failed) => return Err(failed),
+        }
+    }
+    Ok(())
+}
+
+/// Writes the first line of a function.
+fn put_title<S: Sink>(
+    names: &Names,
+    effects: &Effects,
+    function: NameId,
+    sink: &mut S,
+) -> Result<(), Failed>
+    requires { function < length names.now }
+    ensures bytes { PutAppends (S.told sink.old) (S.told sink.new) result
+        (title_text (text_of names.now function) (names_in names.now (slice_index effects.now.standard function))) }
+    ensures cause { HasCause (S.faults sink.old) (S.faults sink.new) result }
+{
+    put(sink, b"function ")?;
+    put_text(names, function, sink)?;
+    put_set(b":", names, &standard_at(effects, function), sink)?;
+    put(sink, b"\n")
+}
+
+/// Writes a name.
+fn put_text<S: Sink>(names: &Names, name: NameId, sink: &mut S) -> Result<(), Failed>
+    requires { name < length names.now }
+    ensures bytes { PutAppends (S.told sink.old) (S.told sink.new) result (text_of names.now name) }
+    ensures cause { HasCause (S.faults sink.old) (S.faults sink.new) result }
+{
+    put(sink, text_at(names, name.index()).as_bytes())
+}
+
+/// Writes the lines of a function.
+fn put_section<S: Sink>(
+    text: &[u8],
+    names: &Names,
+    effects: &Effects,
+    section: &Section,
+    sink: &mut S,
+) -> Result<(), Failed>
+    requires { IsReady names.now (length text.now) section.now }
+    ensures bytes { PutAppends (S.told sink.old) (S.told sink.new) result
+        (block_text text.now (block_of names.now effects.now section.now)) }
+    ensures cause { HasCause (S.faults sink.old) (S.faults sink.new) result }
+{
+    put_title(names, effects, section.function, sink)?;
+    put_lines(text, names, effects, section.spots.as_slice(), sink)
+}
+
+/// Writes the lines of functions.
+pub(crate) fn put_sections<S: Sink>(
+    text: &[u8],
+    names: &Names,
+    effects: &Effects,
+    sections: &[Section],
+    sink: &mut S,
+) -> Result<(), Failed>
+    requires { All (IsReady names.now (length text.now)) sections.now }
+    ensures bytes { PutAppends (S.told sink.old) (S.told sink.new) result
+        (blocks_text text.now (map (block_of names.now effects.now) sections.now)) }
+    ensures cause { HasCause (S.faults sink.old) (S.faults sink.new) result }
+{
+    for section in sections {
+        match put_section(text, names, effects, section, sink) {
+            Ok(()) => {}
+            Err(failed) => return Err(failed),
+        }
+    }
+    Ok(())
+}
