@@ -81,8 +81,7 @@ fn work_body(alloc: Global, global: NameId) -> Result<Skeleton, AllocError> {
 
 /// The effects of both functions.
 fn effects(alloc: Global) -> Result<Option<Effects>, AllocError> {
-    let (Some(main), Some(work), Some(global)) =
-        (NameId::new(0), NameId::new(1), NameId::new(2))
+    let (Some(main), Some(work), Some(global)) = (NameId::new(0), NameId::new(1), NameId::new(2))
     else {
         return Ok(None);
     };
