@@ -1,0 +1,12 @@
+pub mod DigestLemmas
+pub mod RowEdges
+pub mod RowSystem
+pub mod Lists
+pub mod RowsOfMarks
+pub mod Inserting
+pub mod MarkLemmas
+pub mod KeyTests
+pub mod OwnSeeds
+pub mod RowsOfStore
+pub mod RowTheorem
+pub mod Fits

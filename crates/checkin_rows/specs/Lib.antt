@@ -1,0 +1,5 @@
+pub mod Digests
+pub mod Edges
+pub mod Marks
+pub mod Rows
+pub mod Steps

@@ -1,0 +1,3 @@
+pub mod UsedIds
+pub mod StoredBodies
+pub mod DirectUses

@@ -1,0 +1,85 @@
+use super::*;
+use dsu_io::List;
+use name_sets::NameId;
+use skeletons::{CheckInKind, Point, PointKind, Skeleton, Use};
+use std::alloc::{AllocError, Global};
+use std::test::Fail;
+
+fn point(kind: PointKind) -> Point {
+    Point { kind, depth: 0 }
+}
+
+/// The skeleton of a function that writes a global.
+fn writer(alloc: Global, name: NameId) -> Result<Skeleton, AllocError> {
+    let points = [
+        point(PointKind::CheckIn(CheckInKind::Entry)),
+        point(PointKind::Uses(Use::WriteGlobal, name)),
+        point(PointKind::Return),
+    ];
+    let mut next = Vec::new(alloc);
+    next.push(List::of(Vec::from_slice(alloc, &[1])?))?;
+    next.push(List::of(Vec::from_slice(alloc, &[2])?))?;
+    next.push(List::of(Vec::new(alloc)))?;
+    Ok(Skeleton {
+        points: Vec::from_slice(alloc, &points)?,
+        next,
+    })
+}
+
+#[test]
+fn two_versions_of_a_function(rt: HostRuntime) -> Result<(), Fail> {
+    let alloc = rt.alloc();
+    let f = NameId::new(3).ok_or("an id")?;
+    let x = NameId::new(0).ok_or("an id")?;
+    let y = NameId::new(7).ok_or("an id")?;
+    let first = StoredBody {
+        function: f,
+        generation: 1,
+        tokens: 131_000,
+        skeleton: writer(alloc, x)?,
+    };
+    let second = StoredBody {
+        function: f,
+        generation: 4,
+        tokens: 72,
+        skeleton: writer(alloc, y)?,
+    };
+    let mut store = Store::new(alloc);
+    if store.add(first).is_err() {
+        return Err("room for the first".into());
+    }
+    if store.add(second).is_err() {
+        return Err("room for the second".into());
+    }
+    assert_eq!(rt; store.bodies().len(), 2);
+    let uses = store.direct(f);
+    assert!(rt; uses.holds(x) && uses.holds(y) && !uses.holds(f));
+    assert!(rt; !store.direct(x).holds(x));
+    let flow = store.flow(alloc)?;
+    assert_eq!(rt; flow.points().len(), 6);
+    assert_eq!(rt; flow.ways().len(), 4);
+    Ok(())
+}
+
+#[test]
+fn more_check_ins_than_there_is_room_for(rt: HostRuntime) -> Result<(), Fail> {
+    let alloc = rt.alloc();
+    let f = NameId::new(0).ok_or("an id")?;
+    let mut points = Vec::new(alloc);
+    for _ in 0..=MOST_CHECK_INS {
+        points.push(point(PointKind::CheckIn(CheckInKind::Update)))?;
+    }
+    let body = StoredBody {
+        function: f,
+        generation: 1,
+        tokens: 1,
+        skeleton: Skeleton {
+            points,
+            next: Vec::new(alloc),
+        },
+    };
+    let mut store = Store::new(alloc);
+    assert_eq!(rt; store.add(body), Err(StoreFault::Full));
+    assert_eq!(rt; store.bodies().len(), 0);
+    Ok(())
+}
