@@ -4,7 +4,7 @@ use Rattle.bytecode.specs.declared.run.Event.{Event}
 use Rattle.c_tree.specs.declared.def.Program.{Program}
 use Rattle.dsu_io.specs.Causes.{Rose}
 use Rattle.dsu_cli.specs.declared.job.Job.{Job}
-use Rattle.dsu_cli.specs.declared.job.Job.TheVariants.{Replay}
+use Rattle.dsu_cli.specs.declared.job.Job.TheVariants.{Effects, Replay}
 use Rattle.dsu_cli.specs.declared.job.ReplayJob.{ReplayJob}
 use Rattle.dsu_report.specs.declared.fault.FaultLine.{FaultLine}
 use Rattle.dsu_report.specs.declared.fault.FaultLine.TheVariants.{Unread, Memory}
@@ -13,8 +13,8 @@ use Rattle.dsu_report.specs.Statuses.{status_of_line}
 use Rattle.dsu_runs.specs.Setups.{setup_of}
 use Rattle.input_files.specs.Files.{Exceeds, IsShort}
 use Rattle.input_files.specs.Journals.{HoldsEvents, IsNoJournal, journal_limit}
-use Rattle.input_files.specs.Sources.{HoldsProgram}
-use Rattle.dsu_commands.specs.Answers.{Answers, IsExcused, did, short, stopped}
+use Rattle.input_files.specs.Sources.{HoldsProgram, IsSource}
+use Rattle.dsu_commands.specs.Answers.{Answers, EffectsFailed, EffectsShown, IsDone, IsExcused, did, short, stopped}
 use Rattle.dsu_commands.specs.Calls.{Call, Stopped, Writes}
 use Rattle.dsu_commands.specs.Jobs.{Contents, FileStops, IsJournalFault, IsKnownProgram, IsProgramFault, KnownJournalFault, KnownProgramFault, ProgramStops}
 use Rattle.dsu_commands.specs.Plans.{ByJournal}
@@ -127,3 +127,21 @@ journal_stops job content counted count call program line file same s (inr wrong
       subst (λ f. IsJournalFault (content f) counted count line) same wrong,
       subst (λ f. Stopped line f call) same s,
     ))
+
+-- ---- the effects of a text
+
+-- what came of printing them
+abbrev pub PrintsEffects : Program → List ℕ → Call → Type 0
+PrintsEffects program text call = EffectsShown program text call ⊎ EffectsFailed program text call ⊎ Stopped Memory [] call
+
+pub effects_answers : (file : List ℕ) (content : Contents) (counted count : ℕ) (call : Call) (text : List ℕ) (program : Program)
+    → IsSource (content file) text program → PrintsEffects program text call → Answers (Effects file) content counted count call
+effects_answers file content counted count call text program source (inl shown) = did (text, program, source, inl shown)
+effects_answers file content counted count call text program source (inr (inl failed)) = did (text, program, source, inr failed)
+effects_answers file content counted count call text program source (inr (inr s)) = short s
+
+pub effects_done : (call : Call) (text : List ℕ) (program : Program) → PrintsEffects program text call
+    → IsDone call.status ⊎ IsExcused call.status
+effects_done call text program (inl shown) = let is = shown.status in inl (omega (arith, is))
+effects_done call text program (inr (inl failed)) = inr (inr (inl failed.status))
+effects_done call text program (inr (inr s)) = inr (inr (inr s.status))

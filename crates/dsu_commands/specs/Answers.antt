@@ -9,7 +9,8 @@ use Rattle.dsu_report.specs.declared.fault.FaultLine.{FaultLine}
 use Rattle.dsu_report.specs.declared.fault.FaultLine.TheVariants.{Write, Memory}
 use Rattle.dsu_report.specs.Faults.{fault_line}
 use Rattle.dsu_runs.specs.Setups.{setup_of}
-use Rattle.input_files.specs.Sources.{HoldsProgram}
+use Rattle.effects_report.specs.EffectsText.{IsEffectsText}
+use Rattle.input_files.specs.Sources.{HoldsProgram, IsSource}
 use Rattle.input_files.specs.Journals.{HoldsEvents}
 use Rattle.dsu_commands.specs.Calls.{Call, Shows, ShowsPrefix, Stopped, Untouched, Writes}
 use Rattle.dsu_commands.specs.Plans.{BySchedule, ByJournal}
@@ -33,6 +34,26 @@ pub record CheckFailed (names : ℕ) (call : Call) : Type 0 where
   pub out : ShowsPrefix call.out (names_line names)
   pub err : Writes call.err (fault_line Write [])
 
+-- a text of a program's effects was printed
+pub record EffectsShown (program : Program) (text : List ℕ) (call : Call) : Type 0 where
+  pub status : call.status ≡ 0
+  pub history : call.history ≡ []
+  pub ending : call.ending ≡ None
+  pub printed : List ℕ
+  pub is_text : IsEffectsText program text printed
+  pub out : Shows call.out printed
+  pub err : Untouched call.err
+
+-- it couldn't be printed whole
+pub record EffectsFailed (program : Program) (text : List ℕ) (call : Call) : Type 0 where
+  pub status : call.status ≡ 13
+  pub history : call.history ≡ []
+  pub ending : call.ending ≡ None
+  pub printed : List ℕ
+  pub is_text : IsEffectsText program text printed
+  pub out : ShowsPrefix call.out printed
+  pub err : Writes call.err (fault_line Write [])
+
 -- what a job came to whose files have no fault
 abbrev pub Does : Job → Contents → Call → Type 0
 Does (Run job) content call =
@@ -45,7 +66,9 @@ Does (Replay job) content call =
 Does (Check file) content call =
     (program : Program) × HoldsProgram (content file) program
     × (Checked (names_of program.definitions) call ⊎ CheckFailed (names_of program.definitions) call)
-Does (Effects file) content call = ⊥
+Does (Effects file) content call =
+    (text : List ℕ) × (program : Program) × IsSource (content file) text program
+    × (EffectsShown program text call ⊎ EffectsFailed program text call)
 Does (Changes old new) content call = ⊥
 Does (Gen seed size) content call = ⊥
 

@@ -33,7 +33,7 @@ abbrev pub is_built : Job → Bool
 is_built (Run job) = has_none job.offers && is_none job.workers
 is_built (Replay job) = has_none job.offers
 is_built (Check file) = true
-is_built (Effects file) = false
+is_built (Effects file) = true
 is_built (Changes old new) = false
 is_built (Gen seed size) = false
 
@@ -63,7 +63,7 @@ FileStops (Replay job) content counted count line file =
     ⊎ ((program : Program) × HoldsProgram (content job.file) program
     × (file ≡ job.journal) × IsJournalFault (content job.journal) counted count line)
 FileStops (Check named) content counted count line file = ProgramStops named content counted count line file
-FileStops (Effects named) content counted count line file = ⊥
+FileStops (Effects named) content counted count line file = ProgramStops named content counted count line file
 FileStops (Changes old new) content counted count line file = ⊥
 FileStops (Gen seed size) content counted count line file = ⊥
 
@@ -91,7 +91,7 @@ IsReady (Replay job) content =
     × (lines : List (ℕ × Event)) × IsKnownJournal (content job.journal) lines
     × ((rules : Rules) → IsLegal rules (setup_of program job.objects) (events_of lines))
 IsReady (Check file) content = (program : Program) × IsKnownProgram (content file) program
-IsReady (Effects file) content = ⊥
+IsReady (Effects file) content = (program : Program) × IsKnownProgram (content file) program
 IsReady (Changes old new) content = ⊥
 IsReady (Gen seed size) content = ⊥
 
@@ -115,6 +115,6 @@ IsKnownFault (Replay job) content line file =
     ⊎ ((program : Program) × IsKnownProgram (content job.file) program
     × (file ≡ job.journal) × KnownJournalFault (content job.journal) line)
 IsKnownFault (Check named) content line file = (file ≡ named) × KnownProgramFault (content named) line
-IsKnownFault (Effects named) content line file = ⊥
+IsKnownFault (Effects named) content line file = (file ≡ named) × KnownProgramFault (content named) line
 IsKnownFault (Changes old new) content line file = ⊥
 IsKnownFault (Gen seed size) content line file = ⊥

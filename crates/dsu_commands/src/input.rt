@@ -4,7 +4,7 @@ ghost use Rattle.c_tree.specs.declared.def.Program.{Program};
 ghost use Rattle.dsu_report.specs.declared.fault.FaultLine.{FaultLine as Line};
 ghost use Rattle.input_files.specs.Files.{IsShort};
 ghost use Rattle.input_files.specs.Journals.{HoldsEvents};
-ghost use Rattle.input_files.specs.Sources.{HoldsProgram};
+ghost use Rattle.input_files.specs.Sources.{HoldsProgram, IsSource};
 ghost use Rattle.dsu_commands.specs.Jobs.{IsJournalFault, IsKnownJournal, IsKnownProgram, IsProgramFault, KnownJournalFault, KnownProgramFault};
 
 use bytecode::Event;
@@ -13,6 +13,28 @@ use dsu_io::Files;
 use dsu_report::FaultLine;
 use input_files::{Source, journal_of, source_of};
 use std::alloc::Global;
+
+/// The text of a file and its program.
+pub(crate) fn source_in<F: Files>(
+    alloc: Global,
+    files: &mut F,
+    file: &str,
+) -> Result<Source, FaultLine>
+    ensures read { IfOk result (λ source. IsSource (F.content files.old file.now) source.text.items source.typed) }
+    ensures fault { IfErr result (λ line. (line ≡ FaultLine.Memory)
+        ⊎ IsProgramFault (F.content files.old file.now) (F.faults files.old) (F.faults files.new) line) }
+    ensures same { (other : List ℕ) → F.content files.new other ≡ F.content files.old other }
+    ensures later { F.faults files.old ≤ F.faults files.new }
+    ensures complete { (program : Program) → IsKnownProgram (F.content files.old file.now) program
+        → MatchResult result (λ source. source.typed ≡ program) IsShort }
+    ensures first { (line : Line) → KnownProgramFault (F.content files.old file.now) line
+        → IsErrOf result line ⊎ IsErrOf result FaultLine.Unread ⊎ IsErrOf result FaultLine.Memory }
+{
+    match source_of(alloc, files, file) {
+        Ok(source) => Ok(source),
+        Err(line) => Err(line),
+    }
+}
 
 /// The program of a file.
 pub(crate) fn program_of<F: Files>(
@@ -30,7 +52,7 @@ pub(crate) fn program_of<F: Files>(
     ensures first { (line : Line) → KnownProgramFault (F.content files.old file.now) line
         → IsErrOf result line ⊎ IsErrOf result FaultLine.Unread ⊎ IsErrOf result FaultLine.Memory }
 {
-    match source_of(alloc, files, file) {
+    match source_in(alloc, files, file) {
         Ok(Source { typed, .. }) => Ok(typed),
         Err(line) => Err(line),
     }

@@ -1,15 +1,17 @@
 //! What each command does, over files and outputs that are handed in.
 //!
-//! [`run_file`] runs the program of a file by the solo schedule, [`replay_file`] makes the events of a journal, and
-//! [`check_file`] counts the names of a text. Each hands back an [`Outcome`], and its contract says what the call came to
-//! in one word of `specs/Answers.antt`: it was done, a file of it has a fault, or memory ran out; with what standard output
-//! and standard error have in each case. Two further clauses say when it must be done, and when a fault must be reported.
+//! [`run_file`] runs the program of a file by the solo schedule, [`replay_file`] makes the events of a journal,
+//! [`check_file`] counts the names of a text, and [`effects_file`] prints its effects. Each hands back an [`Outcome`], and
+//! its contract says what the call came to in one word of `specs/Answers.antt`: it was done, a file of it has a fault, or
+//! memory ran out; with what standard output and standard error have in each case. Two further clauses say when it must be
+//! done, and when a fault must be reported.
 //!
 //! Read in this order: `outcome` (what a call hands back), `stopped` (calls that come to nothing), `input` (the files of a
-//! job), `report` (what is printed), `finish` (a run at its end), `run`, `replay`, `check`.
+//! job), `report` (what is printed), `finish` (a run at its end), `run`, `replay`, `check`, `effects_job`.
 #![tactic(auto)]
 
 mod check;
+mod effects_job;
 mod finish;
 mod input;
 mod outcome;
@@ -19,6 +21,7 @@ mod run;
 mod stopped;
 
 pub use check::check_file;
+pub use effects_job::effects_file;
 pub use outcome::Outcome;
 pub use replay::replay_file;
 pub use run::run_file;

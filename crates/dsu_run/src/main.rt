@@ -1,4 +1,4 @@
-//! Ginseng: checks C programs, runs them with their threads, and repeats runs from their journals.
+//! Ginseng: checks C programs, prints their effects, runs them with their threads, and repeats runs from their journals.
 //!
 //! `dsu_main` does all that the program does, over files and outputs that are handed in; its contract is what the program
 //! promises. `main` makes the words, the files of the file system and the standard streams, calls it on a thread with a

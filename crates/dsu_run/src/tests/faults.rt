@@ -1,6 +1,6 @@
 //! Files and outputs that fail.
 
-use super::texts::SIGNS;
+use super::texts::{CALLS, CALLS_EFFECTS, SIGNS};
 use super::{Failing, QUIET, Seen, call};
 use std::alloc::{AllocError, Global};
 use std::test::Fail;
@@ -51,6 +51,28 @@ fn each_report_may_fail(rt: HostRuntime) -> Result<(), Fail> {
     for reports in &REPORTS {
         let seen = run(rt.alloc(), Failing { reports, ..QUIET })?;
         assert!(rt; stops_at_its_report(&seen, &whole));
+    }
+    Ok(())
+}
+
+/// Some of the calls by which the effects of a text are printed.
+static EFFECTS: [[u64; 1]; 3] = [[1], [2], [40]];
+
+/// Whether a prefix of the effects was printed, and the fault reported.
+fn stops_at_its_effects(seen: &Seen) -> bool {
+    let out = seen.outcome.out.bytes();
+    seen.outcome.status == 13
+        && out.len() < CALLS_EFFECTS.len()
+        && CALLS_EFFECTS.as_bytes().starts_with(out)
+        && seen.err.bytes() == b"write fault\n".as_slice()
+}
+
+#[test]
+fn the_print_of_effects_may_fail(rt: HostRuntime) -> Result<(), Fail> {
+    for prints in &EFFECTS {
+        let failing = Failing { prints, ..QUIET };
+        let seen = call(rt.alloc(), "effects x.c", CALLS.as_bytes(), b"", failing)?;
+        assert!(rt; stops_at_its_effects(&seen));
     }
     Ok(())
 }

@@ -1,7 +1,8 @@
 //! Command lines, what they print, and their statuses.
 
 use super::texts::{
-    COUNT, DEADLOCK, DEPTH, INDEX, LITERALS, LOCKS, LOOP, MANY, OBJECTS, OVERFLOW, SIGNS, SUM,
+    CALLS, CALLS_EFFECTS, COUNT, DEADLOCK, DEPTH, INDEX, LITERALS, LOCKS, LOOP, MANY, OBJECTS,
+    OVERFLOW, SIGNS, SUM,
 };
 use super::{Failing, QUIET, call};
 use bytecode::{Ending, Event, TrapKind};
@@ -164,7 +165,7 @@ static REPLAYS: [Row; 9] = [
 ];
 
 /// Faults of the program, which come before those of the journal.
-static FAULTS: [Row; 9] = [
+static FAULTS: [Row; 11] = [
     ("run x.c", "", "", 11, "", "x.c:1:1: no main\n"),
     (
         "run x.c",
@@ -209,6 +210,15 @@ static FAULTS: [Row; 9] = [
         "x.c:1:52: wrong number of arguments\n",
     ),
     ("check y.c", SUM, "", 12, "", "y.c: read fault\n"),
+    (
+        "effects x.c",
+        "int main(void) { return x; }",
+        "",
+        11,
+        "",
+        "x.c:1:25: unknown name\n",
+    ),
+    ("effects y.c", SUM, "", 12, "", "y.c: read fault\n"),
 ];
 
 /// Texts without a fault.
@@ -221,6 +231,19 @@ static CHECKS: [Row; 3] = [
         "",
         0,
         "ok 6 names\n",
+        "",
+    ),
+];
+
+/// Texts and their effects.
+static EFFECTS: [Row; 2] = [
+    ("effects x.c", CALLS, "", 0, CALLS_EFFECTS, ""),
+    (
+        "effects x.c",
+        SUM,
+        "",
+        0,
+        "function main:\n  1:5 entry prior: future: concrete:\n",
         "",
     ),
 ];
@@ -239,7 +262,7 @@ static UNFIT: [&str; 14] = [
     "replay x.c",
     "replay x.c x.j --offer x.c@1",
     "check --journal x.c",
-    "effects x.c",
+    "changes x.c x.c",
     "gen 7 1",
 ];
 
@@ -276,6 +299,12 @@ fn faults_are_reported(rt: HostRuntime) -> Result<(), Fail> {
 #[test]
 fn names_are_counted(rt: HostRuntime) -> Result<(), Fail> {
     assert_eq!(rt; wrong_row(rt.alloc(), &CHECKS)?, None);
+    Ok(())
+}
+
+#[test]
+fn effects_are_printed(rt: HostRuntime) -> Result<(), Fail> {
+    assert_eq!(rt; wrong_row(rt.alloc(), &EFFECTS)?, None);
     Ok(())
 }
 

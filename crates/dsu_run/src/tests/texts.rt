@@ -71,6 +71,38 @@ int main(void) {
 }
 "#;
 
+/// Main calls each function in a transaction.
+pub(super) const CALLS: &str = r#"int h(void) { return 0; }
+int g(void) { return 1; }
+int f(void) { return g(); }
+int main(void) {
+  dsu_tx {
+    printf("start\n");
+    h();
+    printf("%d\n", g());
+    printf("%d\n", f());
+  }
+  return 0;
+}
+"#;
+
+/// The effects of `CALLS`.
+pub(super) const CALLS_EFFECTS: &str = r"function h:
+  1:5 entry prior: h future: f g concrete: f g
+function g:
+  2:5 entry prior: f g h future: f g concrete: f
+function f: g
+  3:5 entry prior: f g h future: g concrete: g
+  3:22 call prior: f g h future: concrete:
+function main: f g h
+  4:5 entry prior: future: f g h concrete: f g h
+  5:3 begin prior: future: f g h concrete: f g h
+  7:5 call prior: h future: f g concrete: f g
+  8:20 call prior: g h future: f g concrete: f
+  9:20 call prior: f g h future: concrete:
+  10:3 end prior: future: concrete:
+";
+
 /// Two threads print in transactions, and main waits for both.
 pub(super) const TRANSACTIONS: &str = r#"mtx_t m;
 int total;

@@ -12,11 +12,6 @@ returns-in-Ok-Replay-clause-first g c = λ asked line file is fault.
     (subst {A = Asked} (λ j. IsKnownFault j (g.F.Files.content c.args.files.now) line file)
     (same_Some asked job.field-0 (sym is ∙ job.ensures.job) ∙ job.field-0-is) fault)
 
-pub returns-in-Ok-Effects-clause-answers : goal.returns-in-Ok-Effects-clause-answers
-returns-in-Ok-Effects-clause-answers g c = λ asked is.
-    let job = c.in-Ok-Effects in
-    absurd (never_unbuilt c.args.words.now job.field-0 job.ensures.job (ap is_built job.field-0-is))
-
 pub returns-in-Ok-Changes-clause-answers : goal.returns-in-Ok-Changes-clause-answers
 returns-in-Ok-Changes-clause-answers g c = λ asked is.
     let job = c.in-Ok-Changes in

@@ -1,5 +1,5 @@
 use Rattle.dsu_commands.proofs.Reading.{IsAnswered, answers, by_program_fault, is_answered, long_source, long_text, no_answer}
-use Rattle.dsu_commands.proofs.input.program_of.Goals as goal
+use Rattle.dsu_commands.proofs.input.source_in.Goals as goal
 
 pub returns-in-Ok-clause-complete : goal.returns-in-Ok-clause-complete
 returns-in-Ok-clause-complete g c = λ program known.
@@ -9,14 +9,14 @@ pub returns-in-Ok-clause-first : goal.returns-in-Ok-clause-first
 returns-in-Ok-clause-first g c = λ line fault.
     absurd (by_program_fault (λ l. ⊥) _ line fault
     (λ text is more. long_source _ text _ _ is more c.in-Ok.ensures.read)
-    (λ text what at is fits wrong. no_answer c.in-Ok.field-0 _ (c.in-Ok.ensures.first text what at is fits wrong)))
+    (λ text what at is fits wrong. no_answer c.in-Ok.source _ (c.in-Ok.ensures.first text what at is fits wrong)))
 
-pub returns-clause-complete : goal.returns-clause-complete
-returns-clause-complete g c = λ program known.
+pub returns-in-Err-clause-complete : goal.returns-in-Err-clause-complete
+returns-in-Err-clause-complete g c = λ program known.
     c.in-Err.ensures.complete known.text program known.known known.fits known.accepted
 
-pub returns-clause-first : goal.returns-clause-first
-returns-clause-first g c = λ line fault.
+pub returns-in-Err-clause-first : goal.returns-in-Err-clause-first
+returns-in-Err-clause-first g c = λ line fault.
     answers line c.in-Err.line (by_program_fault (λ l. IsAnswered l c.in-Err.line) _ line fault
     (λ text is more. long_text _ text _ is more c.in-Err.ensures.others)
     (λ text what at is fits wrong. is_answered _ c.in-Err.line (c.in-Err.ensures.first text what at is fits wrong)))
