@@ -58,6 +58,58 @@ function main: b g m p struct s
   10:10 call prior: future: concrete:
 ";
 
+/// A function that calls itself, in a transaction and outside of one; two that call each other; and one that is never called.
+const CYCLES: &str = "int x;
+int y;
+int even(int n);
+int odd(int n) {
+  if (n == 0) return 0;
+  return even(n - 1);
+}
+int even(int n) {
+  x = n;
+  if (n == 0) return 1;
+  return odd(n - 1);
+}
+int alone(void) { y = 1; return 0; }
+int down(int n) {
+  if (n) {
+    dsu_update();
+    down(n - 1);
+  }
+  return 0;
+}
+int main(void) {
+  down(2);
+  dsu_tx {
+    down(1);
+    even(3);
+  }
+  return 0;
+}
+";
+
+const CYCLES_EFFECTS: &str = "function odd: even odd x
+  4:5 entry prior: down even odd x future: even odd x concrete: even
+  6:10 call prior: down even odd x future: concrete:
+function even: even odd x
+  8:5 entry prior: down even odd x future: even odd x concrete: odd x
+  11:10 call prior: down even odd x future: concrete:
+function alone: y
+  13:5 entry prior: future: y concrete: y
+function down: down
+  14:5 entry prior: down future: down even odd x concrete: down even
+  16:5 update prior: down future: down even odd x concrete: down even
+  17:5 call prior: down future: down even odd x concrete: down even
+function main: down even odd x
+  21:5 entry prior: future: down even odd x concrete: down even
+  22:3 call prior: future: down even odd x concrete: down even
+  23:3 begin prior: future: down even odd x concrete: down even
+  24:5 call prior: down future: even odd x concrete: even
+  25:5 call prior: down even odd x future: concrete:
+  26:3 end prior: future: concrete:
+";
+
 /// What is written for a text, over a sink whose calls with these numbers fail, and how the call ended.
 fn written(
     alloc: Global,
@@ -86,6 +138,14 @@ fn names_of_each_kind(rt: HostRuntime) -> Result<(), Fail> {
     let (sink, ended) = written(rt.alloc(), NAMES, &[])?;
     assert!(rt; ended.is_ok());
     assert!(rt; sink.bytes() == NAMES_EFFECTS.as_bytes());
+    Ok(())
+}
+
+#[test]
+fn functions_that_call_each_other(rt: HostRuntime) -> Result<(), Fail> {
+    let (sink, ended) = written(rt.alloc(), CYCLES, &[])?;
+    assert!(rt; ended.is_ok());
+    assert!(rt; sink.bytes() == CYCLES_EFFECTS.as_bytes());
     Ok(())
 }
 
