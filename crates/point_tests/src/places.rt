@@ -1,5 +1,5 @@
 //! The places of the text's `main`, counted by hand.
-use crate::reading::{Ask, ask};
+use crate::reading::{Ask, examine};
 use c_tree::Function;
 use point_places::places_of;
 use resolved_tree::{NodeId, Trees};
@@ -33,7 +33,7 @@ impl Ask for ArePlaces {
 #[test]
 fn each_point_is_where_the_text_has_it(rt: HostRuntime) -> Result<(), Fail> {
     let mut found = ArePlaces(false);
-    ask(rt.alloc(), &mut found)?;
+    examine(rt.alloc(), &mut found)?;
     assert!(rt; found.0);
     Ok(())
 }

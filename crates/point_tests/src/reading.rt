@@ -24,7 +24,7 @@ pub(crate) trait Ask {
 }
 
 /// Asks of the `main` of the text.
-pub(crate) fn ask<A: Ask>(alloc: Global, asked: &mut A) -> Result<(), Fail> {
+pub(crate) fn examine<A: Ask>(alloc: Global, asked: &mut A) -> Result<(), Fail> {
     let Ok(typed) = read_text(alloc, TEXT.as_bytes()) else {
         return Err(Fail::new("the text has a fault"));
     };

@@ -1,5 +1,5 @@
 //! The skeleton of the text's `main`, drawn by hand.
-use crate::reading::{Ask, ask};
+use crate::reading::{Ask, examine};
 use c_tree::Function;
 use name_sets::{NameId, Names};
 use resolved_tree::{NodeId, Trees};
@@ -116,7 +116,7 @@ fn a_text_has_the_skeleton_that_is_drawn_by_hand(rt: HostRuntime) -> Result<(), 
         ids: (g, f),
         is_drawn: false,
     };
-    ask(rt.alloc(), &mut found)?;
+    examine(rt.alloc(), &mut found)?;
     let is_drawn = found.is_drawn;
     assert!(rt; is_drawn);
     Ok(())
@@ -155,7 +155,7 @@ fn a_name_that_the_table_lacks_is_unknown(rt: HostRuntime) -> Result<(), Fail> {
         names: &names,
         is_unknown: false,
     };
-    ask(rt.alloc(), &mut found)?;
+    examine(rt.alloc(), &mut found)?;
     let is_unknown = found.is_unknown;
     assert!(rt; is_unknown);
     Ok(())
