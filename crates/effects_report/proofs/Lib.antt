@@ -6,3 +6,4 @@ pub mod SetTexts
 pub mod Added
 pub mod Outcomes
 pub mod Assembled
+pub mod LineLookup

@@ -3,15 +3,16 @@
 //!
 //! [`write_effects`] promises that what it writes is a text of the effects as `specs/EffectsText.antt` has it, by the
 //! definitions of effects in the crate `effects` over the store of the one text: all of it, or a prefix of it where the sink
-//! failed, and nothing when out of memory. All sets are computed before the first byte is written, and writing takes no
-//! memory.
+//! failed, and nothing when out of memory. All sets, and where the lines of the text begin, are computed before the first byte
+//! is written, and writing takes no memory.
 //!
 //! Read in this order: `report` (what is written), `table` (names, in the order of their bytes), `spots` (the check-ins of a
-//! body, in the order of their places), `bodies` (the functions of a program), `sets` (effects by place), `names` (sets of names), `write` (lines),
-//! `output` (the whole).
+//! body, in the order of their places), `bodies` (the functions of a program), `sets` (effects by place), `names` (sets of
+//! names), `lines` (places by line and column), `write` (lines), `output` (the whole).
 #![tactic(auto)]
 
 mod bodies;
+mod lines;
 mod names;
 mod output;
 mod report;

@@ -9,6 +9,7 @@ ghost use Rattle.effects_report.specs.Shown.{block_of, IsReady};
 ghost use Rattle.effects_report.specs.Writing.{Writes};
 
 use crate::bodies::bodies_of;
+use crate::lines::Lines;
 use crate::report::{Bodies, Report};
 use crate::table::names_of;
 use crate::write::put_sections;
@@ -41,28 +42,37 @@ pub fn write_effects<S: Sink>(
     ensures failed { IsErrOf result ReportFault.Failed → Rose (S.faults sink.old) (S.faults sink.new) }
     ensures memory { IsErrOf result ReportFault.Memory → sink.new ≡ sink.old }
 {
-    let Ok(report) = report_of(alloc, typed.program(), text.len()) else {
+    let Ok(report) = report_of(alloc, typed.program(), text) else {
         return Err(ReportFault::Memory);
     };
     let sections = report.sections.as_slice();
-    match put_sections(text, &report.names, &report.effects, sections, sink) {
+    match put_sections(
+        &report.lines,
+        &report.names,
+        &report.effects,
+        sections,
+        sink,
+    ) {
         Ok(()) => Ok(()),
         Err(_) => Err(ReportFault::Failed),
     }
 }
 
-/// What is written of a program with a text of `size` bytes.
-fn report_of(alloc: Global, program: &Program, size: usize) -> Result<Report, AllocError>
-    ensures blocks { let text = text_of program.now in
-        IfOk result (λ report. AreBlocksFrom (store (text ∷ [])) (definition text.definitions) 0
+/// What is written of a program with the bytes of its text.
+fn report_of<'a>(alloc: Global, program: &Program, text: &'a [u8]) -> Result<Report<'a>, AllocError>
+    ensures blocks { let read = text_of program.now in
+        IfOk result (λ report. AreBlocksFrom (store (read ∷ [])) (definition read.definitions) 0
         (functions program.now) (map (block_of report.names report.effects) report.sections.items)) }
-    ensures ready { IfOk result (λ report. All (IsReady report.names size) report.sections.items) }
+    ensures ready { IfOk result (λ report. All (IsReady report.names (length text.now)) report.sections.items) }
+    ensures text { IfOk result (λ report. report.lines.text.now ≡ text.now) }
 {
     let names = names_of(alloc, program.definitions.as_slice())?;
-    let bodies = bodies_of(alloc, program, &names, size)?;
+    let bodies = bodies_of(alloc, program, &names, text.len())?;
     let effects = solve(alloc, &bodies.flow)?;
+    let lines = Lines::of(alloc, text)?;
     let Bodies { flow: _, sections } = bodies;
     Ok(Report {
+        lines,
         names,
         effects,
         sections,

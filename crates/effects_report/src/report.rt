@@ -1,4 +1,5 @@
 //! What is written: the functions and their check-ins.
+use crate::lines::Lines;
 use contextual_effects::Effects;
 use effect_flow::Flow;
 use name_sets::{NameId, Names};
@@ -39,7 +40,8 @@ pub(crate) struct Bodies {
 
 /// All that is written.
 #[derive(Drop)]
-pub(crate) struct Report {
+pub(crate) struct Report<'a> {
+    pub lines: Lines<'a>,
     pub names: Names,
     pub effects: Effects,
     pub sections: Vec<Section>,

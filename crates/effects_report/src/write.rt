@@ -10,12 +10,12 @@ ghost use Rattle.skeletons.specs.Meaning.{check_in_of};
 ghost use Rattle.effects_report.specs.EffectsText.{kind_word, head_text, row_text, line_text, title_text, block_text, blocks_text};
 ghost use Rattle.effects_report.specs.Shown.{IsWithin, IsReady, names_in, row_at, line_of, block_of};
 
+use crate::lines::Lines;
 use crate::names::{put_set, text_at};
 use crate::report::{Section, Spot};
 use crate::sets::{concrete_at, future_at, prior_at, standard_at};
 use contextual_effects::Effects;
 use dsu_io::{Failed, Sink, put, put_all};
-use dsu_report::place_of;
 use itoa::Buffer;
 use name_sets::{NameId, Names};
 use skeletons::CheckInKind;
@@ -34,18 +34,18 @@ fn kind_word(kind: CheckInKind) -> &'static [u8]
 }
 
 /// Writes the line, the column and the kind of a check-in.
-fn put_head<S: Sink>(text: &[u8], spot: Spot, sink: &mut S) -> Result<(), Failed>
-    requires { IsWithin (length text.now) spot }
+fn put_head<S: Sink>(lines: &Lines, spot: Spot, sink: &mut S) -> Result<(), Failed>
+    requires { IsWithin (length lines.now.text.now) spot }
     ensures bytes { PutAppends (S.told sink.old) (S.told sink.new) result
-        (codes "  " ++ decimal (line_at text.now spot.at) ++ codes ":" ++ decimal (column_at text.now spot.at)
+        (codes "  " ++ decimal (line_at lines.now.text.now spot.at) ++ codes ":" ++ decimal (column_at lines.now.text.now spot.at)
         ++ codes " " ++ kind_word (check_in_of spot.kind)) }
     ensures cause { HasCause (S.faults sink.old) (S.faults sink.new) result }
 {
-    let place = place_of(text, spot.at);
-    let mut lines = Buffer::new();
-    let mut columns = Buffer::new();
-    let line = lines.format(place.line).as_bytes();
-    let column = columns.format(place.column).as_bytes();
+    let place = lines.place(spot.at);
+    let mut line_digits = Buffer::new();
+    let mut column_digits = Buffer::new();
+    let line = line_digits.format(place.line).as_bytes();
+    let column = column_digits.format(place.column).as_bytes();
     put_all(
         sink,
         &[b"  ", line, b":", column, b" ", kind_word(spot.kind)],
@@ -66,36 +66,36 @@ fn put_row<S: Sink>(names: &Names, effects: &Effects, at: usize, sink: &mut S) -
 
 /// Writes the line of a check-in.
 fn put_line<S: Sink>(
-    text: &[u8],
+    lines: &Lines,
     names: &Names,
     effects: &Effects,
     spot: Spot,
     sink: &mut S,
 ) -> Result<(), Failed>
-    requires { IsWithin (length text.now) spot }
+    requires { IsWithin (length lines.now.text.now) spot }
     ensures bytes { PutAppends (S.told sink.old) (S.told sink.new) result
-        (line_text text.now (line_of names.now effects.now spot)) }
+        (line_text lines.now.text.now (line_of names.now effects.now spot)) }
     ensures cause { HasCause (S.faults sink.old) (S.faults sink.new) result }
 {
-    put_head(text, spot, sink)?;
+    put_head(lines, spot, sink)?;
     put_row(names, effects, spot.point, sink)
 }
 
 /// Writes the lines of check-ins.
 fn put_lines<S: Sink>(
-    text: &[u8],
+    lines: &Lines,
     names: &Names,
     effects: &Effects,
     spots: &[Spot],
     sink: &mut S,
 ) -> Result<(), Failed>
-    requires { All (IsWithin (length text.now)) spots.now }
+    requires { All (IsWithin (length lines.now.text.now)) spots.now }
     ensures bytes { PutAppends (S.told sink.old) (S.told sink.new) result
-        (flat_map (line_text text.now) (map (line_of names.now effects.now) spots.now)) }
+        (flat_map (line_text lines.now.text.now) (map (line_of names.now effects.now) spots.now)) }
     ensures cause { HasCause (S.faults sink.old) (S.faults sink.new) result }
 {
     for spot in spots {
-        match put_line(text, names, effects, *spot, sink) {
+        match put_line(lines, names, effects, *spot, sink) {
             Ok(()) => {}
             Err(failed) => return Err(failed),
         }
@@ -132,36 +132,36 @@ fn put_text<S: Sink>(names: &Names, name: NameId, sink: &mut S) -> Result<(), Fa
 
 /// Writes the lines of a function.
 fn put_section<S: Sink>(
-    text: &[u8],
+    lines: &Lines,
     names: &Names,
     effects: &Effects,
     section: &Section,
     sink: &mut S,
 ) -> Result<(), Failed>
-    requires { IsReady names.now (length text.now) section.now }
+    requires { IsReady names.now (length lines.now.text.now) section.now }
     ensures bytes { PutAppends (S.told sink.old) (S.told sink.new) result
-        (block_text text.now (block_of names.now effects.now section.now)) }
+        (block_text lines.now.text.now (block_of names.now effects.now section.now)) }
     ensures cause { HasCause (S.faults sink.old) (S.faults sink.new) result }
 {
     put_title(names, effects, section.function, sink)?;
-    put_lines(text, names, effects, section.spots.as_slice(), sink)
+    put_lines(lines, names, effects, section.spots.as_slice(), sink)
 }
 
 /// Writes the lines of functions.
 pub(crate) fn put_sections<S: Sink>(
-    text: &[u8],
+    lines: &Lines,
     names: &Names,
     effects: &Effects,
     sections: &[Section],
     sink: &mut S,
 ) -> Result<(), Failed>
-    requires { All (IsReady names.now (length text.now)) sections.now }
+    requires { All (IsReady names.now (length lines.now.text.now)) sections.now }
     ensures bytes { PutAppends (S.told sink.old) (S.told sink.new) result
-        (blocks_text text.now (map (block_of names.now effects.now) sections.now)) }
+        (blocks_text lines.now.text.now (map (block_of names.now effects.now) sections.now)) }
     ensures cause { HasCause (S.faults sink.old) (S.faults sink.new) result }
 {
     for section in sections {
-        match put_section(text, names, effects, section, sink) {
+        match put_section(lines, names, effects, section, sink) {
             Ok(()) => {}
             Err(failed) => return Err(failed),
         }

@@ -1,3 +1,4 @@
+use Rattle.std.proofs.Common.{length}
 use Rattle.c_semantics.specs.SourceTexts.{text_of}
 use Rattle.c_semantics.specs.Texts.{definition}
 use Rattle.effects_report.specs.EffectsText.{functions}
@@ -7,11 +8,11 @@ use Rattle.effects_report.proofs.output.report_of.Goals as goal
 pub returns-clause-blocks : goal.returns-clause-blocks
 returns-clause-blocks c =
     let bodies = c.in_ok-bodies.bodies in
-    report_is c.args.program.now c.in_ok-names.names c.args.size bodies.flow bodies.sections.items c.in_ok-effects.effects
+    report_is c.args.program.now c.in_ok-names.names (length c.args.text.now) bodies.flow bodies.sections.items c.in_ok-effects.effects
     c.in_ok-names.ensures c.in_ok-bodies.ensures c.in_ok-effects.ensures.effects
 
 pub returns-clause-ready : goal.returns-clause-ready
 returns-clause-ready c =
     let bodies = c.in_ok-bodies.bodies in
-    report_ready c.in_ok-names.names (definition (text_of c.args.program.now).definitions) c.args.size (functions c.args.program.now)
+    report_ready c.in_ok-names.names (definition (text_of c.args.program.now).definitions) (length c.args.text.now) (functions c.args.program.now)
     bodies.sections.items 0 c.in_ok-bodies.ensures.sections

@@ -10,11 +10,11 @@ returns-in_err-put_head-clause-bytes g c =
     let sets = c.args.effects.now in
     let p' = err_from_is_err_and c.from_residual.result c.from_residual.ensures.1 in
     put_failed _ _ _ _ p'.0 p'.1
-    (front_more _ _ (head_text c.args.text.now (line_of names sets c.args.spot)) (row_text (row_at names sets c.args.spot.point)) c.in_err-put_head.ensures.bytes)
+    (front_more _ _ (head_text c.args.lines.now.text.now (line_of names sets c.args.spot)) (row_text (row_at names sets c.args.spot.point)) c.in_err-put_head.ensures.bytes)
 
 pub returns-clause-bytes : goal.returns-clause-bytes
 returns-clause-bytes g c =
     let names = c.args.names.now in
     let sets = c.args.effects.now in
-    then_put _ _ _ (head_text c.args.text.now (line_of names sets c.args.spot)) (row_text (row_at names sets c.args.spot.point)) _
+    then_put _ _ _ (head_text c.args.lines.now.text.now (line_of names sets c.args.spot)) (row_text (row_at names sets c.args.spot.point)) _
     c.in_ok-put_head.ensures.bytes c.put_row.ensures.bytes

@@ -10,4 +10,4 @@ abbrev pub invariant-loop-spot : goal.invariant-loop-spot
 invariant-loop-spot g l =
     (g.S.Sink.faults l.initial.sink ≤ g.S.Sink.faults l.sink)
     × Appends (g.S.Sink.told l.initial.sink) (g.S.Sink.told l.sink)
-    (flat_map (line_text l.text) (take l.spot-index (map (line_of l.names l.effects) l.spots)))
+    (flat_map (line_text l.lines.text.now) (take l.spot-index (map (line_of l.names l.effects) l.spots)))

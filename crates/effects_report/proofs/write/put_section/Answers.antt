@@ -18,7 +18,7 @@ returns-in_err-put_title-clause-bytes g c =
     let p' = err_from_is_err_and c.from_residual.result c.from_residual.ensures.1 in
     put_failed _ _ _ _ p'.0 p'.1
     (front_more _ _ (title_text (text_of names section.function) (names_in names (slice_index sets.standard section.function)))
-    (flat_map (line_text c.args.text.now) (map (line_of names sets) section.spots.items)) c.in_err-put_title.ensures.bytes)
+    (flat_map (line_text c.args.lines.now.text.now) (map (line_of names sets) section.spots.items)) c.in_err-put_title.ensures.bytes)
 
 pub returns-clause-bytes : goal.returns-clause-bytes
 returns-clause-bytes g c =
@@ -26,7 +26,7 @@ returns-clause-bytes g c =
     let sets = c.args.effects.now in
     let section = c.args.section.now in
     then_put _ _ _ (title_text (text_of names section.function) (names_in names (slice_index sets.standard section.function)))
-    (flat_map (line_text c.args.text.now) (map (line_of names sets) section.spots.items)) _
+    (flat_map (line_text c.args.lines.now.text.now) (map (line_of names sets) section.spots.items)) _
     c.in_ok-put_title.ensures.bytes
     (subst {A = List Spot} (λ spots. PutAppends (g.S.Sink.told c.put_title.new.sink) (g.S.Sink.told c.put_lines.new.sink) c.put_lines.result
-    (flat_map (line_text c.args.text.now) (map (line_of names sets) spots))) c.as_slice.ensures.value c.put_lines.ensures.bytes)
+    (flat_map (line_text c.args.lines.now.text.now) (map (line_of names sets) spots))) c.as_slice.ensures.value c.put_lines.ensures.bytes)

@@ -10,4 +10,4 @@ abbrev pub invariant-loop-section : goal.invariant-loop-section
 invariant-loop-section g l =
     (g.S.Sink.faults l.initial.sink ≤ g.S.Sink.faults l.sink)
     × Appends (g.S.Sink.told l.initial.sink) (g.S.Sink.told l.sink)
-    (flat_map (block_text l.text) (take l.section-index (map (block_of l.names l.effects) l.sections)))
+    (flat_map (block_text l.lines.text.now) (take l.section-index (map (block_of l.names l.effects) l.sections)))
