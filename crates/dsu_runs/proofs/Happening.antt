@@ -17,7 +17,7 @@ use Rattle.dsu_runs.proofs.Seats.{after_check_in, after_move, check_ins}
 
 -- some rules: what is asked of events without offers is the same by all
 abbrev pub any_rules : Rules
-any_rules = record { row = λ bodies mark. empty_row; wrong = λ text patch. None }
+any_rules = record { row = λ bodies mark. empty_row }
 
 none_of : {A : Type 0} (a : A) → None ≡ Some a → ⊥
 none_of a e = none-some a e

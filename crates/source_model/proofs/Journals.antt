@@ -1,5 +1,5 @@
 -- Small runs with their events, by the solo schedule and by hand.
-use Rattle.std.proofs.Common.{◌≡◌, ℕ, zero, suc, Bool, true, false, List, [], ◌∷◌, Option, Some, None, refl, pos}
+use Rattle.std.proofs.Common.{◌≡◌, ℕ, zero, suc, ◌+◌, Bool, true, false, List, [], ◌∷◌, Option, Some, None, refl, pos}
 use Rattle.std.specs.Prelude.{codes, option_map, map, filter_map, length, replicate, ◌++◌, ◌==◌, if◌then◌else◌}
 use Rattle.std.specs.List.{range_with_len}
 use Rattle.std.specs.Option.{option_and_then, option_or, is_some}
@@ -8,7 +8,12 @@ use Rattle.bytecode.specs.declared.run.Event.{Event}
 use Rattle.bytecode.specs.declared.run.Event.TheVariants.{Move, CheckIn, Offer, Decide, Withdraw}
 use Rattle.bytecode.specs.declared.run.Ending.{Ending}
 use Rattle.bytecode.specs.declared.run.Ending.TheVariants.{Finished, Deadlock, Cut}
+use Rattle.c_ints.specs.declared.kind.Kind.TheVariants.{I32}
+use Rattle.c_ints.specs.Number.{number}
 use Rattle.c_tree.specs.BareDef.{BareDef, Mutex}
+use Rattle.c_tree.specs.declared.expr.Expr.{roll-Expr}
+use Rattle.c_tree.specs.declared.expr.ExprNode.TheVariants.{Number}
+use Rattle.c_tree.specs.declared.def.DefKind.TheVariants.{TransformGlobal}
 use Rattle.con_freeness.specs.declared.refusal.Effect.TheVariants as effect
 use Rattle.con_freeness.specs.Verdicts.{Effect, Concrete, Both, Pinned}
 use Rattle.con_freeness.specs.Rows.{Names, Row, empty_row}
@@ -30,9 +35,9 @@ use Rattle.source_model.proofs.Texts.{text_with, counting, locking, calling, cal
 use Rattle.source_model.proofs.CornerTexts.{joining_itself, nothing_else, stepping, stepping_2, leaving, calling_3}
 use Rattle.source_model.proofs.ServerText.{serving, serving_2}
 
--- each mark has the same row, and each transformer fits
+-- each mark has the same row
 abbrev all_with : Row → Rules
-all_with row = record { row = λ bodies mark. row; wrong = λ p q. None }
+all_with row = record { row = λ bodies mark. row }
 
 -- each patch is admitted, and nothing is pinned
 abbrev admitting : Rules
@@ -384,10 +389,18 @@ no_way_back = refl
 in_turn : slots_after 16 (Some 13) ≡ 14 ∷ 15 ∷ 0 ∷ 1 ∷ 2 ∷ 3 ∷ 4 ∷ 5 ∷ 6 ∷ 7 ∷ 8 ∷ 9 ∷ 10 ∷ 11 ∷ 12 ∷ 13 ∷ []
 in_turn = refl
 
+-- a text with `dsu_transform g = 0;` at a place, where g is a function
+abbrev transforming : Option ℕ → Text → Text
+transforming None q = q
+transforming (Some place) q =
+    let zero = roll-Expr (record { place = place + 18; node = Number (number I32 (pos 0)) }) in
+    let transformer = TransformGlobal (record { place = place + 14; text = codes "g" }) zero in
+    record q { tree = record { definitions = record { place = place; kind = transformer } ∷ []; end = place + 20 } }
+
 -- the causes for which a text isn't a patch: the earlier one is reported
 abbrev no_patch_for : ℕ → Option ℕ → Text → Option NotPatch
 no_patch_for versions place q =
-    let texts = replicate versions (text calling) in not_patch (λ p q. place) (store texts) texts q
+    let texts = replicate versions (text calling) in not_patch (store texts) texts (transforming place q)
 
 abbrev cause : ℕ → Option ℕ → List BareDef → ℕ → Option NotPatch
 cause versions place second tokens =

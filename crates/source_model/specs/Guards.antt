@@ -1,5 +1,5 @@
 -- What is kept beside the source machine while its moves, check-ins and offers are made, and what each of these changes.
--- The row of a mark is a parameter here, and so is whether a transformer fits.
+-- The row of a mark is a parameter here.
 use Rattle.std.specs.Prelude.{ℕ, zero, suc, ◌-◌, ◌==◌, nat_lt, nat_le, Bool, true, false, ◌&&◌, ◌||◌, List, [], ◌∷◌, ◌++◌, map, length, replicate, count_by, slice_get, slice_index_or, slice_set, Option, Some, None, option_map, codes, if◌then◌else◌}
 use Rattle.std.specs.Option.{is_some, is_none, option_map_or}
 use Rattle.c_tree.specs.BareExpr.{Bytes}
@@ -53,11 +53,9 @@ pub record Setup : Type 0 where
   pub offers : List Offer
   pub limits : Limits
 
--- what is given from elsewhere: the row of a mark over the bodies of the versions so far, and the place of the first
--- transformer of a text that doesn't fit, where the text follows some definitions
+-- what is given from elsewhere: the row of a mark over the bodies of the versions so far
 pub record Rules : Type 0 where
   pub row : List Body → Mark → Row
-  pub wrong : List BareDef → Text → Option ℕ
 
 -- a slot without a live thread
 abbrev pub empty_seat : Seat
@@ -249,4 +247,4 @@ decided rules g k p q None =
 abbrev pub decide : Rules → Guard → ℕ → Option Offer → Option Guard
 decide rules g k None = None
 decide rules g k (Some o) =
-    decided rules g k (last_definitions g.versions) o.text (not_patch rules.wrong (bodies_of g) g.versions o.text)
+    decided rules g k (last_definitions g.versions) o.text (not_patch (bodies_of g) g.versions o.text)

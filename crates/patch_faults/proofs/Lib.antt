@@ -1,0 +1,5 @@
+mod LeastPlaces
+mod ValuesOfTypes
+mod FoundValues
+mod Examples
+mod ExampleSorts

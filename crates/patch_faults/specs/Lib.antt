@@ -1,0 +1,4 @@
+pub mod Sorts
+pub mod TransformTypes
+pub mod TransformFaults
+pub mod TransformLaws
