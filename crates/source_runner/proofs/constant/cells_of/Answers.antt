@@ -1,4 +1,4 @@
-use Rattle.std.proofs.Common.{◌≡◌, ◌-◌, ◌++◌, map, take, replicate, length, Some, option_map, unwrap_or, [], arith}
+use Rattle.std.proofs.Common.{◌≡◌, ◌-◌, ◌++◌, map, take, replicate, length, Some, option_map, unwrap_or, [], sym, arith}
 use Rattle.std.proofs.lemmas.Grind.{common_steps}
 use Rattle.c_tree.specs.Bare.{bare_expr, bare_type}
 use Rattle.c_semantics.specs.Constants.{initial, elements}
@@ -15,4 +15,4 @@ returns c =
     let n = elements array.length.value in
     let all : map seen cells ≡ vs = grind (arith, common_steps) in
     let is : c.resize.new.self.items ≡ take n cells ++ replicate (n - length cells) c.zero.result = grind (arith, common_steps, c.loop-e.cells.ok.0, c.in_ok-resize.ensures.items) in
-    filled_cells type n cells c.resize.new.self.items vs c.zero.result c.zero.ensures all is
+    filled_cells type n cells c.resize.new.self.items vs c.zero.result (c.zero.ensures.of_type type (sym c.kind_of.ensures)) all is
