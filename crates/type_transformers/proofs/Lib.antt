@@ -1,0 +1,14 @@
+mod ByKind
+mod Changing
+mod Defined
+mod FieldChanges
+mod Finding
+mod GlobalChanges
+mod Items
+mod Limits
+mod Outcomes
+mod Placing
+mod SameTypes
+mod SeenCells
+mod Together
+mod Transforming

@@ -1,0 +1,9 @@
+pub mod Hows
+pub mod Cells
+pub mod Places
+pub mod Old
+pub mod Fields
+pub mod Globals
+pub mod Newer
+pub mod Changes
+pub mod Made
