@@ -6,14 +6,13 @@ use Rattle.std.proofs.lemmas.Option.{same_Some, slice_get-get_or}
 use Rattle.std.proofs.lemmas.Bool.Decides.{Decides-eqb}
 use Rattle.std.proofs.lemmas.List.Elements.{All-head, All-tail, Contains-push, Contains-push_cases, Contains-append_left, Contains-append_right, Contains-append_cases}
 use Rattle.name_sets.specs.Texts.{IsTable, text_of}
-use Rattle.bytecode.specs.Skeleton.{Point, direct_use}
+use Rattle.bytecode.specs.Skeleton.{direct_use}
 use Rattle.skeletons.specs.Meaning.{used_at, point_of}
 use Rattle.skeletons.specs.declared.point.Point.{Point as CodePoint}
 use Rattle.c_tree.specs.BareExpr.{Bytes}
-use Rattle.c_semantics.specs.Store.{Body}
 use Rattle.effect_flow.proofs.PointKinds.{used_name}
 use Rattle.code_store.specs.declared.body.StoredBody.{StoredBody}
-use Rattle.code_store.specs.Stored.{meant_body, IsNamed, IsStoreOf}
+use Rattle.code_store.specs.Stored.{meant_body, IsNamed}
 use Rattle.code_store.specs.Uses.{used_ids, ids_used_if, ids_used_by}
 use Rattle.code_store.specs.StoreLaws.{IsUsedAmong, UsesDirectly, UsesAreDirect}
 use Rattle.code_store.proofs.UsedIds.{ids_if_of}

@@ -1,3 +1,4 @@
 pub mod UsedIds
 pub mod StoredBodies
 pub mod DirectUses
+pub mod Room

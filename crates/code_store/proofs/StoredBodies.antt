@@ -1,24 +1,22 @@
 -- The bodies of a store, with one more, and in a larger table.
-use Rattle.std.proofs.Common.{◌≡◌, ℕ, ◌+◌, ◌<◌, ◌≤◌, List, [], ◌∷◌, ◌++◌, All, map, length, Option, Some, None, take, get_or, refl, sym, ap, ◌∙◌, subst, arith}
-use Rattle.std.specs.Prelude.{IfSome, count_by}
-use Rattle.std.proofs.lemmas.List.{append-nil, map_push, map_more, length-append, get_or_append_left}
-use Rattle.std.proofs.lemmas.List.Elements.{All-nil, All-cons, All-head, All-tail, All-push, All-weaker}
+use Rattle.std.proofs.Common.{◌≡◌, ℕ, ◌+◌, ◌<◌, ◌≤◌, List, [], ◌∷◌, ◌++◌, All, map, length, Option, Some, None, refl, sym, ap, ◌∙◌, arith}
+use Rattle.std.specs.Prelude.{IfSome}
+use Rattle.std.proofs.lemmas.List.{map_push, length-append, get_or_append_left}
+use Rattle.std.proofs.lemmas.List.Elements.{All-nil, All-head, All-tail, All-push, All-weaker}
 use Rattle.std.proofs.lemmas.List.Sums.{sum_by_push}
 use Rattle.name_sets.specs.Texts.{IsTable, text_of}
-use Rattle.bytecode.specs.Skeleton.{Skeleton}
 use Rattle.skeletons.specs.Meaning.{used_at, point_of, meant}
 use Rattle.skeletons.specs.declared.point.Point.{Point}
 use Rattle.c_tree.specs.BareExpr.{Bytes}
-use Rattle.c_semantics.specs.Skeletons.{check_ins, is_check_in_kind}
+use Rattle.c_semantics.specs.Skeletons.{check_ins}
 use Rattle.c_semantics.specs.Store.{Body, all_check_ins, all_tokens}
-use Rattle.effect_flow.specs.Flows.{spot_of, AreNamed, body_of}
 use Rattle.effect_flow.proofs.Ids.{spot_kept}
 use Rattle.code_store.specs.declared.body.StoredBody.{StoredBody}
 use Rattle.code_store.specs.Limits.{most_check_ins, most_function_tokens}
 use Rattle.code_store.specs.Stored.{meant_body, IsNamed, IsNewTo, AreDistinct, IsStoreOf, AddsStored, HasCounts}
 
 -- a body whose function has no other of its generation
-distinct_push : (bs : List StoredBody) (b : StoredBody) → AreDistinct bs → IsNewTo bs b.function b.generation → AreDistinct (bs ++ b ∷ [])
+pub distinct_push : (bs : List StoredBody) (b : StoredBody) → AreDistinct bs → IsNewTo bs b.function b.generation → AreDistinct (bs ++ b ∷ [])
 distinct_push [] b d new = (All-nil (λ a. ¬ ((a.function ≡ b.function) × (a.generation ≡ b.generation))), tt)
 distinct_push (a ∷ bs) b d new =
     let Other : StoredBody → StoredBody → Type 0 = λ b a. ¬ ((a.function ≡ b.function) × (a.generation ≡ b.generation)) in

@@ -1,12 +1,12 @@
 //! The store.
-ghost use Rattle.std.specs.Prelude.{◌≡◌, ℕ, ◌+◌, ◌<◌, ◌≤◌, ◌↔◌, ◌⊎◌, List, [], ◌∷◌, ◌++◌, map, Contains, IsErrOf, IfOk, OnOk, OnErr};
+ghost use Rattle.std.specs.Prelude.{◌≡◌, ℕ, ◌+◌, ◌<◌, ◌≤◌, ◌↔◌, ◌⊎◌, not, List, [], ◌∷◌, ◌++◌, map, Contains, IsErrOf, IfOk, OnOk, OnErr};
 ghost use Rattle.name_sets.specs.Texts.{IsTable};
 ghost use Rattle.name_sets.specs.IdSet.{Holds};
 ghost use Rattle.skeletons.specs.Meaning.{meant};
 ghost use Rattle.c_semantics.specs.Skeletons.{check_ins};
 ghost use Rattle.c_semantics.specs.Store.{Body, all_check_ins, all_tokens};
 ghost use Rattle.effect_flow.specs.Flows.{IsFlowOf};
-ghost use Rattle.code_store.specs.Limits.{most_check_ins, most_function_tokens};
+ghost use Rattle.code_store.specs.Limits.{most_check_ins, most_function_tokens, are_too_many};
 ghost use Rattle.code_store.specs.Stored.{meant_body, IsNewTo, IsStoreOf, AddsStored};
 ghost use Rattle.code_store.specs.Uses.{ids_used_by};
 
@@ -93,6 +93,25 @@ impl Store {
         self.check_ins += check_ins;
         self.tokens += tokens;
         Ok(())
+    }
+
+    /// Whether there is room for some bodies beside those that are there, within both limits.
+    pub fn has_room(&self, bodies: &[StoredBody]) -> bool
+        ensures { (names : List (List ℕ)) → result
+            ≡ not (are_too_many (map (meant_body names) self.now ++ map (meant_body names) bodies.now)) }
+    {
+        let mut check_ins = self.check_ins;
+        let mut tokens = self.tokens;
+        for body in bodies {
+            let more = check_ins_among(&body.skeleton.points);
+            let more_tokens = body.tokens as usize;
+            if more > MOST_CHECK_INS - check_ins || more_tokens > MOST_FUNCTION_TOKENS - tokens {
+                return false;
+            }
+            check_ins += more;
+            tokens += more_tokens;
+        }
+        true
     }
 
     /// The bodies, in the order in which they were added.

@@ -1,7 +1,6 @@
-use Rattle.std.proofs.Common.{◌≡◌, ◌+◌, [], ◌∷◌, ◌++◌, take, sym, ap, subst, ◌∙◌, arith}
+use Rattle.std.proofs.Common.{◌+◌, [], ◌∷◌, ◌++◌, take, sym, ap, subst, ◌∙◌, arith}
 use Rattle.std.specs.List.{cons_option}
 use Rattle.std.proofs.lemmas.List.{take_all}
-use Rattle.skeletons.specs.Meaning.{used_at}
 use Rattle.code_store.specs.Uses.{used_ids}
 use Rattle.code_store.proofs.UsedIds.{GrownBy, grown_by_none, grown_by_one, grown_by_both, used_ids_more}
 use Rattle.code_store.proofs.body.add_uses.Goals as goal

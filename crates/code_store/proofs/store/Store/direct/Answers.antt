@@ -1,7 +1,7 @@
-use Rattle.std.proofs.Common.{◌≡◌, ◌+◌, List, ℕ, [], ◌++◌, take, sym, ap, subst, ◌∙◌, arith}
+use Rattle.std.proofs.Common.{◌≡◌, ◌+◌, [], ◌++◌, take, sym, ap, subst, ◌∙◌, arith}
 use Rattle.std.proofs.lemmas.List.{take_all}
 use Rattle.code_store.specs.Uses.{used_ids, ids_used_if, ids_used_by}
-use Rattle.code_store.proofs.UsedIds.{GrownBy, IsSetOf, grown_by_none, set_of_none, set_of_both, ids_used_by_more, ids_if_of, ids_if_other}
+use Rattle.code_store.proofs.UsedIds.{GrownBy, IsSetOf, grown_by_none, set_of_both, ids_used_by_more, ids_if_of, ids_if_other}
 use Rattle.code_store.proofs.store.Store.direct.Goals as goal
 use Rattle.code_store.proofs.store.Store.direct.Goals.{then-index, else-index}
 

@@ -1,0 +1,4 @@
+pub mod NamesUsed
+pub mod Once
+pub mod Defined
+pub mod NewBodies

@@ -1,0 +1,4 @@
+pub mod Faults
+pub mod Sets
+pub mod Tables
+pub mod Versions
