@@ -4,19 +4,19 @@ use Rattle.bytecode.specs.declared.run.Event.{Event}
 use Rattle.c_tree.specs.declared.def.Program.{Program}
 use Rattle.dsu_io.specs.Causes.{Rose}
 use Rattle.dsu_cli.specs.declared.job.Job.{Job}
-use Rattle.dsu_cli.specs.declared.job.Job.TheVariants.{Effects, Replay}
+use Rattle.dsu_cli.specs.declared.job.Job.TheVariants.{Changes, Effects, Replay}
 use Rattle.dsu_cli.specs.declared.job.ReplayJob.{ReplayJob}
 use Rattle.dsu_report.specs.declared.fault.FaultLine.{FaultLine}
-use Rattle.dsu_report.specs.declared.fault.FaultLine.TheVariants.{Unread, Memory}
+use Rattle.dsu_report.specs.declared.fault.FaultLine.TheVariants.{Unread, TooLong, Memory}
 use Rattle.dsu_report.specs.Faults.{fault_line}
 use Rattle.dsu_report.specs.Statuses.{status_of_line}
 use Rattle.dsu_runs.specs.Setups.{setup_of}
 use Rattle.input_files.specs.Files.{Exceeds, IsShort}
 use Rattle.input_files.specs.Journals.{HoldsEvents, IsNoJournal, journal_limit}
-use Rattle.input_files.specs.Sources.{HoldsProgram, IsSource}
-use Rattle.dsu_commands.specs.Answers.{Answers, EffectsFailed, EffectsShown, IsDone, IsExcused, did, short, stopped}
+use Rattle.input_files.specs.Sources.{HoldsProgram, IsFirstOf, IsSource, text_limit}
+use Rattle.dsu_commands.specs.Answers.{Answers, ChangesFailed, ChangesShown, EffectsFailed, EffectsShown, IsDone, IsExcused, did, short, stopped}
 use Rattle.dsu_commands.specs.Calls.{Call, Stopped, Writes}
-use Rattle.dsu_commands.specs.Jobs.{Contents, FileStops, IsJournalFault, IsKnownProgram, IsProgramFault, KnownJournalFault, KnownProgramFault, ProgramStops}
+use Rattle.dsu_commands.specs.Jobs.{Contents, FileStops, IsJournalFault, IsKnownProgram, IsProgramFault, KnownProgramFault, ProgramStops}
 use Rattle.dsu_commands.specs.Plans.{ByJournal}
 use Rattle.dsu_commands.specs.Runs.{Came}
 use Rattle.dsu_commands.proofs.Reading.{IsAnswered}
@@ -71,16 +71,17 @@ module _ (content : Contents) (line : FaultLine) (file named : List ℕ) (same :
       subst (λ f. IsExcused call.status ⊎ Stopped known f call) (same ∙ sym is)
       (first_stopped call line known file s (first known (subst (λ f. KnownProgramFault (content f) known) (sym same) fault)))
 
-  -- the same where the fault may be one of the journal, which is read later
-  pub first_of_two : (other : List ℕ) (call : Call) → Stopped line file call
+  -- the same where the fault may be one of a file that is read later
+  pub first_of_two : (Later : FaultLine → Type 0) (other : List ℕ) (call : Call) → Stopped line file call
       → ((program : Program) → IsKnownProgram (content file) program → IsShort line)
       → ((known : FaultLine) → KnownProgramFault (content file) known → IsAnswered known line)
       → (known : FaultLine) (at : List ℕ)
       → ((at ≡ named) × KnownProgramFault (content named) known)
-      ⊎ ((program : Program) × IsKnownProgram (content named) program × (at ≡ other) × KnownJournalFault (content other) known)
+      ⊎ ((program : Program) × IsKnownProgram (content named) program × (at ≡ other) × Later known)
       → IsExcused call.status ⊎ Stopped known at call
-  first_of_two other call s complete first known at (inl (is, fault)) = program_first call s first known at is fault
-  first_of_two other call s complete first known at (inr (program, is_known, is, fault)) = inl (program_excused call s complete program is_known)
+  first_of_two Later other call s complete first known at (inl (is, fault)) = program_first call s first known at is fault
+  first_of_two Later other call s complete first known at (inr (program, is_known, is, fault)) =
+      inl (program_excused call s complete program is_known)
 
 pub or_else : {A B C : Type 0} → A ⊎ B → A ⊎ (B ⊎ C)
 or_else (inl a) = inl a
@@ -91,12 +92,15 @@ or_else (inr b) = inr (inl b)
 earlier : (counted at count : ℕ) → counted ≤ at → Rose at count → Rose counted count
 earlier counted at count later rose = omega (arith, later, rose)
 
-fault_since : (content mid : Option (List ℕ)) (counted at count : ℕ) (line : FaultLine) → mid ≡ content → counted ≤ at
-    → IsJournalFault mid at count line → IsJournalFault content counted count line
-fault_since content mid counted at count line same later (inl (is, rose)) = inl (is, earlier counted at count later rose)
-fault_since content mid counted at count line same later (inr (inl (is, exceeds))) =
-    inr (inl (is, subst (Exceeds journal_limit) same exceeds))
-fault_since content mid counted at count line same later (inr (inr wrong)) = inr (inr (subst (λ c. IsNoJournal c line) same wrong))
+-- a fault of a file that was read after another
+fault_since : (limit : ℕ) (Wrong : Option (List ℕ) → FaultLine → Type 0) (content mid : Option (List ℕ)) (counted at count : ℕ) (line : FaultLine)
+    → mid ≡ content → counted ≤ at
+    → ((line ≡ Unread) × Rose at count) ⊎ ((line ≡ TooLong) × Exceeds limit mid) ⊎ Wrong mid line
+    → ((line ≡ Unread) × Rose counted count) ⊎ ((line ≡ TooLong) × Exceeds limit content) ⊎ Wrong content line
+fault_since limit Wrong content mid counted at count line same later (inl (is, rose)) = inl (is, earlier counted at count later rose)
+fault_since limit Wrong content mid counted at count line same later (inr (inl (is, exceeds))) =
+    inr (inl (is, subst (Exceeds limit) same exceeds))
+fault_since limit Wrong content mid counted at count line same later (inr (inr wrong)) = inr (inr (subst (λ c. Wrong c line) same wrong))
 
 -- what came of a journal's file and its events
 abbrev pub Replays : Contents → ℕ → ℕ → Program → ReplayJob → Call → Type 0
@@ -114,7 +118,12 @@ replay_answers job content mid counted at count call program holds same later (i
 replay_answers job content mid counted at count call program holds same later (inr (inl s)) = short s
 replay_answers job content mid counted at count call program holds same later (inr (inr (line, wrong, s))) =
     stopped line job.journal
-    (inr (program, holds, refl, fault_since (content job.journal) (mid job.journal) counted at count line (same job.journal) later wrong)) s
+    (inr (
+      program,
+      holds,
+      refl,
+      fault_since journal_limit IsNoJournal (content job.journal) (mid job.journal) counted at count line (same job.journal) later wrong,
+    )) s
 
 -- a journal isn't read. The name of its file was taken from the job
 pub journal_stops : (job : ReplayJob) (content : Contents) (counted count : ℕ) (call : Call) (program : Program) (line : FaultLine)
@@ -145,3 +154,45 @@ pub effects_done : (call : Call) (text : List ℕ) (program : Program) → Print
 effects_done call text program (inl shown) = let is = shown.status in inl (omega (arith, is))
 effects_done call text program (inr (inl failed)) = inr (inr (inl failed.status))
 effects_done call text program (inr (inr s)) = inr (inr (inr s.status))
+
+-- ---- what changes between two texts
+
+-- what came of printing it
+abbrev pub PrintsChanges : Program → Program → List ℕ → Call → Type 0
+PrintsChanges program next text call = ChangesShown program next text call ⊎ ChangesFailed program next text call ⊎ Stopped Memory [] call
+
+-- what came of the newer text
+abbrev pub Follows : Contents → ℕ → ℕ → Program → List ℕ → Call → Type 0
+Follows content counted count program new call =
+    ((text : List ℕ) × (next : Program) × IsSource (content new) text next
+    × (ChangesShown program next text call ⊎ ChangesFailed program next text call))
+    ⊎ Stopped Memory [] call
+    ⊎ ((line : FaultLine) × IsProgramFault (content new) counted count line × Stopped line new call)
+
+pub changes_follow : (content : Contents) (counted count : ℕ) (program : Program) (new : List ℕ) (call : Call) (text : List ℕ) (next : Program)
+    → IsSource (content new) text next → PrintsChanges program next text call → Follows content counted count program new call
+changes_follow content counted count program new call text next source (inl shown) = inl (text, next, source, inl shown)
+changes_follow content counted count program new call text next source (inr (inl failed)) = inl (text, next, source, inr failed)
+changes_follow content counted count program new call text next source (inr (inr s)) = inr (inl s)
+
+pub newer_stops : (content : Contents) (counted count : ℕ) (program : Program) (new : List ℕ) (call : Call) (line : FaultLine)
+    → Stopped line new call → (line ≡ Memory) ⊎ IsProgramFault (content new) counted count line
+    → Follows content counted count program new call
+newer_stops content counted count program new call line s (inl is) = inr (inl (out_of_memory line new call is s))
+newer_stops content counted count program new call line s (inr wrong) = inr (inr (line, wrong, s))
+
+pub changes_answers : (old new : List ℕ) (content mid : Contents) (counted at count : ℕ) (call : Call) (program : Program)
+    → HoldsProgram (content old) program → ((other : List ℕ) → mid other ≡ content other) → counted ≤ at
+    → Follows mid at count program new call → Answers (Changes old new) content counted count call
+changes_answers old new content mid counted at count call program holds same later (inl (text, next, source, printed)) =
+    did (program, holds, text, next, subst (λ c. IsSource c text next) (same new) source, printed)
+changes_answers old new content mid counted at count call program holds same later (inr (inl s)) = short s
+changes_answers old new content mid counted at count call program holds same later (inr (inr (line, wrong, s))) =
+    stopped line new
+    (inr (program, holds, (refl, fault_since text_limit IsFirstOf (content new) (mid new) counted at count line (same new) later wrong))) s
+
+pub changes_done : (call : Call) (program next : Program) (text : List ℕ) → PrintsChanges program next text call
+    → IsDone call.status ⊎ IsExcused call.status
+changes_done call program next text (inl shown) = let is = shown.status in inl (omega (arith, is))
+changes_done call program next text (inr (inl failed)) = inr (inr (inl failed.status))
+changes_done call program next text (inr (inr s)) = inr (inr (inr s.status))

@@ -10,6 +10,7 @@ use Rattle.dsu_report.specs.declared.fault.FaultLine.TheVariants.{Write, Memory}
 use Rattle.dsu_report.specs.Faults.{fault_line}
 use Rattle.dsu_runs.specs.Setups.{setup_of}
 use Rattle.effects_report.specs.EffectsText.{IsEffectsText}
+use Rattle.changes_report.specs.ChangesText.{changes_text}
 use Rattle.input_files.specs.Sources.{HoldsProgram, IsSource}
 use Rattle.input_files.specs.Journals.{HoldsEvents}
 use Rattle.dsu_commands.specs.Calls.{Call, Shows, ShowsPrefix, Stopped, Untouched, Writes}
@@ -54,6 +55,22 @@ pub record EffectsFailed (program : Program) (text : List ℕ) (call : Call) : T
   pub out : ShowsPrefix call.out printed
   pub err : Writes call.err (fault_line Write [])
 
+-- the text of what changes from one program to another was printed, for the text of the newer one
+pub record ChangesShown (program next : Program) (text : List ℕ) (call : Call) : Type 0 where
+  pub status : call.status ≡ 0
+  pub history : call.history ≡ []
+  pub ending : call.ending ≡ None
+  pub out : Shows call.out (changes_text program.definitions next.definitions text)
+  pub err : Untouched call.err
+
+-- it couldn't be printed whole
+pub record ChangesFailed (program next : Program) (text : List ℕ) (call : Call) : Type 0 where
+  pub status : call.status ≡ 13
+  pub history : call.history ≡ []
+  pub ending : call.ending ≡ None
+  pub out : ShowsPrefix call.out (changes_text program.definitions next.definitions text)
+  pub err : Writes call.err (fault_line Write [])
+
 -- what a job came to whose files have no fault
 abbrev pub Does : Job → Contents → Call → Type 0
 Does (Run job) content call =
@@ -69,7 +86,10 @@ Does (Check file) content call =
 Does (Effects file) content call =
     (text : List ℕ) × (program : Program) × IsSource (content file) text program
     × (EffectsShown program text call ⊎ EffectsFailed program text call)
-Does (Changes old new) content call = ⊥
+Does (Changes old new) content call =
+    (program : Program) × HoldsProgram (content old) program
+    × (text : List ℕ) × (next : Program) × IsSource (content new) text next
+    × (ChangesShown program next text call ⊎ ChangesFailed program next text call)
 Does (Gen seed size) content call = ⊥
 
 -- what a job came to: it was done as far as outputs, journal and memory let it, a file of it has a fault, or memory ran

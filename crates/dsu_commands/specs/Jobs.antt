@@ -34,7 +34,7 @@ is_built (Run job) = has_none job.offers && is_none job.workers
 is_built (Replay job) = has_none job.offers
 is_built (Check file) = true
 is_built (Effects file) = true
-is_built (Changes old new) = false
+is_built (Changes old new) = true
 is_built (Gen seed size) = false
 
 -- ---- the first fault of the files
@@ -55,7 +55,7 @@ IsJournalFault content counted count line =
 abbrev pub ProgramStops : List ℕ → Contents → ℕ → ℕ → FaultLine → List ℕ → Type 0
 ProgramStops named content counted count line file = (file ≡ named) × IsProgramFault (content named) counted count line
 
--- the first file of a job with a fault, and that fault; a journal is read after its program
+-- the first file of a job with a fault, and that fault; a journal is read after its program, a newer text after the older one
 abbrev pub FileStops : Job → Contents → ℕ → ℕ → FaultLine → List ℕ → Type 0
 FileStops (Run job) content counted count line file = ProgramStops job.file content counted count line file
 FileStops (Replay job) content counted count line file =
@@ -64,7 +64,9 @@ FileStops (Replay job) content counted count line file =
     × (file ≡ job.journal) × IsJournalFault (content job.journal) counted count line)
 FileStops (Check named) content counted count line file = ProgramStops named content counted count line file
 FileStops (Effects named) content counted count line file = ProgramStops named content counted count line file
-FileStops (Changes old new) content counted count line file = ⊥
+FileStops (Changes old new) content counted count line file =
+    ProgramStops old content counted count line file
+    ⊎ ((program : Program) × HoldsProgram (content old) program × ProgramStops new content counted count line file)
 FileStops (Gen seed size) content counted count line file = ⊥
 
 -- ---- files whose contents are known
@@ -92,7 +94,8 @@ IsReady (Replay job) content =
     × ((rules : Rules) → IsLegal rules (setup_of program job.objects) (events_of lines))
 IsReady (Check file) content = (program : Program) × IsKnownProgram (content file) program
 IsReady (Effects file) content = (program : Program) × IsKnownProgram (content file) program
-IsReady (Changes old new) content = ⊥
+IsReady (Changes old new) content =
+    ((program : Program) × IsKnownProgram (content old) program) × ((next : Program) × IsKnownProgram (content new) next)
 IsReady (Gen seed size) content = ⊥
 
 -- a known text is too long for a program, or it has this first fault
@@ -116,5 +119,7 @@ IsKnownFault (Replay job) content line file =
     × (file ≡ job.journal) × KnownJournalFault (content job.journal) line)
 IsKnownFault (Check named) content line file = (file ≡ named) × KnownProgramFault (content named) line
 IsKnownFault (Effects named) content line file = (file ≡ named) × KnownProgramFault (content named) line
-IsKnownFault (Changes old new) content line file = ⊥
+IsKnownFault (Changes old new) content line file =
+    ((file ≡ old) × KnownProgramFault (content old) line)
+    ⊎ ((program : Program) × IsKnownProgram (content old) program × (file ≡ new) × KnownProgramFault (content new) line)
 IsKnownFault (Gen seed size) content line file = ⊥

@@ -9,8 +9,8 @@ use crate::input::source_in;
 use crate::outcome::Outcome;
 use crate::stopped::{stop, stop_after};
 use dsu_io::{Files, Sink};
-use dsu_report::FaultLine;
-use effects_report::{ReportFault, write_effects};
+use dsu_report::{FaultLine, ReportFault};
+use effects_report::write_effects;
 use input_files::Source;
 use std::alloc::Global;
 

@@ -35,6 +35,15 @@ pub enum FaultLine {
     Memory,
 }
 
+/// Why a text that a command prints wasn't written whole.
+#[derive(Clone, Copy, Debug, PartialEq, Eq)]
+pub enum ReportFault {
+    /// The sink failed.
+    Failed,
+    /// Out of memory.
+    Memory,
+}
+
 /// The words of a fault of the types.
 fn words_for_kind(kind: TypeKind) -> &'static str
     ensures { result.now ≡ kind_word kind }

@@ -19,7 +19,7 @@ mod wait;
 mod write;
 
 pub use ending::{trap_word, write_ending};
-pub use fault::{FaultLine, LineWord};
+pub use fault::{FaultLine, LineWord, ReportFault};
 pub use place::{Place, place_of};
 pub use status::ending_status;
 pub use wait::{write_mutex_wait, write_thread_wait};

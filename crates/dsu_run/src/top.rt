@@ -9,14 +9,15 @@ ghost use Rattle.dsu_run.specs.Words.{asked};
 
 use crate::words::job_in;
 use dsu_cli::Job;
-use dsu_commands::{Outcome, check_file, effects_file, replay_file, run_file, stop};
+use dsu_commands::{Outcome, changes_files, check_file, effects_file, replay_file, run_file, stop};
 use dsu_io::{Files, Sink, Text};
 use dsu_report::FaultLine;
 use std::alloc::Global;
 
 /// Does what the words of a command line ask for; they are those after the program's name. `run FILE` runs the program of
 /// the file, `replay FILE JOURNAL` makes the events of the journal, and both print on `out` and report on `err`;
-/// `check FILE` prints on `out` how many names the text has, `effects FILE` what its threads may use.
+/// `check FILE` prints on `out` how many names the text has, `effects FILE` what its threads may use, and `changes OLD NEW`
+/// what changes from one text to another.
 ///
 /// What `out` holds at the end is given back with it. `dsu_commands` has the words of the clauses, in
 /// `specs/Answers.antt`.
@@ -52,8 +53,10 @@ pub fn dsu_main<F: Files, O: Sink, E: Sink>(
         Ok(Job::Replay(job)) => replay_file(alloc, &job, files, out, err),
         Ok(Job::Check(file)) => check_file(alloc, file.as_str(), files, out, err),
         Ok(Job::Effects(file)) => effects_file(alloc, file.as_str(), files, out, err),
-        // None of these is built, so no words ask for them.
-        Ok(Job::Changes(_, _)) => stop(alloc, FaultLine::Usage, "", out, err),
+        Ok(Job::Changes(old, new)) => {
+            changes_files(alloc, old.as_str(), new.as_str(), files, out, err)
+        }
+        // It isn't built, so no words ask for it.
         Ok(Job::Gen(_, _)) => stop(alloc, FaultLine::Usage, "", out, err),
         Err(fault) => stop(alloc, fault, "", out, err),
     }

@@ -36,7 +36,7 @@ fn is_built(job: &Job) -> bool
     match job {
         Job::Run(job) => job.offers.as_slice().is_empty() && job.workers.is_none(),
         Job::Replay(job) => job.offers.as_slice().is_empty(),
-        Job::Check(_) | Job::Effects(_) => true,
-        Job::Changes(_, _) | Job::Gen(_, _) => false,
+        Job::Check(_) | Job::Effects(_) | Job::Changes(_, _) => true,
+        Job::Gen(_, _) => false,
     }
 }

@@ -4,8 +4,8 @@ use Rattle.std.specs.Io.KnownBytes.{Appends}
 use Rattle.dsu_io.specs.Sinks.{AppendsFront}
 use Rattle.c_tree.specs.BareExpr.{Bytes}
 use Rattle.c_tree.specs.declared.def.Program.{Program}
-use Rattle.effects_report.specs.declared.output.ReportFault.{ReportFault}
-use Rattle.effects_report.specs.declared.output.ReportFault.TheVariants.{Failed, Memory}
+use Rattle.dsu_report.specs.declared.fault.ReportFault.{ReportFault}
+use Rattle.dsu_report.specs.declared.fault.ReportFault.TheVariants.{Failed, Memory}
 use Rattle.effects_report.specs.EffectsText.{IsEffectsText}
 
 -- a text of the effects, or a prefix of one where the sink failed

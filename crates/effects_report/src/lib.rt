@@ -21,4 +21,4 @@ mod spots;
 mod table;
 mod write;
 
-pub use output::{ReportFault, write_effects};
+pub use output::write_effects;

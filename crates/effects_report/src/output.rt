@@ -17,20 +17,13 @@ use c_tree::Program;
 use c_types::Typed;
 use contextual_effects::solve;
 use dsu_io::Sink;
+use dsu_report::ReportFault;
 use std::alloc::{AllocError, Global};
 
-/// Why the text of the effects wasn't written.
-#[derive(Clone, Copy, Debug, PartialEq, Eq)]
-pub enum ReportFault {
-    /// The sink failed.
-    Failed,
-    /// Out of memory. It is also the answer where the text has more than 2,048 names, uses a name that it doesn't define,
-    /// or has a place that isn't in `text` or is 2^32 - 1 or more: none of these occurs in a typed text and its bytes, but
-    /// that isn't proved.
-    Memory,
-}
-
 /// Writes the effects of a typed text. `text` has the bytes of the text.
+///
+/// `Memory` is also the answer where the text has more than 2,048 names, uses a name that it doesn't define, or has a place
+/// that isn't in `text` or is 2^32 - 1 or more: none of these occurs in a typed text and its bytes, but that isn't proved.
 pub fn write_effects<S: Sink>(
     alloc: Global,
     typed: &Typed,

@@ -5,9 +5,9 @@ ghost use Rattle.name_sets.specs.Texts.{IsBefore};
 ghost use Rattle.effects_report.specs.Bodies.{IsOrdered};
 
 use crate::names::id_at;
-use c_tree::{Def, DefKind};
+use c_tree::Def;
 use name_sets::Names;
-use resolved_tree::resolve::name_of_struct;
+use sorted_names::names_in_order;
 use std::alloc::{AllocError, Global};
 
 /// The names that some definitions define, in the order of their bytes. More than 2,048 names are answered as lack of
@@ -15,49 +15,13 @@ use std::alloc::{AllocError, Global};
 pub(crate) fn names_of(alloc: Global, definitions: &[Def]) -> Result<Names, AllocError>
     ensures { IfOk result (λ names. IsOrdered names) }
 {
-    let texts = sorted_texts(alloc, definitions)?;
+    let texts = names_in_order(alloc, definitions)?;
     let names = table_of(alloc, texts.as_slice())?;
     if is_ordered(&names) {
         Ok(names)
     } else {
         Err(AllocError)
     }
-}
-
-/// The names in the order of their bytes.
-fn sorted_texts(alloc: Global, definitions: &[Def]) -> Result<Vec<String>, AllocError> {
-    let mut texts = Vec::new(alloc);
-    for definition in definitions {
-        if let Some(text) = defined(alloc, &definition.kind)? {
-            texts.push(text)?;
-        }
-    }
-    texts.sort()?;
-    Ok(texts)
-}
-
-/// The name that a definition defines, if it defines one.
-fn defined(alloc: Global, kind: &DefKind) -> Result<Option<String>, AllocError> {
-    match kind {
-        DefKind::Struct(tag, _) => {
-            let name = name_of_struct(alloc, tag.text.as_str())?;
-            Ok(Some(name))
-        }
-        DefKind::Mutex(name) => copied(alloc, name.text.as_str()),
-        DefKind::Function(function) => copied(alloc, function.name.text.as_str()),
-        DefKind::Global(declaration) => copied(alloc, declaration.name.text.as_str()),
-        DefKind::Array(array) => copied(alloc, array.name.text.as_str()),
-        DefKind::Forward(_)
-        | DefKind::Prototype(_)
-        | DefKind::TransformStruct(_)
-        | DefKind::TransformGlobal(_, _) => Ok(None),
-    }
-}
-
-/// A copy of a name.
-fn copied(alloc: Global, name: &str) -> Result<Option<String>, AllocError> {
-    let name = String::from_str(alloc, name)?;
-    Ok(Some(name))
 }
 
 /// The table of some texts, in their order.

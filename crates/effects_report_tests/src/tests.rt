@@ -1,7 +1,8 @@
 //! The text of the effects of small programs, and a sink that fails.
 use c_front::read_text;
 use dsu_io::MemorySink;
-use effects_report::{ReportFault, write_effects};
+use dsu_report::ReportFault;
+use effects_report::write_effects;
 use std::alloc::Global;
 use std::test::Fail;
 

@@ -1,6 +1,6 @@
 //! Files and outputs that fail.
 
-use super::texts::{CALLS, CALLS_EFFECTS, SIGNS};
+use super::texts::{CALLS, CALLS_EFFECTS, CONNECTION, SIGNS, TOTAL};
 use super::{Failing, QUIET, Seen, call};
 use std::alloc::{AllocError, Global};
 use std::test::Fail;
@@ -74,6 +74,18 @@ fn the_print_of_effects_may_fail(rt: HostRuntime) -> Result<(), Fail> {
         let seen = call(rt.alloc(), "effects x.c", CALLS.as_bytes(), b"", failing)?;
         assert!(rt; stops_at_its_effects(&seen));
     }
+    Ok(())
+}
+
+#[test]
+fn the_print_of_changes_may_fail(rt: HostRuntime) -> Result<(), Fail> {
+    let failing = Failing {
+        prints: &[1],
+        ..QUIET
+    };
+    let (old, new) = (CONNECTION.as_bytes(), TOTAL.as_bytes());
+    let seen = call(rt.alloc(), "changes x.c x.j", old, new, failing)?;
+    assert!(rt; seen.is(13, "", "write fault\n"));
     Ok(())
 }
 

@@ -91,6 +91,16 @@ fn texts_at_their_limits(rt: HostRuntime) -> Result<(), Fail> {
     Ok(())
 }
 
+#[test]
+fn a_newer_text_may_be_so_long(rt: HostRuntime) -> Result<(), Fail> {
+    let alloc = rt.alloc();
+    let mut newer = SUM.as_bytes().to_vec(alloc)?;
+    newer.resize(TEXT_LIMIT + 1, b' ')?;
+    let seen = call(alloc, "changes x.c x.j", SUM.as_bytes(), &newer, QUIET)?;
+    assert!(rt; seen.is(15, "", "x.j: too long\n"));
+    Ok(())
+}
+
 /// How many bytes a journal may have.
 const JOURNAL_LIMIT: usize = 16 * 1024 * 1024;
 

@@ -1,8 +1,8 @@
 //! Command lines, what they print, and their statuses.
 
 use super::texts::{
-    CALLS, CALLS_EFFECTS, COUNT, DEADLOCK, DEPTH, INDEX, LITERALS, LOCKS, LOOP, MANY, OBJECTS,
-    OVERFLOW, SIGNS, SUM,
+    CALLS, CALLS_EFFECTS, CONNECTION, COUNT, DEADLOCK, DEPTH, GLOBAL, INDEX, LITERALS, LOCKS, LOOP,
+    MANY, OBJECTS, OVERFLOW, SIGNS, SUM, TOTAL, TOTAL_CHANGES, UNKNOWN,
 };
 use super::{Failing, QUIET, call};
 use bytecode::{Ending, Event, TrapKind};
@@ -248,6 +248,66 @@ static EFFECTS: [Row; 2] = [
     ),
 ];
 
+/// Pairs of texts, the older one `x.c` and the newer one `x.j`, and what changes.
+static CHANGES: [Row; 4] = [
+    ("changes x.c x.j", CONNECTION, TOTAL, 0, TOTAL_CHANGES, ""),
+    ("changes x.c x.j", CALLS, CALLS, 0, "", ""),
+    (
+        "changes x.c x.j",
+        CALLS,
+        GLOBAL,
+        0,
+        "not a patch: kind g\n",
+        "",
+    ),
+    (
+        "changes x.c x.j",
+        GLOBAL,
+        "int g; int main(void) { return 0; } dsu_transform g = 1;",
+        0,
+        "not a patch: transform 1:37\n",
+        "",
+    ),
+];
+
+/// Pairs of which a text isn't read. The older one is read and checked before the newer one.
+static UNREAD_PAIRS: [Row; 6] = [
+    (
+        "changes x.c x.j",
+        UNKNOWN,
+        SUM,
+        11,
+        "",
+        "x.c:1:25: unknown name\n",
+    ),
+    (
+        "changes x.c x.j",
+        SUM,
+        UNKNOWN,
+        11,
+        "",
+        "x.j:1:25: unknown name\n",
+    ),
+    (
+        "changes x.c x.j",
+        UNKNOWN,
+        "int main",
+        11,
+        "",
+        "x.c:1:25: unknown name\n",
+    ),
+    (
+        "changes x.c y.c",
+        UNKNOWN,
+        "",
+        11,
+        "",
+        "x.c:1:25: unknown name\n",
+    ),
+    ("changes x.c y.c", SUM, "", 12, "", "y.c: read fault\n"),
+    ("changes y.c x.j", "", UNKNOWN, 12, "", "y.c: read fault\n"),
+];
+
 /// Command lines that fit no command, or one that isn't built.
 static UNFIT: [&str; 14] = [
     "",
@@ -262,7 +322,7 @@ static UNFIT: [&str; 14] = [
     "replay x.c",
     "replay x.c x.j --offer x.c@1",
     "check --journal x.c",
-    "changes x.c x.c",
+    "changes x.c",
     "gen 7 1",
 ];
 
@@ -305,6 +365,18 @@ fn names_are_counted(rt: HostRuntime) -> Result<(), Fail> {
 #[test]
 fn effects_are_printed(rt: HostRuntime) -> Result<(), Fail> {
     assert_eq!(rt; wrong_row(rt.alloc(), &EFFECTS)?, None);
+    Ok(())
+}
+
+#[test]
+fn changes_are_printed(rt: HostRuntime) -> Result<(), Fail> {
+    assert_eq!(rt; wrong_row(rt.alloc(), &CHANGES)?, None);
+    Ok(())
+}
+
+#[test]
+fn the_older_text_is_read_first(rt: HostRuntime) -> Result<(), Fail> {
+    assert_eq!(rt; wrong_row(rt.alloc(), &UNREAD_PAIRS)?, None);
     Ok(())
 }
 

@@ -122,3 +122,55 @@ int main(void) {
   return 0;
 }
 "#;
+
+/// A struct with two fields, whose object is made by main.
+pub(super) const CONNECTION: &str = r#"struct conn { int in; int out; };
+struct conn *c;
+int show(void) { printf("%d\n", c->in); return 0; }
+int main(void) {
+  c = calloc(1, sizeof(struct conn));
+  c->in = 3;
+  c->out = 4;
+  dsu_update();
+  printf("a\n");
+  dsu_update();
+  printf("b\n");
+  dsu_update();
+  show();
+  return 0;
+}
+"#;
+
+/// `CONNECTION` with a third field, the sum of the two.
+pub(super) const TOTAL: &str = r#"struct conn { int in; int out; int total; };
+struct conn *c;
+int show(void) { printf("%d\n", c->total); return 0; }
+int main(void) {
+  c = calloc(1, sizeof(struct conn));
+  c->in = 3;
+  c->out = 4;
+  dsu_update();
+  printf("a\n");
+  dsu_update();
+  printf("b\n");
+  dsu_update();
+  show();
+  return 0;
+}
+dsu_transform struct conn { total = old.in + old.out; }
+"#;
+
+/// What changes from `CONNECTION` to `TOTAL`.
+pub(super) const TOTAL_CHANGES: &str = r"changed show
+changed struct conn
+interface struct conn
+transform struct conn in copied
+transform struct conn out copied
+transform struct conn total given
+";
+
+/// A program with one global.
+pub(super) const GLOBAL: &str = "int g; int main(void) { return 0; }";
+
+/// A text with a name that nothing declares.
+pub(super) const UNKNOWN: &str = "int main(void) { return x; }";

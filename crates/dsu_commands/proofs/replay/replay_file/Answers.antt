@@ -5,7 +5,7 @@ use Rattle.dsu_cli.specs.declared.job.Job.TheVariants.{Replay}
 use Rattle.dsu_runs.specs.Replays.{events_of}
 use Rattle.dsu_runs.specs.Setups.{setup_of}
 use Rattle.input_files.specs.Sources.{HoldsProgram}
-use Rattle.dsu_commands.specs.Jobs.{IsKnownJournal, IsKnownProgram}
+use Rattle.dsu_commands.specs.Jobs.{IsKnownJournal, IsKnownProgram, KnownJournalFault}
 use Rattle.dsu_commands.proofs.Answering.{answered, at_program, first_of_two, or_else, program_excused, replay_answers}
 use Rattle.dsu_commands.proofs.Reading.{is_answered}
 use Rattle.dsu_commands.proofs.replay.replay_file.Goals as goal
@@ -45,5 +45,5 @@ returns-in-Err-clause-first g c = λ line at fault.
     let content = g.F.Files.content c.args.files.now in
     let file = c.as_str-file.result.now in
     first_of_two content c.in-Err.line file c.args.job.now.file c.as_str-file.ensures
-    c.args.job.now.journal _ c.stop.ensures c.in-Err.ensures.complete
+    (KnownJournalFault (content c.args.job.now.journal)) c.args.job.now.journal _ c.stop.ensures c.in-Err.ensures.complete
     (λ known is. is_answered known c.in-Err.line (c.in-Err.ensures.first known is)) line at fault

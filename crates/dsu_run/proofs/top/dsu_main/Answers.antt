@@ -1,6 +1,7 @@
-use Rattle.std.proofs.Common.{◌∙◌, ap, subst, sym}
+use Rattle.std.proofs.Common.{◌∙◌, List, ℕ, ap, subst, sym}
 use Rattle.std.proofs.lemmas.Option.{same_Some}
 use Rattle.dsu_cli.specs.declared.job.Job.{Job as Asked}
+use Rattle.dsu_cli.specs.declared.job.Job.TheVariants.{Changes}
 use Rattle.dsu_commands.specs.Jobs.{IsKnownFault, is_built}
 use Rattle.dsu_run.proofs.Built.{never_unbuilt}
 use Rattle.dsu_run.proofs.top.dsu_main.Goals as goal
@@ -12,10 +13,16 @@ returns-in-Ok-Replay-clause-first g c = λ asked line file is fault.
     (subst {A = Asked} (λ j. IsKnownFault j (g.F.Files.content c.args.files.now) line file)
     (same_Some asked job.field-0 (sym is ∙ job.ensures.job) ∙ job.field-0-is) fault)
 
-pub returns-in-Ok-Changes-clause-answers : goal.returns-in-Ok-Changes-clause-answers
-returns-in-Ok-Changes-clause-answers g c = λ asked is.
+pub returns-in-Ok-Changes-clause-first : goal.returns-in-Ok-Changes-clause-first
+returns-in-Ok-Changes-clause-first g c = λ asked line file is fault.
     let job = c.in-Ok-Changes in
-    absurd (never_unbuilt c.args.words.now job.field-0 job.ensures.job (ap is_built job.field-0-is))
+    let content = g.F.Files.content c.args.files.now in
+    c.changes_files.ensures.first line file
+    (subst {A = List ℕ} (λ old. IsKnownFault (Changes old c.as_str-in-Ok-Changes-2.result.now) content line file)
+    (sym c.as_str-in-Ok-Changes.ensures)
+    (subst {A = List ℕ} (λ new. IsKnownFault (Changes job.old new) content line file) (sym c.as_str-in-Ok-Changes-2.ensures)
+    (subst {A = Asked} (λ j. IsKnownFault j content line file)
+    (same_Some asked job.field-0 (sym is ∙ job.ensures.job) ∙ job.field-0-is) fault)))
 
 pub returns-in-Ok-Gen-clause-answers : goal.returns-in-Ok-Gen-clause-answers
 returns-in-Ok-Gen-clause-answers g c = λ asked is.

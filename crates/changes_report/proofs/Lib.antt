@@ -1,0 +1,4 @@
+pub mod Adding
+pub mod Declared
+pub mod Assembled
+pub mod Transformed

@@ -1,0 +1,3 @@
+pub mod ChangesText
+pub mod Shown
+pub mod Writing
