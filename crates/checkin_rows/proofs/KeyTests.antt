@@ -1,11 +1,11 @@
 -- The tests of equality of marks and of rows are equality.
 use Rattle.std.proofs.Common.{◌≡◌, ℕ, Bool, true, ap, ◌∙◌}
 use Rattle.std.specs.Prelude.{◌==◌, ◌&&◌}
-use Rattle.checkin_rows.specs.declared.row.Row.{Row}
+use Rattle.con_freeness.specs.declared.row.Row.{Row}
 use Rattle.checkin_rows.specs.declared.row.Mark.{Mark}
 use Rattle.checkin_rows.specs.declared.row.Mark.TheVariants.{Start, CheckIn}
 use Rattle.checkin_rows.specs.contracts.row.MarkPartialEq.TheImpl.{eq-value as mark_value}
-use Rattle.checkin_rows.specs.contracts.row.RowPartialEq.TheImpl.{eq-value as row_value}
+use Rattle.con_freeness.specs.contracts.row.RowPartialEq.TheImpl.{eq-value as row_value}
 use Rattle.checkin_rows.proofs.Inserting.{IsSameness}
 use Rattle.checkin_rows.proofs.MarkLemmas.{num, itself, both, and_true}
 

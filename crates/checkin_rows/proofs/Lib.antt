@@ -1,4 +1,3 @@
-pub mod DigestLemmas
 pub mod RowEdges
 pub mod RowSystem
 pub mod Lists

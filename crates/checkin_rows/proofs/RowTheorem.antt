@@ -18,7 +18,7 @@ use Rattle.effects.proofs.MarkEquations.{prior_of_check_in, future_of_check_in, 
 use Rattle.contextual_effects.proofs.NodesOfPoints.{Setting}
 use Rattle.contextual_effects.proofs.Numbering as code
 use Rattle.effects.proofs.RowEquations.{From, Starts, RowFlows}
-use Rattle.checkin_rows.specs.declared.row.Row.{Row}
+use Rattle.con_freeness.specs.declared.row.Row.{Row}
 use Rattle.checkin_rows.specs.declared.row.Mark.{Mark}
 use Rattle.checkin_rows.specs.declared.row.Mark.TheVariants as mark
 use Rattle.checkin_rows.specs.declared.entries.Entry.{Entry}

@@ -5,7 +5,7 @@ use Rattle.std.proofs.lemmas.Bool.{cases_eq}
 use Rattle.std.proofs.lemmas.List.{length-set}
 use Rattle.std.proofs.lemmas.Option.{same_Some, none-some}
 use Rattle.name_sets.specs.IdSet.{Holds}
-use Rattle.checkin_rows.specs.declared.row.Row.{Row}
+use Rattle.con_freeness.specs.declared.row.Row.{Row}
 use Rattle.checkin_rows.specs.declared.row.Mark.{Mark}
 use Rattle.checkin_rows.specs.declared.entries.Entry.{Entry}
 use Rattle.checkin_rows.specs.Rows.{AreDifferent}

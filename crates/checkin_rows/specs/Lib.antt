@@ -1,4 +1,3 @@
-pub mod Digests
 pub mod Edges
 pub mod Marks
 pub mod Rows

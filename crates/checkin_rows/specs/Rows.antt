@@ -8,7 +8,7 @@ use Rattle.c_semantics.specs.Store as store
 use Rattle.effects.specs.Sites.{Site, IsEntry}
 use Rattle.effects.specs.Rows.{IsCheckIn, InPrior, InFuture, InConcrete}
 use Rattle.contextual_effects.specs.Effects.{HasNames}
-use Rattle.checkin_rows.specs.declared.row.Row.{Row}
+use Rattle.con_freeness.specs.declared.row.Row.{Row}
 use Rattle.checkin_rows.specs.declared.row.Mark.{Mark}
 use Rattle.checkin_rows.specs.declared.row.Mark.TheVariants as mark
 

@@ -4,7 +4,7 @@ use Rattle.name_sets.specs.IdSet.{Holds}
 use Rattle.name_sets.specs.Limit.{most_names}
 use Rattle.set_constraints.specs.Constraints.{Reaches}
 use Rattle.effect_flow.specs.Parts.{Contents}
-use Rattle.checkin_rows.specs.declared.row.Row.{Row}
+use Rattle.con_freeness.specs.declared.row.Row.{Row}
 use Rattle.checkin_rows.specs.declared.row.Mark.{Mark}
 use Rattle.checkin_rows.specs.declared.row.Mark.TheVariants.{Start, CheckIn}
 use Rattle.checkin_rows.specs.declared.entries.Entry.{Entry}

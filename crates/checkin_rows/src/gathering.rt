@@ -4,8 +4,9 @@ ghost use Rattle.checkin_rows.specs.Rows.{AreDifferent, IsEmptyRow};
 ghost use Rattle.checkin_rows.specs.Steps.{AddsEntry, AreRowsOfMarks, AreKept};
 
 use crate::entries::Entry;
-use crate::row::{Mark, Row};
+use crate::row::Mark;
 use crate::solution::Solution;
+use con_freeness::Row;
 use indexmap::IndexSet;
 use name_sets::{NameId, NameSet};
 use std::alloc::{AllocError, Global};

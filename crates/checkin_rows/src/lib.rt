@@ -10,7 +10,7 @@
 //! each kind of effect: a point has its own names, and to them come those of the points to which a path leads from it.
 //!
 //! Read in this order:
-//! - [`row`]: rows, their numbers, and what has one
+//! - [`row`]: the numbers of rows, and what has a row
 //! - [`nodes`]: the numbers of what has a set
 //! - [`constraints`]: the edges of the system of constraints
 //! - [`solution`]: the sets of the nodes
@@ -29,6 +29,7 @@ mod row;
 mod rows;
 mod solution;
 
+pub use con_freeness::Row;
 pub use laws::numbers_stay;
-pub use row::{Mark, Row, RowId};
+pub use row::{Mark, RowId};
 pub use rows::{Rows, rows_of};

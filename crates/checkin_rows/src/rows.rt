@@ -10,8 +10,9 @@ ghost use Rattle.checkin_rows.specs.Marks.{marks_of};
 use crate::entries::{entries, marks};
 use crate::gathering::{empty_row, gather, keep};
 use crate::nodes::Nodes;
-use crate::row::{Mark, Row, RowId};
+use crate::row::{Mark, RowId};
 use crate::solution::solution_of;
+use con_freeness::Row;
 use contextual_effects::Effects;
 use effect_flow::Flow;
 use indexmap::IndexSet;
@@ -88,6 +89,13 @@ impl Rows {
             Some(row) => row,
             None => &self.empty,
         }
+    }
+
+    /// The different rows. No two of those that `rows_of` gives are equal.
+    pub fn kept(&self) -> &[Row]
+        ensures { result.now ≡ self.now.kept }
+    {
+        self.kept.as_slice()
     }
 
     /// The number of the row of a check-in, by the function and generation of its body and its number there; 0 if the flow

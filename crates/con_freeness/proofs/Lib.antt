@@ -1,2 +1,8 @@
+mod DigestLemmas
+mod EachRow
+mod EachSlot
 mod Examples
+pub mod NameOrder
+mod LeastNames
+mod PlainSearch
 mod Rows

@@ -1,13 +1,13 @@
 -- What the test of rows says.
 use Rattle.std.proofs.Common.{◌≡◌, ℕ, zero, suc, ◌+◌, ◌<◌, Bool, true, false, List, [], ◌∷◌, Option, Some, None, refl, sym, ◌∙◌, ap, subst, arith}
-use Rattle.std.specs.Prelude.{not, ◌&&◌, ◌||◌, All, find, option_map, slice_get, bytes_eq, if◌then◌else◌}
+use Rattle.std.specs.Prelude.{not, ◌&&◌, ◌||◌, All, find, option_map, slice_get, if◌then◌else◌}
 use Rattle.std.specs.Option.{is_none, option_or}
 use Rattle.std.specs.List.{list_any}
 use Rattle.std.proofs.lemmas.List.Elements.{All-nil, All-cons}
-use Rattle.std.proofs.lemmas.Slice.Eq.{bytes_eq-Decides}
-use Rattle.name_sets.specs.NameLists.{precedes, is_among, with_name, name_set}
+use Rattle.name_sets.specs.NameLists.{is_among, name_set}
 use Rattle.con_freeness.specs.Verdicts.{Effect, Concrete, Pinned, Refusal, Verdict, Admitted, Refused}
 use Rattle.con_freeness.specs.Rows.{Names, Row, InForce, meets, admits, least_common, both, across, obstacle, first_of, verdict_from}
+use Rattle.con_freeness.proofs.NameOrder.{name_set_any}
 use Rattle.con_freeness.specs.Laws.{AdmitsWithoutObstacle, Admits, IsVerdict, LeastSlotRefuses}
 
 -- nothing is found exactly where nothing passes
@@ -20,37 +20,9 @@ found p (x ∷ names) = by (p x) (found p names)
     by true rest = refl
     by false rest = rest
 
-or_twice : (a b : Bool) → (a || b) ≡ (a || (a || b))
-or_twice true b = refl
-or_twice false b = refl
-
-or_swapped : (a b c : Bool) → (a || (b || c)) ≡ (b || (a || c))
-or_swapped true true c = refl
-or_swapped true false c = refl
-or_swapped false b c = refl
-
--- a name put into a set in its place
-with_name_any : (b : Names) (x : List ℕ) (names : Names) → list_any (is_among b) (with_name x names) ≡ (is_among b x || list_any (is_among b) names)
-with_name_any b x [] = refl
-with_name_any b x (n ∷ names) = by (bytes_eq x n) (precedes x n) refl (with_name_any b x names)
-  where
-    by : (same first : Bool) → bytes_eq x n ≡ same → list_any (is_among b) (with_name x names) ≡ (is_among b x || list_any (is_among b) names)
-        → list_any (is_among b) (if same then n ∷ names else (if first then x ∷ n ∷ names else n ∷ with_name x names))
-        ≡ (is_among b x || (is_among b n || list_any (is_among b) names))
-    by true first e rest =
-        or_twice (is_among b n) (list_any (is_among b) names)
-        ∙ ap (λ y. is_among b y || (is_among b n || list_any (is_among b) names)) (sym ((bytes_eq-Decides x n).0 e))
-    by false true e rest = refl
-    by false false e rest =
-        ap (λ o. is_among b n || o) rest ∙ or_swapped (is_among b n) (is_among b x) (list_any (is_among b) names)
-
-name_set_any : (b names : Names) → list_any (is_among b) (name_set names) ≡ list_any (is_among b) names
-name_set_any b [] = refl
-name_set_any b (x ∷ names) = with_name_any b x (name_set names) ∙ ap (λ o. is_among b x || o) (name_set_any b names)
-
 -- two sets have a least common name exactly where they meet
 none_common : (a b : Names) → is_none (least_common a b) ≡ not (meets a b)
-none_common a b = found (is_among b) (name_set a) ∙ ap not (name_set_any b a)
+none_common a b = found (is_among b) (name_set a) ∙ ap not (name_set_any (is_among b) a)
 
 none_mapped : (f : List ℕ → Effect) (o : Option (List ℕ)) → is_none (option_map f o) ≡ is_none o
 none_mapped f None = refl

@@ -1,3 +1,6 @@
-pub mod Verdicts
-pub mod Rows
+pub mod Decisions
+pub mod Digests
 pub mod Laws
+pub mod Obstacles
+pub mod Rows
+pub mod Verdicts

@@ -4,6 +4,8 @@ use Rattle.name_sets.specs.Texts.{text_of}
 use Rattle.con_freeness.specs.declared.refusal.Effect.{Effect as EffectOfIds}
 use Rattle.con_freeness.specs.declared.refusal.Effect.TheVariants as ids
 use Rattle.con_freeness.specs.declared.refusal.Refusal.{Refusal as RefusalOfIds}
+use Rattle.con_freeness.specs.declared.refusal.Verdict.{Verdict as VerdictOfIds}
+use Rattle.con_freeness.specs.declared.refusal.Verdict.TheVariants as answer
 
 -- why a row doesn't admit a patch: a name that active code uses has another interface; a transaction may have used a
 -- changed name and may use a changed name yet; a pinned one may use a changed name yet
@@ -31,3 +33,8 @@ effect_seen names (ids.Pinned z) = Pinned (text_of names z)
 -- a refusal with these texts
 abbrev pub refusal_seen : List (List ℕ) → RefusalOfIds → Refusal
 refusal_seen names r = record { slot = r.slot; effect = effect_seen names r.effect }
+
+-- a verdict with these texts
+abbrev pub verdict_seen : List (List ℕ) → VerdictOfIds → Verdict
+verdict_seen names answer.Admitted = Admitted
+verdict_seen names (answer.Refused r) = Refused (refusal_seen names r)

@@ -23,3 +23,12 @@ pub struct Refusal {
     /// Why that row doesn't: `Concrete` where that holds, else `Pinned` of a thread that is pinned, else `Both`.
     pub effect: Effect,
 }
+
+/// Whether the rows in force admit a patch.
+#[derive(Clone, Copy, Debug, PartialEq, Eq)]
+pub enum Verdict {
+    /// Each of them does.
+    Admitted,
+    /// One doesn't.
+    Refused(Refusal),
+}

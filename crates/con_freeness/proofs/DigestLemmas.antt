@@ -5,7 +5,7 @@ use Rattle.std.specs.Prelude.{◌==◌, if◌then◌else◌}
 use Rattle.std.specs.Int.{bit_at}
 use Rattle.std.proofs.lemmas.Bool.Decides.{nat_tests}
 use Rattle.name_sets.specs.IdSet.{Holds}
-use Rattle.checkin_rows.specs.Digests.{digest_to}
+use Rattle.con_freeness.specs.Digests.{digest_to}
 
 more : (n set : ℕ) → digest_to (n + 1) set ≡ (if bit_at set n == 1 then (digest_to n set * 1000003 + n + 1) % 4294967291 else digest_to n set)
 unfolding digest_to

@@ -1,9 +1,9 @@
 use Rattle.std.proofs.Common.{◌<◌, true≢false, refl, arith, sym, subst, ◌∙◌}
 use Rattle.name_sets.specs.IdSet.{Holds}
-use Rattle.checkin_rows.specs.Digests.{digest_to}
-use Rattle.checkin_rows.proofs.DigestLemmas.{digest-held, digest-passed, digest-small}
-use Rattle.checkin_rows.proofs.row.digest.Goals as goal
-use Rattle.checkin_rows.proofs.row.digest.Goals.{in-Some+then-holds, in-Some+else-holds, in_default}
+use Rattle.con_freeness.specs.Digests.{digest_to}
+use Rattle.con_freeness.proofs.DigestLemmas.{digest-held, digest-passed, digest-small}
+use Rattle.con_freeness.proofs.row.digest.Goals as goal
+use Rattle.con_freeness.proofs.row.digest.Goals.{in-Some+then-holds, in-Some+else-holds, in_default}
 
 pub loop-index-init : goal.loop-index-init
 unfolding digest_to
