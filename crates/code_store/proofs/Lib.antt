@@ -2,3 +2,4 @@ pub mod UsedIds
 pub mod StoredBodies
 pub mod DirectUses
 pub mod Room
+pub mod Counting

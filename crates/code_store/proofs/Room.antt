@@ -46,3 +46,25 @@ past_tokens old added l =
     let all = sum_by-append (λ (b : Body). b.tokens) old added in
     second_of (ltb most_check_ins (all_check_ins (old ++ added))) (ltb most_function_tokens (all_tokens (old ++ added)))
     (above most_function_tokens (all_tokens (old ++ added)) (omega arith))
+
+-- bodies that fit pass neither limit
+pub within : (bodies : List Body) → are_too_many bodies ≡ false → (all_check_ins bodies ≤ most_check_ins) × (all_tokens bodies ≤ most_function_tokens)
+within bodies fit = by (ltb most_check_ins (all_check_ins bodies)) (ltb most_function_tokens (all_tokens bodies)) refl refl fit
+  where
+    at_most : (m n : ℕ) → ltb m n ≡ false → n ≤ m
+    at_most m n e = grind (arith, nat_tests)
+
+    by : (s t : Bool) → ltb most_check_ins (all_check_ins bodies) ≡ s → ltb most_function_tokens (all_tokens bodies) ≡ t → (s || t) ≡ false
+        → (all_check_ins bodies ≤ most_check_ins) × (all_tokens bodies ≤ most_function_tokens)
+    by false false few few_tokens e = (at_most most_check_ins (all_check_ins bodies) few, at_most most_function_tokens (all_tokens bodies) few_tokens)
+    by false true few few_tokens e = cc
+    by true t few few_tokens e = cc
+
+pub not_too_many : (bodies : List Body) → all_check_ins bodies ≤ most_check_ins → all_tokens bodies ≤ most_function_tokens
+    → are_too_many bodies ≡ false
+not_too_many bodies few few_tokens =
+    ap (λ s. s || ltb most_function_tokens (all_tokens bodies)) (below most_check_ins (all_check_ins bodies) few)
+    ∙ below most_function_tokens (all_tokens bodies) few_tokens
+  where
+    below : (m n : ℕ) → n ≤ m → ltb m n ≡ false
+    below m n l = grind (arith, nat_tests)

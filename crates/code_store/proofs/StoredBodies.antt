@@ -1,8 +1,8 @@
 -- The bodies of a store, with one more, and in a larger table.
 use Rattle.std.proofs.Common.{◌≡◌, ℕ, ◌+◌, ◌<◌, ◌≤◌, List, [], ◌∷◌, ◌++◌, All, map, length, Option, Some, None, refl, sym, ap, ◌∙◌, arith}
 use Rattle.std.specs.Prelude.{IfSome}
-use Rattle.std.proofs.lemmas.List.{map_push, length-append, get_or_append_left}
-use Rattle.std.proofs.lemmas.List.Elements.{All-nil, All-head, All-tail, All-push, All-weaker}
+use Rattle.std.proofs.lemmas.List.{map_push, map-append, length-append, get_or_append_left}
+use Rattle.std.proofs.lemmas.List.Elements.{All-nil, All-head, All-tail, All-push, All-append, All-weaker}
 use Rattle.std.proofs.lemmas.List.Sums.{sum_by_push}
 use Rattle.name_sets.specs.Texts.{IsTable, text_of}
 use Rattle.skeletons.specs.Meaning.{used_at, point_of, meant}
@@ -13,7 +13,7 @@ use Rattle.c_semantics.specs.Store.{Body, all_check_ins, all_tokens}
 use Rattle.effect_flow.proofs.Ids.{spot_kept}
 use Rattle.code_store.specs.declared.body.StoredBody.{StoredBody}
 use Rattle.code_store.specs.Limits.{most_check_ins, most_function_tokens}
-use Rattle.code_store.specs.Stored.{meant_body, IsNamed, IsNewTo, AreDistinct, IsStoreOf, AddsStored, HasCounts}
+use Rattle.code_store.specs.Stored.{meant_body, IsNamed, IsNewTo, AreDistinct, IsStoreOf, AddsStored, AddsAllStored, HasCounts}
 
 -- a body whose function has no other of its generation
 pub distinct_push : (bs : List StoredBody) (b : StoredBody) → AreDistinct bs → IsNewTo bs b.function b.generation → AreDistinct (bs ++ b ∷ [])
@@ -32,6 +32,14 @@ store_with_body stored b new names bodies s named = record {
   named = All-push (IsNamed names) stored b s.named named;
   meaning = map_push (meant_body names) stored b ∙ ap (λ bs. bs ++ meant_body names b ∷ []) s.meaning;
   distinct = distinct_push stored b s.distinct new;
+}
+
+pub store_with_bodies : (stored more : List StoredBody) → AddsAllStored stored more (stored ++ more)
+store_with_bodies stored more names bodies s named distinct = record {
+  table = s.table;
+  named = All-append (IsNamed names) stored more s.named named;
+  meaning = map-append (meant_body names) stored more ∙ ap (λ bs. bs ++ map (meant_body names) more) s.meaning;
+  distinct = distinct;
 }
 
 -- the counts of no bodies, and of one more

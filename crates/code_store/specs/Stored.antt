@@ -37,6 +37,13 @@ AddsStored old b new =
     (names : List Bytes) (bodies : List Body)
     → IsStoreOf names bodies old → IsNamed names b → IsStoreOf names (bodies ++ meant_body names b ∷ []) new
 
+-- whatever bodies the store had, now it has those and some more, if no function has two of one generation then
+abbrev pub AddsAllStored : List StoredBody → List StoredBody → List StoredBody → Type 0
+AddsAllStored old more new =
+    (names : List Bytes) (bodies : List Body)
+    → IsStoreOf names bodies old → All (IsNamed names) more → AreDistinct (old ++ more)
+    → IsStoreOf names (bodies ++ map (meant_body names) more) new
+
 -- how many check-ins and tokens some bodies have, whatever the table, and that they are within the limits
 pub record HasCounts (stored : List StoredBody) (check_ins tokens : ℕ) : Type 0 where
   pub check_ins_are : (names : List Bytes) → check_ins ≡ all_check_ins (map (meant_body names) stored)

@@ -1,8 +1,10 @@
 //! A body, its check-ins and its uses.
-ghost use Rattle.std.specs.Prelude.{◌≡◌, ℕ, ◌≤◌, ◌↔◌, ◌⊎◌, List, map, length, count_by, Contains};
+ghost use Rattle.std.specs.Prelude.{◌≡◌, ℕ, ◌≤◌, ◌↔◌, ◌⊎◌, false, List, map, length, count_by, Contains};
 ghost use Rattle.name_sets.specs.IdSet.{Holds};
 ghost use Rattle.skeletons.specs.Meaning.{point_of};
 ghost use Rattle.c_semantics.specs.Skeletons.{is_check_in_kind};
+ghost use Rattle.code_store.specs.Limits.{are_too_many};
+ghost use Rattle.code_store.specs.Stored.{meant_body, HasCounts};
 ghost use Rattle.code_store.specs.Uses.{used_ids};
 
 use name_sets::{NameId, NameSet};
@@ -30,6 +32,27 @@ pub(crate) fn check_ins_among(points: &[Point]) -> usize
         }
     }
     count
+}
+
+/// How many check-ins and tokens some bodies have.
+#[derive(Clone, Copy)]
+pub(crate) struct Counts {
+    pub check_ins: usize,
+    pub tokens: usize,
+}
+
+/// Counts the check-ins and tokens of bodies that fit a store.
+pub(crate) fn counts_of(bodies: &[StoredBody]) -> Counts
+    requires { (names : List (List ℕ)) → are_too_many (map (meant_body names) bodies.now) ≡ false }
+    ensures { HasCounts bodies.now result.check_ins result.tokens }
+{
+    let mut check_ins = 0;
+    let mut tokens = 0;
+    for body in bodies {
+        check_ins += check_ins_among(&body.skeleton.points);
+        tokens += body.tokens as usize;
+    }
+    Counts { check_ins, tokens }
 }
 
 /// Puts in the names that some points use.

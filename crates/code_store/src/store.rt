@@ -1,5 +1,5 @@
 //! The store.
-ghost use Rattle.std.specs.Prelude.{◌≡◌, ℕ, ◌+◌, ◌<◌, ◌≤◌, ◌↔◌, ◌⊎◌, not, List, [], ◌∷◌, ◌++◌, map, Contains, IsErrOf, IfOk, OnOk, OnErr};
+ghost use Rattle.std.specs.Prelude.{◌≡◌, ℕ, ◌+◌, ◌<◌, ◌≤◌, ◌↔◌, ◌⊎◌, not, false, List, [], ◌∷◌, ◌++◌, map, take, Contains, IsErrOf, IfOk, OnOk, OnErr};
 ghost use Rattle.name_sets.specs.Texts.{IsTable};
 ghost use Rattle.name_sets.specs.IdSet.{Holds};
 ghost use Rattle.skeletons.specs.Meaning.{meant};
@@ -7,11 +7,11 @@ ghost use Rattle.c_semantics.specs.Skeletons.{check_ins};
 ghost use Rattle.c_semantics.specs.Store.{Body, all_check_ins, all_tokens};
 ghost use Rattle.effect_flow.specs.Flows.{IsFlowOf};
 ghost use Rattle.code_store.specs.Limits.{most_check_ins, most_function_tokens, are_too_many};
-ghost use Rattle.code_store.specs.Stored.{meant_body, IsNewTo, IsStoreOf, AddsStored};
+ghost use Rattle.code_store.specs.Stored.{meant_body, IsNewTo, IsStoreOf, AddsStored, AddsAllStored};
 ghost use Rattle.code_store.specs.Uses.{ids_used_by};
 
 use crate::StoredBody;
-use crate::body::{add_uses, check_ins_among};
+use crate::body::{add_uses, check_ins_among, counts_of};
 use effect_flow::Flow;
 use name_sets::{NameId, NameSet};
 use std::alloc::{AllocError, Global};
@@ -93,6 +93,33 @@ impl Store {
         self.check_ins += check_ins;
         self.tokens += tokens;
         Ok(())
+    }
+
+    /// Adds bodies, for which there is room, in their order after those that are there. Where there is no memory for all of
+    /// them, they are dropped and nothing changes.
+    pub fn add_all(&mut self, bodies: Vec<StoredBody>) -> Result<(), AllocError>
+        requires { (names : List (List ℕ)) → are_too_many
+            (map (meant_body names) self.old ++ map (meant_body names) bodies.items) ≡ false }
+        ensures bodies { OnOk result (self.new ≡ self.old ++ bodies.items) }
+        ensures store { OnOk result (AddsAllStored self.old bodies.items self.new) }
+        ensures fault { OnErr result (self.new ≡ self.old) }
+    {
+        let mut more = bodies;
+        let counts = counts_of(&more);
+        self.bodies.append(&mut more)?;
+        self.check_ins += counts.check_ins;
+        self.tokens += counts.tokens;
+        Ok(())
+    }
+
+    /// Takes out each body after the first `count`.
+    pub fn truncate(&mut self, count: usize)
+        ensures { self.new ≡ take count self.old }
+    {
+        self.bodies.truncate(count);
+        let counts = counts_of(&self.bodies);
+        self.check_ins = counts.check_ins;
+        self.tokens = counts.tokens;
     }
 
     /// Whether there is room for some bodies beside those that are there, within both limits.

@@ -61,6 +61,64 @@ fn two_versions_of_a_function(rt: HostRuntime) -> Result<(), Fail> {
     Ok(())
 }
 
+/// The body of a function that writes a global.
+fn body(
+    alloc: Global,
+    function: NameId,
+    generation: u32,
+    name: NameId,
+) -> Result<StoredBody, AllocError> {
+    Ok(StoredBody {
+        function,
+        generation,
+        tokens: 10,
+        skeleton: writer(alloc, name)?,
+    })
+}
+
+#[test]
+fn bodies_added_together(rt: HostRuntime) -> Result<(), Fail> {
+    let alloc = rt.alloc();
+    let f = NameId::new(3).ok_or("an id")?;
+    let x = NameId::new(0).ok_or("an id")?;
+    let y = NameId::new(7).ok_or("an id")?;
+    let mut store = Store::new(alloc);
+    let first = body(alloc, f, 1, x)?;
+    if store.add(first).is_err() {
+        return Err("room for the first".into());
+    }
+    let mut more = Vec::new(alloc);
+    more.push(body(alloc, f, 2, y)?)?;
+    more.push(body(alloc, x, 2, y)?)?;
+    if !store.has_room(&more) {
+        return Err("room for both".into());
+    }
+    store.add_all(more)?;
+    assert_eq!(rt; store.bodies().len(), 3);
+    assert!(rt; store.direct(f).holds(y));
+    Ok(())
+}
+
+#[test]
+fn bodies_taken_out_again(rt: HostRuntime) -> Result<(), Fail> {
+    let alloc = rt.alloc();
+    let f = NameId::new(3).ok_or("an id")?;
+    let x = NameId::new(0).ok_or("an id")?;
+    let y = NameId::new(7).ok_or("an id")?;
+    let mut store = Store::new(alloc);
+    let mut bodies = Vec::new(alloc);
+    bodies.push(body(alloc, f, 1, x)?)?;
+    bodies.push(body(alloc, f, 2, y)?)?;
+    if !store.has_room(&bodies) {
+        return Err("room for both".into());
+    }
+    store.add_all(bodies)?;
+    store.truncate(1);
+    assert_eq!(rt; store.bodies().len(), 1);
+    assert!(rt; !store.direct(f).holds(y));
+    Ok(())
+}
+
 #[test]
 fn more_check_ins_than_there_is_room_for(rt: HostRuntime) -> Result<(), Fail> {
     let alloc = rt.alloc();
