@@ -86,7 +86,7 @@ steps st.PostIncrement st.PostIncrement h = refl
 steps st.PostDecrement st.PostDecrement h = refl
 steps _ _ h = absurd (no h)
 
-types : (x y : BareType) → same_type x y ≡ true → x ≡ y
+pub types : (x y : BareType) → same_type x y ≡ true → x ≡ y
 types (Integer x) (Integer y) h = ap Integer (kinds x y h)
 types (Handle x) (Handle y) h = ap Handle (texts x y h)
 types Thread Thread h = refl
@@ -145,7 +145,7 @@ mutual
   lists_same (ExprThen a x) (ExprThen c y) h = two ExprThen (exprs_same a c (left_of _ _ h)) (lists_same x y (right_of _ _ h))
   lists_same _ _ h = absurd (no h)
 
-same_options : {A : Type 0} (same : A → A → Bool) (x y : Option A) → ((a c : A) → same a c ≡ true → a ≡ c)
+pub same_options : {A : Type 0} (same : A → A → Bool) (x y : Option A) → ((a c : A) → same a c ≡ true → a ≡ c)
     → same_option same x y ≡ true → x ≡ y
 same_options same None None sound h = refl
 same_options same None (Some y) sound h = absurd (no h)
@@ -216,7 +216,7 @@ int_alike x = both_hold _ _ (kind_alike (kind_of x)) ((Decides-int_eq (value_of 
 number_alike : (n : ℕ) → (n == n) ≡ true
 number_alike n = grind (arith, nat_tests)
 
-type_alike : (x : BareType) → same_type x x ≡ true
+pub type_alike : (x : BareType) → same_type x x ≡ true
 type_alike (Integer k) = kind_alike k
 type_alike (Handle tag) = text_alike tag
 type_alike Thread = refl
@@ -282,7 +282,7 @@ mutual
   stmt_alike s.Update = refl
   stmt_alike (s.Transaction a) = block_alike a
 
-  block_alike : (x : BareStmts) → same_stmts x x ≡ true
+  pub block_alike : (x : BareStmts) → same_stmts x x ≡ true
   block_alike NoStmts = refl
   block_alike (StmtThen a x) = both_hold _ _ (stmt_alike a) (block_alike x)
 

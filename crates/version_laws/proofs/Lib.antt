@@ -1,0 +1,11 @@
+pub mod Parts
+pub mod Tests
+pub mod SameDefinitions
+pub mod EntersAlike
+pub mod DefinedNames
+pub mod NextVersions
+pub mod TableHistories
+pub mod MovesSustain
+pub mod RunHistories
+pub mod ObjectsOfRuns
+pub mod GlobalsOfRuns

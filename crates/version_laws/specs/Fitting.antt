@@ -1,0 +1,17 @@
+-- Objects fit the layouts of their structs, as the text of a world has them.
+use Rattle.std.specs.Prelude.{◌≡◌, List, map, All, Some}
+use Rattle.c_tree.specs.BareExpr.{Bytes}
+use Rattle.c_tree.specs.BareDef.{BareBinding, BareDef, Struct}
+use Rattle.c_semantics.specs.Names.{struct_name}
+use Rattle.c_semantics.specs.Texts.{definition}
+use Rattle.source_model.specs.Worlds.{World, Object}
+
+-- the fields of an object are those of its struct's layout, in order, where its struct is defined in a text
+abbrev pub Fits : List BareDef → Object → Type 0
+Fits text o =
+    (tag : Bytes) (members : List BareBinding)
+    → definition text (struct_name o.tag) ≡ Some (Struct tag members) → map (λ f. f.name) o.fields ≡ map (λ b. b.name) members
+
+-- each object of a world does
+pub record ObjectsFit (w : World) : Type 0 where
+  pub each : All (Fits w.text) w.objects
