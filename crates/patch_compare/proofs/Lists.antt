@@ -26,7 +26,7 @@ lists_are_ordered p q = (
 )
 
 -- a definition of a name has its own interface
-own_interface : (name : Bytes) (d : BareDef) → defined d ≡ Some name → same_interface d d ≡ true
+pub own_interface : (name : Bytes) (d : BareDef) → defined d ≡ Some name → same_interface d d ≡ true
 own_interface name (Struct tag ms) e = (lists_decide same_binding bindings_decide ms ms).1 refl
 own_interface name (Forward tag) e = cc
 own_interface name (Mutex m) e = refl

@@ -23,7 +23,7 @@ pub(crate) fn same_definition(a: &Def, b: &Def) -> bool
 }
 
 /// Whether two definitions have the same interface.
-pub(crate) fn same_interface(a: &DefKind, b: &DefKind) -> bool
+pub fn same_interface(a: &DefKind, b: &DefKind) -> bool
     ensures { result ≡ same_interface (bare_kind a.now) (bare_kind b.now) }
 {
     match a {

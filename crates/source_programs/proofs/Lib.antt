@@ -1,0 +1,9 @@
+mod Defining
+pub mod Entering
+mod Filled
+mod Interfaces
+mod Items
+mod Mains
+mod Numbered
+pub mod Placed
+mod Reported

@@ -1,0 +1,25 @@
+use Rattle.c_tree.specs.Bare.{bare_binding}
+use Rattle.source_programs.specs.Definitions.{binding_of}
+use Rattle.resolved_tree.proofs.Kept.{grows_refl, grows_trans, mapped_once}
+use Rattle.source_programs.proofs.resolved.bindings.Goals as goal
+
+pub loop-one-preserved : goal.loop-one-preserved
+loop-one-preserved c = record {
+  grows = grows_trans _ _ _ c.loop-one.invariant.grows c.declared_binding.ensures.grows;
+  made = λ u g.
+      mapped_once (binding_of u) bare_binding c.loop-one.bindings.items c.push.new.self.items c.in_ok-binding.binding c.args.declared.now c.loop-one.one-index c.one-item.result
+      c.in_ok-push.ensures.items c.loop-one-test.true c.one-item.is (c.loop-one.invariant.made u (grows_trans _ _ u c.declared_binding.ensures.grows g))
+      (c.in_ok-binding.ensures.binding u g);
+}
+
+pub returns-in_err-bindings-clause-grows : goal.returns-in_err-bindings-clause-grows
+returns-in_err-bindings-clause-grows c = grows_refl _
+
+pub returns-in_err-binding-clause-grows : goal.returns-in_err-binding-clause-grows
+returns-in_err-binding-clause-grows c = grows_trans _ _ _ c.loop-one.invariant.grows c.in_err-binding.ensures.grows
+
+pub returns-in_err-push-clause-grows : goal.returns-in_err-push-clause-grows
+returns-in_err-push-clause-grows c = grows_trans _ _ _ c.loop-one.invariant.grows c.in_ok-binding.ensures.grows
+
+pub returns-clause-grows : goal.returns-clause-grows
+returns-clause-grows c = c.loop-one.invariant.grows

@@ -1,0 +1,4 @@
+pub mod Definitions
+pub mod Places
+pub mod Globals
+pub mod Programs
