@@ -2,12 +2,13 @@
 use Rattle.std.proofs.Common.{◌≡◌, ℕ, ◌==◌, Bool, true, false, List, ◌∷◌, length, map, reverse, Option, Some, None, refl, sym, ap, ap₂, ◌∙◌, if◌then◌else◌}
 use Rattle.c_tree.specs.BareDef.{BareDef}
 use Rattle.bytecode.specs.declared.trap.TrapKind.TheVariants.{Depth}
-use Rattle.c_semantics.specs.Texts.{Definitions, definition}
-use Rattle.c_semantics.specs.Threads.{Frame as SeenFrame, Enter as SeenEnter, Thread as SeenThread, entered}
-use Rattle.source_model.specs.Versions.{Table as Versioned, current, first_table}
-use Rattle.source_model.specs.Worlds.{World, Trapped, with_thread}
+use Rattle.c_semantics.specs.Texts.{definition}
+use Rattle.c_semantics.specs.Threads.{Enter as SeenEnter, Thread as SeenThread, entered}
+use Rattle.source_model.specs.Versions.{current, first_table}
+use Rattle.source_model.specs.Worlds.{World, Trapped, now, with_thread}
 use Rattle.source_model.specs.Uses.{is_right, marked, recorded}
 use Rattle.source_model.specs.Moves.{enter, enter_with, frame_count, frame_of as entered_frame}
+use Rattle.version_laws.specs.Histories.{IsHistory, last_text}
 use Rattle.source_runner.specs.declared.thread.Frame.{Frame}
 use Rattle.source_runner.specs.declared.thread.Enter.{Enter}
 use Rattle.source_runner.specs.declared.thread.Next.{Next}
@@ -18,54 +19,50 @@ use Rattle.local_evaluation.specs.Values.{seen}
 use Rattle.source_runner.specs.Frames.{frame_of}
 use Rattle.source_runner.specs.Machines.{IsThread, enter_of}
 use Rattle.std.proofs.lemmas.List.{length-map, length-reverse}
-use Rattle.source_runner.proofs.FirstUse.{now_first}
+use Rattle.version_laws.proofs.EntersAlike.{enters_alike}
+use Rattle.version_laws.proofs.TableHistories.{last_as_current}
 use Rattle.source_runner.proofs.Halted.{true_is_not_false}
 use Rattle.source_runner.proofs.Stopping.{entering_uses}
 use Rattle.source_runner.proofs.Transactions.{Goes}
 
--- by the first table
-right_at : (text : List BareDef) (w : World) (e : SeenEnter) (b : Bool) → w.table ≡ first_table text
-    → is_right (first_table text) e.version e.function ≡ b → is_right w.table e.version e.function ≡ b
-right_at text w e b same h = let of : Versioned → Bool = λ tb. is_right tb e.version e.function in ap of same ∙ h
+-- by whether the use of the function is right
+enters_by : (w : World) (slot : ℕ) (th : SeenThread) (e : SeenEnter) (b : Bool) → is_right w.table e.version e.function ≡ b
+    → enter w slot th e ≡ (if b then enter_with w slot e (recorded w.table e.function th) else Some (marked w))
+enters_by w slot th e b h =
+    let by : Bool → Option World = λ x. if x then enter_with w slot e (recorded w.table e.function th) else Some (marked w) in
+    ap by h
 
-pub enters_wrong : (text : List BareDef) (w : World) (slot : ℕ) (th : SeenThread) (e : SeenEnter) → w.table ≡ first_table text
-    → is_right (first_table text) e.version e.function ≡ false → enter w slot th e ≡ Some (marked w)
-enters_wrong text w slot th e same h =
-    let by : Bool → Option World = λ b. if b then enter_with w slot e (recorded w.table e.function th) else Some (marked w) in
-    ap by (right_at text w e false same h)
-
-enters_right : (text : List BareDef) (w : World) (slot : ℕ) (th : SeenThread) (e : SeenEnter) → w.table ≡ first_table text
-    → is_right (first_table text) e.version e.function ≡ true → enter w slot th e ≡ enter_with w slot e (recorded w.table e.function th)
-enters_right text w slot th e same h =
-    let by : Bool → Option World = λ b. if b then enter_with w slot e (recorded w.table e.function th) else Some (marked w) in
-    ap by (right_at text w e true same h)
+pub enters_wrong : (w : World) (slot : ℕ) (th : SeenThread) (e : SeenEnter)
+    → is_right w.table e.version e.function ≡ false → enter w slot th e ≡ Some (marked w)
+enters_wrong w slot th e h = enters_by w slot th e false h
 
 -- where there is no room it traps
-pub enters_deep : (text : List BareDef) (w : World) (slot : ℕ) (th : SeenThread) (e : SeenEnter) → w.table ≡ first_table text
-    → is_right (first_table text) e.version e.function ≡ true → (length th.frames == frame_count) ≡ true
+pub enters_deep : (w : World) (slot : ℕ) (th : SeenThread) (e : SeenEnter)
+    → is_right w.table e.version e.function ≡ true → (length th.frames == frame_count) ≡ true
     → enter w slot th e ≡ Some (record (with_thread slot (recorded w.table e.function th) w) { finish = Some (Trapped Depth slot) })
-enters_deep text w slot th e same h deep =
+enters_deep w slot th e h deep =
     let user = recorded w.table e.function th in
     let by : Bool → Option World = λ b.
     if b
     then Some (record (with_thread slot user w) { finish = Some (Trapped Depth slot) })
     else Some (with_thread slot (record user { frames = entered_frame w e ∷ user.frames; entering = None }) w) in
-    enters_right text w slot th e same h ∙ ap by deep
+    enters_by w slot th e true h ∙ ap by deep
 
 -- else its frame is the innermost
-pub enters : (text : List BareDef) (t : Table) (w : World) (slot : ℕ) (th : SeenThread) (own : Thread) (due : Enter) (frame : Frame)
-    → w.table ≡ first_table text → is_right (first_table text) due.version (word t due.function) ≡ true
+pub enters : (versions : List (List BareDef)) (t : Table) (w : World) (slot : ℕ) (th : SeenThread) (own : Thread) (due : Enter) (frame : Frame)
+    → IsHistory versions w.table → (length versions ≡ 1 → w.table ≡ first_table (last_text versions))
+    → is_right w.table due.version (word t due.function) ≡ true
     → (length th.frames == frame_count) ≡ false
-    → IsThread text t false own (next.Enter due) th
-    → frame_of t frame ≡ entered (definition text) (word t due.function) (current (first_table text)) (map seen due.arguments.items)
-    → Goes text t w slot own frame (enter w slot th (enter_of t due))
-enters text t w slot th own due frame same h room is made = (
+    → IsThread versions t false own (next.Enter due) th
+    → frame_of t frame ≡ entered (definition (last_text versions)) (word t due.function) (length versions) (map seen due.arguments.items)
+    → Goes versions t w slot own frame (enter w slot th (enter_of t due))
+enters versions t w slot th own due frame history first h room is made = (
   after,
-  enters_right text w slot th e same h ∙ ap by room,
+  enters_by w slot th e true h ∙ ap by room,
   record {
     serial = is.serial;
     depth = is.depth;
-    uses = entering_uses text w th due.version (word t due.function) same h is.uses;
+    uses = entering_uses versions w th due.version (word t due.function) history first h is.uses;
     entering = refl;
     frames = ap₂ (λ f fs. f ∷ fs) frame_is (is.does refl).1;
   },
@@ -84,24 +81,25 @@ enters text t w slot th own due frame same h room is made = (
 
     frame_is : entered_frame w e ≡ frame_of t frame
     frame_is =
-        let of : Definitions → ℕ → SeenFrame = λ look n. entered look e.function n e.arguments in
-        let version : Versioned → ℕ = λ tb. current tb in
-        ap₂ of (now_first text w same) (ap version same) ∙ sym made
+        enters_alike (now w) (definition (last_text versions)) (last_as_current versions w.table history) e.function (current w.table) e.arguments
+        ∙ ap (λ n. entered (definition (last_text versions)) e.function n e.arguments) history.count
+        ∙ sym made
 
 -- the thread of a slot where it trapped
-pub deep_thread : (text : List BareDef) (t : Table) (w : World) (th : SeenThread) (own : Thread) (due : Enter) (n : Next)
-    → w.table ≡ first_table text → is_right (first_table text) due.version (word t due.function) ≡ true
-    → IsThread text t false own (next.Enter due) th → IsThread text t true own n (recorded w.table (word t due.function) th)
-deep_thread text t w th own due n same h is = record {
+pub deep_thread : (versions : List (List BareDef)) (t : Table) (w : World) (th : SeenThread) (own : Thread) (due : Enter) (n : Next)
+    → IsHistory versions w.table → (length versions ≡ 1 → w.table ≡ first_table (last_text versions))
+    → is_right w.table due.version (word t due.function) ≡ true
+    → IsThread versions t false own (next.Enter due) th → IsThread versions t true own n (recorded w.table (word t due.function) th)
+deep_thread versions t w th own due n history first h is = record {
   serial = is.serial;
   depth = is.depth;
-  uses = entering_uses text w th due.version (word t due.function) same h is.uses;
+  uses = entering_uses versions w th due.version (word t due.function) history first h is.uses;
   does = λ going. absurd (true_is_not_false going);
 }
 
 -- how many frames it has
-pub frames_are : (text : List BareDef) (t : Table) (th : SeenThread) (own : Thread) (due : Enter) (b : Bool) → IsThread text t false own (next.Enter due) th
+pub frames_are : (versions : List (List BareDef)) (t : Table) (th : SeenThread) (own : Thread) (due : Enter) (b : Bool) → IsThread versions t false own (next.Enter due) th
     → (length own.below.items == frame_count) ≡ b → (length th.frames == frame_count) ≡ b
-frames_are text t th own due b is h =
+frames_are versions t th own due b is h =
     ap (λ fs. length fs == frame_count) (is.does refl).1
     ∙ ap (λ n. n == frame_count) (length-map (reverse own.below.items) (frame_of t) ∙ length-reverse own.below.items) ∙ h

@@ -133,6 +133,6 @@ allocates t text slot old new tag values after room added changed left =
     let w = with_store t old s.world in
     ap (λ b. if b then goes_on st w (Reference None ∷ newest values) else goes_on st (record w { objects = os ++ new_object w tag ∷ [] }) more)
     (other_number (count_by (λ o. o.live) os) old.capacity room)
-    ∙ ap (λ look. goes_on st (record w { objects = os ++ record { tag = tag; fields = zero_fields (members_of (look (struct_name tag))); live = true } ∷ [] }) more) defined)
+    ∙ ap (λ ms. goes_on st (record w { objects = os ++ record { tag = tag; fields = zero_fields ms; live = true } ∷ [] }) more) (defined tag))
     (λ w defined. changed w ∙ ap (λ l. record (with_store t old w) { objects = l }) added)
     left

@@ -1,31 +1,32 @@
--- Uses of the first table, and the definitions of a world that has it.
-use Rattle.std.proofs.Common.{◌≡◌, ℕ, ◌==◌, Bool, true, false, ◌&&◌, List, IsTrue, refl, sym, ap, ◌∙◌}
+-- Uses by the texts of the versions.
+use Rattle.std.proofs.Common.{◌≡◌, ℕ, true, false, List, IsTrue, length, Option, Some, None, refl, sym, ap, ◌∙◌}
 use Rattle.std.specs.Option.{is_some}
 use Rattle.c_tree.specs.BareExpr.{Bytes}
 use Rattle.c_tree.specs.BareDef.{BareDef}
-use Rattle.c_semantics.specs.Texts.{Definitions, definition}
-use Rattle.source_model.specs.Versions.{Table, current, first_table, in_version}
-use Rattle.source_model.specs.Worlds.{World, now}
+use Rattle.c_semantics.specs.Texts.{definition}
+use Rattle.c_semantics.specs.Changes.{agree, same_interface}
+use Rattle.source_model.specs.Versions.{Table, first_table}
 use Rattle.source_model.specs.Uses.{use_of, is_right}
+use Rattle.version_laws.specs.Histories.{IsHistory, last_text, text_in}
 use Rattle.source_runner.specs.Machines.{IsOfFirst}
-use Rattle.source_runner.proofs.FirstTable.{current_is, right_first, use_of_first}
+use Rattle.version_laws.proofs.TableHistories.{right_by_texts}
+use Rattle.source_runner.proofs.FirstTable.{use_of_first}
 
-second : (a b : Bool) → (a && b) ≡ true → IsTrue b
-second true true h = refl
-second true false h = absurd (no h)
+agree_some : (a b : Option BareDef) → agree same_interface a b ≡ true → IsTrue (is_some b)
+agree_some (Some a) (Some b) h = refl
+agree_some (Some a) None h = h
+agree_some None b h = absurd (no h)
   where
     no : false ≡ true → ⊥
     no e = cc
-second false b h = absurd (no h)
-  where
-    no : false ≡ true → ⊥
-    no e = cc
 
--- a right use is one of the first entry of a name that is defined
-pub first_use : (text : List BareDef) (n : ℕ) (name : Bytes) → is_right (first_table text) n name ≡ true → IsOfFirst text (use_of (first_table text) name)
-first_use text n name right =
-    (use_of_first text name, second (n == 1) (is_some (definition text name)) (sym (right_first text n name) ∙ right))
-
--- the definitions now are the text's
-pub now_first : (text : List BareDef) (w : World) → w.table ≡ first_table text → now w ≡ definition text
-now_first text w e = let of : Table → Definitions = λ tb. in_version tb (current tb) in ap of e ∙ current_is text
+-- a right use is of a name that is defined, and of its first entry where one text was in force so far
+pub first_use : (versions : List (List BareDef)) (table : Table) (n : ℕ) (name : Bytes)
+    → IsHistory versions table → (length versions ≡ 1 → table ≡ first_table (last_text versions))
+    → is_right table n name ≡ true → IsOfFirst versions (use_of table name)
+first_use versions table n name history first right = λ one.
+    let entry : Table → ℕ = λ tb. (use_of tb name).entry in
+    let now = definition (last_text versions) name in (
+      ap entry (first one) ∙ use_of_first (last_text versions) name,
+      agree_some (definition (text_in versions n) name) now (sym (right_by_texts versions table history n name) ∙ right),
+    )

@@ -21,16 +21,16 @@ use Rattle.local_evaluation.specs.declared.value.Value.{Value}
 use Rattle.local_evaluation.specs.declared.value.Value.TheVariants.{Number as NumberIs, Reference, Started}
 use Rattle.source_runner.specs.declared.store.Store.{Store}
 use Rattle.source_runner.specs.declared.shared_stops.Did.TheVariants.{On, Trap, Nothing}
-use Rattle.source_runner.specs.declared.store.Cells.{Cells}
-use Rattle.source_runner.specs.declared.places.Places.{Places}
-use Rattle.source_runner.specs.Places.{place_in}
+use Rattle.source_programs.specs.declared.globals.Cells.{Cells}
+use Rattle.source_programs.specs.declared.places.Places.{Places}
+use Rattle.source_programs.specs.Places.{place_in}
 use Rattle.resolved_tree.specs.Nodes.{Table}
 use Rattle.local_evaluation.specs.Values.{seen}
-use Rattle.source_runner.specs.Globals.{cells_of, globals_of}
+use Rattle.source_programs.specs.Globals.{cells_of, globals_of}
 use Rattle.source_runner.specs.Stores.{Performs, standing_with, with_store}
 use Rattle.local_evaluation.specs.Work.{newest}
 use Rattle.source_runner.proofs.Performing.{goes}
-use Rattle.source_runner.proofs.Placed.{found_at, nowhere}
+use Rattle.source_programs.proofs.Placed.{found_at, nowhere}
 
 abbrev pub named : Bytes → world.Cells → Bool
 named name g = bytes_eq name g.name

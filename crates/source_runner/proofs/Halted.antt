@@ -17,20 +17,20 @@ pub true_is_not_false : true ≡ false → ⊥
 true_is_not_false e = cc
 
 -- a thread, whatever it would do next
-pub halted_thread : (text : List BareDef) (t : Table) (over after : Bool) (th : Thread) (n m : Next) (own : SeenThread)
-    → after ≡ true → IsThread text t over th n own → IsThread text t after th m own
-halted_thread text t over after th n m own e h = record {
+pub halted_thread : (versions : List (List BareDef)) (t : Table) (over after : Bool) (th : Thread) (n m : Next) (own : SeenThread)
+    → after ≡ true → IsThread versions t over th n own → IsThread versions t after th m own
+halted_thread versions t over after th n m own e h = record {
   serial = h.serial;
   depth = h.depth;
   uses = h.uses;
   does = λ going. absurd (true_is_not_false (sym e ∙ going));
 }
 
-pub halted_slot : (text : List BareDef) (t : Table) (over after : Bool) (s : Slot) (own : world.Slot)
-    → after ≡ true → IsSlot text t over s own → IsSlot text t after s own
-halted_slot text t over after Free own e h = h
-halted_slot text t over after (Live th n) own e (m, is, h) = (m, is, halted_thread text t over after th n n m e h)
-halted_slot text t over after (Over serial value) own e h = h
+pub halted_slot : (versions : List (List BareDef)) (t : Table) (over after : Bool) (s : Slot) (own : world.Slot)
+    → after ≡ true → IsSlot versions t over s own → IsSlot versions t after s own
+halted_slot versions t over after Free own e h = h
+halted_slot versions t over after (Live th n) own e (m, is, h) = (m, is, halted_thread versions t over after th n n m e h)
+halted_slot versions t over after (Over serial value) own e h = h
 
 pub or_true : (b : Bool) → (b || true) ≡ true
 or_true true = refl
@@ -42,7 +42,9 @@ pub finished : (m : Machine) (slot : ℕ) (w : World) (before : SeenThread) (f :
 finished m slot w before f h = record {
   all = record {
     program = h.all.program;
-    table = h.all.table;
+    history = h.all.history;
+    text = h.all.text;
+    first = h.all.first;
     store = let on : World → World = λ v. record v { finish = Some (finish_of f) } in ap on h.all.store;
     threads = h.all.threads;
     misused = h.all.misused;
@@ -62,7 +64,9 @@ pub misused : (m : Machine) (slot : ℕ) (w : World) (before : SeenThread) → S
 misused m slot w before h = record {
   all = record {
     program = h.all.program;
-    table = h.all.table;
+    history = h.all.history;
+    text = h.all.text;
+    first = h.all.first;
     store = let on : World → World = λ v. record v { misused = true } in ap on h.all.store;
     threads = h.all.threads;
     misused = refl;
@@ -90,10 +94,10 @@ with_same m slot w before h =
     ap (λ ss. record w { slots = ss }) (put_same w.slots slot (world.Live before) world.Free (subst (λ n. slot < n) (sym h.all.count) h.within) h.own)
 
 -- in a run that goes on
-pub at_over : (text : List BareDef) (t : Table) (over : Bool) (th : Thread) (n : Next) (own : SeenThread) → over ≡ false
-    → IsThread text t false th n own → IsThread text t over th n own
-at_over text t over th n own e h = subst (λ b. IsThread text t b th n own) (sym e) h
+pub at_over : (versions : List (List BareDef)) (t : Table) (over : Bool) (th : Thread) (n : Next) (own : SeenThread) → over ≡ false
+    → IsThread versions t false th n own → IsThread versions t over th n own
+at_over versions t over th n own e h = subst (λ b. IsThread versions t b th n own) (sym e) h
 
-pub not_over : (text : List BareDef) (t : Table) (over : Bool) (th : Thread) (n : Next) (own : SeenThread) → over ≡ false
-    → IsThread text t over th n own → IsThread text t false th n own
-not_over text t over th n own e h = subst (λ b. IsThread text t b th n own) e h
+pub not_over : (versions : List (List BareDef)) (t : Table) (over : Bool) (th : Thread) (n : Next) (own : SeenThread) → over ≡ false
+    → IsThread versions t over th n own → IsThread versions t false th n own
+not_over versions t over th n own e h = subst (λ b. IsThread versions t b th n own) e h

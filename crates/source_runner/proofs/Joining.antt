@@ -17,7 +17,7 @@ use Rattle.source_runner.specs.declared.thread.Slot.{Slot}
 use Rattle.source_runner.specs.declared.thread.Slot.TheVariants.{Free, Live, Over}
 use Rattle.source_runner.specs.declared.machine.Machine.{Machine}
 use Rattle.resolved_tree.specs.Nodes.{Table}
-use Rattle.source_runner.specs.Programs.{table_of}
+use Rattle.source_programs.specs.Programs.{table_of}
 use Rattle.source_runner.specs.Joins.{result_in, result_of}
 use Rattle.local_evaluation.specs.Values.{seen, seen_thread}
 use Rattle.local_evaluation.specs.Work.{newest}
@@ -35,12 +35,12 @@ by_serial v s place values true = refl
 by_serial v s place values false = refl
 
 -- a slot
-joins_slot : (text : List BareDef) (t : Table) (over : Bool) (x : Slot) (o : world.Slot) (s : Standing) (named : ThreadRef) (values : List Seen)
-    → IsSlot text t over x o → join_slot s (seen_thread named) values o ≡ joins (result_in x named.serial) s named.slot values
-joins_slot text t over Free o s named values is = ap (join_slot s (seen_thread named) values) is
-joins_slot text t over (Over ended v) o s named values is =
+joins_slot : (versions : List (List BareDef)) (t : Table) (over : Bool) (x : Slot) (o : world.Slot) (s : Standing) (named : ThreadRef) (values : List Seen)
+    → IsSlot versions t over x o → join_slot s (seen_thread named) values o ≡ joins (result_in x named.serial) s named.slot values
+joins_slot versions t over Free o s named values is = ap (join_slot s (seen_thread named) values) is
+joins_slot versions t over (Over ended v) o s named values is =
     ap (join_slot s (seen_thread named) values) is ∙ by_serial v s named.slot values (ended == named.serial)
-joins_slot text t over (Live th n) o s named values (m, is, h) = ap (join_slot s (seen_thread named) values) is
+joins_slot versions t over (Live th n) o s named values (m, is, h) = ap (join_slot s (seen_thread named) values) is
 
 -- the slot of a named thread
 joins_named : (m : Machine) (slot : ℕ) (w : World) (before user : SeenThread) (th : Thread) (f : Frame) (point : ℕ) (named : ThreadRef) (values : List Seen)

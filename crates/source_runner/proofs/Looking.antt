@@ -1,16 +1,18 @@
 -- What is seen of threads where nothing changes.
-use Rattle.std.proofs.Common.{◌≡◌, ℕ, ◌+◌, ◌<◌, ◌≤◌, Bool, true, false, ◌||◌, List, length, take, get_or, refl, sym, ap, ap₂, subst, ◌∙◌, arith}
+use Rattle.std.proofs.Common.{Some, ◌≡◌, ℕ, ◌+◌, ◌<◌, ◌≤◌, Bool, true, false, ◌||◌, List, length, take, get_or, refl, sym, ap, ap₂, subst, ◌∙◌, arith}
 use Rattle.std.specs.Option.{is_some}
 use Rattle.std.specs.List.{list_any, range_with_len}
 use Rattle.std.proofs.lemmas.List.{take_all}
 use Rattle.std.proofs.lemmas.List.FromFn.{get_or-range_with_len, length-range_with_len}
 use Rattle.std.proofs.lemmas.List.Folds.{list_any_at, list_any_more}
 use Rattle.c_tree.specs.BareDef.{BareDef}
-use Rattle.c_semantics.specs.Threads.{Thread as SeenThread}
+use Rattle.c_tree.specs.BareExpr.{Bytes}
+use Rattle.c_semantics.specs.Threads.{Frame as SeenFrame, Thread as SeenThread}
 use Rattle.source_model.specs.Guards.{frames_lead, move_leads}
 use Rattle.source_model.specs.Moves.{stop_made, thread_move}
 use Rattle.source_model.specs.Worlds.{World, in_slot, is_over}
 use Rattle.local_evaluation.specs.declared.piece.Stop.{Stop}
+use Rattle.local_evaluation.specs.declared.work.Halt.{Halt as Halted}
 use Rattle.local_evaluation.specs.declared.work.Halt.TheVariants.{At}
 use Rattle.source_runner.specs.declared.thread.Frame.{Frame}
 use Rattle.source_runner.specs.declared.thread.Next.{Next}
@@ -19,8 +21,11 @@ use Rattle.source_runner.specs.declared.thread.Thread.{Thread}
 use Rattle.source_runner.specs.declared.thread.Slot.TheVariants.{Live}
 use Rattle.source_runner.specs.declared.machine.Machine.{Machine}
 use Rattle.resolved_tree.specs.Nodes.{Table}
-use Rattle.source_runner.specs.Frames.{frames_of}
-use Rattle.source_runner.specs.Machines.{IsThread, Stands, frame_at, slot_at}
+use Rattle.source_programs.specs.Programs.{table_of}
+use Rattle.source_runner.specs.declared.queries.FrameAt.{FrameAt}
+use Rattle.source_runner.specs.Frames.{frame_of, frames_of}
+use Rattle.source_runner.specs.Queries.{Place, innermost, innermost_in, place_at, place_of}
+use Rattle.source_runner.specs.Machines.{IsFrame, IsThread, Stands, frame_at, slot_at}
 use Rattle.local_evaluation.specs.Pieces.{stop_of}
 use Rattle.source_runner.proofs.Halted.{not_over}
 use Rattle.source_runner.proofs.Stopping.{resumes_at, thread_at}
@@ -54,13 +59,13 @@ one_of_all p n i below e =
 -- ---- threads
 
 -- the move of one at a stop
-pub moves_at : (text : List BareDef) (t : Table) (w : World) (slot : ℕ) (th : Thread) (f : Frame) (stop : Stop) (point : ℕ)
+pub moves_at : (versions : List (List BareDef)) (t : Table) (w : World) (slot : ℕ) (th : Thread) (f : Frame) (stop : Stop) (point : ℕ)
     (n : Next) (own : SeenThread)
-    → n ≡ Halt f (At stop point) → IsThread text t false th n own
+    → n ≡ Halt f (At stop point) → IsThread versions t false th n own
     → thread_move w slot own own.entering
     ≡ stop_made (stop_of t stop) w slot own (frame_at t f point) (frames_of t th.below.items)
-moves_at text t w slot th f stop point n own e h =
-    let next = (thread_at text t false th n (Halt f (At stop point)) own e h).does refl in
+moves_at versions t w slot th f stop point n own e h =
+    let next = (thread_at versions t false th n (Halt f (At stop point)) own e h).does refl in
     let frame = next.1 in
     ap (thread_move w slot own) next.0
     ∙ resumes_at t w slot own f stop point (frames_of t th.below.items) frame.0 frame.1 frame.2
@@ -68,9 +73,29 @@ moves_at text t w slot th f stop point n own e h =
 -- the one in a slot leads to a check-in where what it does next does
 pub thread_leads : (m : Machine) (w : World) (slot : ℕ) (th : Thread) (n : Next) (b : Bool)
     → Stands m w → is_over w ≡ false → slot_at m.slots.items slot ≡ Live th n
-    → ((text : List BareDef) (t : Table) (own : SeenThread) → IsThread text t false th n own
+    → ((versions : List (List BareDef)) (t : Table) (own : SeenThread) → IsThread versions t false th n own
     → b ≡ (is_some own.entering || frames_lead own.frames))
     → b ≡ move_leads (in_slot w slot)
 thread_leads m w slot th n b h going e leads =
     let there = lives m w slot th n h e in
     leads _ _ there.0 (not_over _ _ _ _ _ _ going there.2) ∙ ap move_leads (sym there.1)
+
+-- where a frame is, whose private work was done ahead
+place_is : (t : Table) (f : Frame) (halt : Halted) (own : SeenFrame) → IsFrame t f halt own → place_of (frame_of t f) ≡ place_of own
+place_is t f halt own is =
+    let at : Bytes → ℕ → ℕ → Place = λ name version point. record { function = name; version = version; point = point } in
+    ap (λ name. at name f.version f.standing) (sym is.function)
+    ∙ ap (λ version. at own.function version f.standing) (sym is.version)
+    ∙ ap (at own.function own.version) (sym is.standing)
+
+-- the innermost frame of a thread that enters nothing
+pub innermost_halts : (m : Machine) (w : World) (slot : ℕ) (th : Thread) (n : Next) (f : Frame) (halt : Halted) (at : FrameAt)
+    → Stands m w → is_over w ≡ false → slot_at m.slots.items slot ≡ Live th n → n ≡ Halt f halt
+    → place_at (table_of m.program) at ≡ place_of (frame_of (table_of m.program) f)
+    → Some (place_at (table_of m.program) at) ≡ innermost_in (in_slot w slot)
+innermost_halts m w slot th n f halt at h going e next is =
+    let there = lives m w slot th (Halt f halt) h (e ∙ ap (Live th) next) in
+    let does = (not_over _ _ _ _ _ _ going there.2).does refl in
+    ap Some (is ∙ place_is (table_of m.program) f halt does.1.0 does.1.2)
+    ∙ ap innermost (sym does.1.1)
+    ∙ ap innermost_in (sym there.1)

@@ -1,10 +1,9 @@
 -- How a stop is made of a thread with what is shared.
 use Rattle.std.proofs.Common.{◌≡◌, ℕ, ◌==◌, true, false, List, Result, IfOk, sym, ap, subst, ◌∙◌, rules, tests}
 use Rattle.c_tree.specs.BareDef.{BareDef}
-use Rattle.c_semantics.specs.Texts.{definition}
 use Rattle.c_semantics.specs.Stops.{Stop}
 use Rattle.c_semantics.specs.Values.{Value as Seen}
-use Rattle.source_model.specs.Worlds.{World, now}
+use Rattle.source_model.specs.Worlds.{World}
 use Rattle.source_model.specs.Moves.{Standing, goes_on, perform}
 use Rattle.local_evaluation.specs.declared.value.Value.{Value}
 use Rattle.source_runner.specs.declared.store.Store.{Store}
@@ -12,14 +11,14 @@ use Rattle.source_runner.specs.declared.shared_stops.Did.{Did}
 use Rattle.source_runner.specs.declared.shared_stops.Did.TheVariants.{On}
 use Rattle.resolved_tree.specs.Nodes.{Table}
 use Rattle.local_evaluation.specs.Work.{newest}
-use Rattle.source_runner.specs.Stores.{Performs, standing_with, with_store}
+use Rattle.source_runner.specs.Stores.{Performs, SeesLayouts, standing_with, with_store}
 
 -- the thread goes on: what is shared changes as the stop says, and so do the values
 pub goes : (t : Table) (text : List BareDef) (slot : ℕ) (stop : Stop) (old new : Store) (values after : List Value)
     (change : World → World) (more : List Seen)
-    → ((s : Standing) → s.slot ≡ slot → now s.world ≡ definition text
+    → ((s : Standing) → s.slot ≡ slot → SeesLayouts text s.world
     → perform stop (standing_with t old s) (newest values) ≡ goes_on (standing_with t old s) (change (with_store t old s.world)) more)
-    → ((w : World) → now w ≡ definition text → with_store t new w ≡ change (with_store t old w))
+    → ((w : World) → SeesLayouts text w → with_store t new w ≡ change (with_store t old w))
     → newest after ≡ more
     → Performs t text slot stop old values On new after
 goes t text slot stop old new values after change more made changed left = λ s at defined.

@@ -1,5 +1,5 @@
 -- From what a thread is at to the move that the definitions make of it.
-use Rattle.std.proofs.Common.{◌≡◌, ℕ, zero, suc, Bool, true, false, List, [], ◌∷◌, Option, Some, None, Result, refl, sym, ap, ap₂, subst, ◌∙◌, if◌then◌else◌, All}
+use Rattle.std.proofs.Common.{◌≡◌, ℕ, zero, suc, Bool, true, false, List, [], ◌∷◌, length, Option, Some, None, Result, refl, sym, ap, ap₂, subst, ◌∙◌, if◌then◌else◌, All}
 use Rattle.std.specs.Option.{option_map_or}
 use Rattle.std.specs.declared.alloc.AllocError.{AllocError}
 use Rattle.std.specs.declared.alloc.Global.{Global}
@@ -10,8 +10,8 @@ use Rattle.c_tree.specs.BareDef.{BareDef}
 use Rattle.c_semantics.specs.Stops.{Stop as SeenStop}
 use Rattle.c_semantics.specs.Pieces.{Halt as SeenHalt}
 use Rattle.c_semantics.specs.Threads.{Frame as SeenFrame, Record, Thread as SeenThread}
-use Rattle.source_model.specs.Versions as versions
-use Rattle.source_model.specs.Versions.{first_table}
+use Rattle.source_model.specs.Versions.{Table as Versioned, first_table}
+use Rattle.version_laws.specs.Histories.{IsHistory, last_text}
 use Rattle.bytecode.specs.declared.trap.TrapKind.{TrapKind}
 use Rattle.source_model.specs.Worlds.{World, Trapped, is_over, with_thread}
 use Rattle.source_model.specs.Worlds as world
@@ -31,7 +31,7 @@ use Rattle.resolved_tree.specs.Nodes.{Table}
 use Rattle.source_runner.specs.Stores.{is_threads}
 use Rattle.local_evaluation.specs.Pieces.{pending, stop_of}
 use Rattle.local_evaluation.specs.Work.{newest, scopes_of, went}
-use Rattle.source_runner.specs.Programs.{text_of, table_of}
+use Rattle.source_programs.specs.Programs.{versions_of, table_of}
 use Rattle.source_runner.proofs.FirstUse.{first_use}
 use Rattle.source_runner.proofs.Halted.{with_same}
 use Rattle.source_runner.specs.Machines.{Moves, IsAtStop, IsFrame, IsOfFirst, IsThread, IsUser, StandsBut, frame_at, standing_at}
@@ -74,44 +74,43 @@ right_use s w slot th f below (Some name) e =
     let by : Bool → Option World = λ b. if b then made else Some (marked w) in ap by e
 
 -- a thread that is put where it was, by the stop at which it stands
-pub thread_at : (text : List BareDef) (t : Table) (over : Bool) (th : Thread) (n other : Next) (own : SeenThread) → n ≡ other
-    → IsThread text t over th n own → IsThread text t over th other own
-thread_at text t over th n other own e h = subst (λ x. IsThread text t over th x own) e h
+pub thread_at : (versions : List (List BareDef)) (t : Table) (over : Bool) (th : Thread) (n other : Next) (own : SeenThread) → n ≡ other
+    → IsThread versions t over th n own → IsThread versions t over th other own
+thread_at versions t over th n other own e h = subst (λ x. IsThread versions t over th x own) e h
 
--- a use of the first table that is right is recorded by the first entry of a name that is defined
-recorded_uses : (text : List BareDef) (n depth : ℕ) (uses : Record) (name : Bytes) → is_right (first_table text) n name ≡ true
-    → All (IsOfFirst text) uses → All (IsOfFirst text) (recorded_at depth uses (use_of (first_table text) name))
-recorded_uses text n zero uses name right h = h
-recorded_uses text n (suc depth) uses name right h = All-append (IsOfFirst text) uses (use_of (first_table text) name ∷ []) h
-    (All-cons (IsOfFirst text) (use_of (first_table text) name) [] (first_use text n name right) (All-nil (IsOfFirst text)))
+-- where one text was in force so far, a use that is right is recorded by the first entry of a name that is defined
+recorded_uses : (versions : List (List BareDef)) (table : Versioned) (n depth : ℕ) (uses : Record) (name : Bytes)
+    → IsHistory versions table → (length versions ≡ 1 → table ≡ first_table (last_text versions)) → is_right table n name ≡ true
+    → All (IsOfFirst versions) uses → All (IsOfFirst versions) (recorded_at depth uses (use_of table name))
+recorded_uses versions table n zero uses name history first right h = h
+recorded_uses versions table n (suc depth) uses name history first right h = All-append (IsOfFirst versions) uses (use_of table name ∷ []) h
+    (All-cons (IsOfFirst versions) (use_of table name) [] (first_use versions table n name history first right) (All-nil (IsOfFirst versions)))
 
 -- the thread after a use that is right
-pub user_stands : (text : List BareDef) (t : Table) (w : World) (th : Thread) (n : Next) (own : SeenThread) (version : ℕ) (u : Option Bytes)
-    → w.table ≡ first_table text → own.entering ≡ None → IsThread text t false th n own → all_right w version u ≡ true
-    → IsUser text th (user_of w own u)
-user_stands text t w th n own version None table none h right =
+pub user_stands : (versions : List (List BareDef)) (t : Table) (w : World) (th : Thread) (n : Next) (own : SeenThread) (version : ℕ) (u : Option Bytes)
+    → IsHistory versions w.table → (length versions ≡ 1 → w.table ≡ first_table (last_text versions)) → own.entering ≡ None
+    → IsThread versions t false th n own → all_right w version u ≡ true
+    → IsUser versions th (user_of w own u)
+user_stands versions t w th n own version None history first none h right =
     record { serial = h.serial; depth = h.depth; uses = h.uses; entering = none }
-user_stands text t w th n own version (Some name) table none h right = record {
+user_stands versions t w th n own version (Some name) history first none h right = record {
   serial = h.serial;
   depth = h.depth;
-  uses =
-      let of : versions.Table → Type 0 = λ tb. All (IsOfFirst text) (recorded_at own.depth own.uses (use_of tb name)) in
-      subst of (sym table)
-      (recorded_uses text version own.depth own.uses name (ap (λ tb. is_right tb version name) (sym table) ∙ right) h.uses);
+  uses = recorded_uses versions w.table version own.depth own.uses name history first right h.uses;
   entering = none;
 }
 
 -- a thread at a stop whose use is right
 pub at_stop : (m : Machine) (slot : ℕ) (th : Thread) (f : Frame) (stop other : Stop) (point : ℕ) (w : World) (before : SeenThread)
     → stop ≡ other → StandsBut m slot w before → is_over w ≡ false
-    → IsThread (text_of m.program) (table_of m.program) false th (next.Halt f (At stop point)) before
+    → IsThread (versions_of m.program) (table_of m.program) false th (next.Halt f (At stop point)) before
     → all_right w f.version (use_at (stop_of (table_of m.program) stop)) ≡ true
     → IsAtStop m slot th f other point w before (user_of w before (use_at (stop_of (table_of m.program) stop)))
 at_stop m slot th f stop other point w before e but going same right = record {
   but = but;
   going = going;
   same = thread_at _ _ _ _ _ _ _ (ap (λ s. next.Halt f (At s point)) e) same;
-  used = user_stands _ _ w _ _ _ f.version _ but.all.table (same.does refl).0 same right;
+  used = user_stands _ _ w _ _ _ f.version _ but.all.history but.all.first (same.does refl).0 same right;
 }
 
 -- the stop as the definitions make it
@@ -149,12 +148,6 @@ resumes_at t w slot th f stop point below own e is =
     λ name version. stop_made (stop_of t stop) w slot th (record (frame_at t f point) { function = name; version = version }) below
     in
     resumes t w slot th f (At stop point) below own e is ∙ ap₂ made is.function is.version
-
--- what the first table says of a use, said of the world's table
-pub right_of_first : (text : List BareDef) (w : World) (n : ℕ) (u : Option Bytes) (b : Bool) → w.table ≡ first_table text
-    → option_map_or (is_right (first_table text) n) u true ≡ b → all_right w n u ≡ b
-right_of_first text w n u b e h =
-    let of : versions.Table → Bool = λ tb. option_map_or (is_right tb n) u true in ap of e ∙ h
 
 -- a stop that is none of those that change threads
 pub not_of_threads : (t : Table) (stop : Stop) → ((name : Word) → stop ≡ Spawn name → ⊥) → (stop ≡ Join → ⊥)
@@ -207,17 +200,17 @@ ended_same m slot w before f h =
 pub frame_with : (t : Table) (f : Frame) (halt other : Halt) (own : SeenFrame) → halt ≡ other → IsFrame t f halt own → IsFrame t f other own
 frame_with t f halt other own e h = subst (λ x. IsFrame t f x own) e h
 
-pub user_before : (text : List BareDef) (t : Table) (th : Thread) (f : Frame) (halt : Halt) (own : SeenThread)
-    → IsThread text t false th (next.Halt f halt) own → IsUser text th own
-user_before text t th f halt own h = record { serial = h.serial; depth = h.depth; uses = h.uses; entering = (h.does refl).0 }
+pub user_before : (versions : List (List BareDef)) (t : Table) (th : Thread) (f : Frame) (halt : Halt) (own : SeenThread)
+    → IsThread versions t false th (next.Halt f halt) own → IsUser versions th own
+user_before versions t th f halt own h = record { serial = h.serial; depth = h.depth; uses = h.uses; entering = (h.does refl).0 }
 
-pub user_with : (text : List BareDef) (th : Thread) (below : Vec Frame Global) (own : SeenThread) → IsUser text th own
-    → IsUser text (record th { below = below }) own
-user_with text th below own h = record { serial = h.serial; depth = h.depth; uses = h.uses; entering = h.entering }
+pub user_with : (versions : List (List BareDef)) (th : Thread) (below : Vec Frame Global) (own : SeenThread) → IsUser versions th own
+    → IsUser versions (record th { below = below }) own
+user_with versions th below own h = record { serial = h.serial; depth = h.depth; uses = h.uses; entering = h.entering }
 
 -- the same of the use of an enter
-pub entering_uses : (text : List BareDef) (w : World) (own : SeenThread) (version : ℕ) (name : Bytes) → w.table ≡ first_table text
-    → is_right (first_table text) version name ≡ true → All (IsOfFirst text) own.uses → All (IsOfFirst text) (recorded w.table name own).uses
-entering_uses text w own version name table right h =
-    let of : versions.Table → Type 0 = λ tb. All (IsOfFirst text) (recorded_at own.depth own.uses (use_of tb name)) in
-    subst of (sym table) (recorded_uses text version own.depth own.uses name right h)
+pub entering_uses : (versions : List (List BareDef)) (w : World) (own : SeenThread) (version : ℕ) (name : Bytes)
+    → IsHistory versions w.table → (length versions ≡ 1 → w.table ≡ first_table (last_text versions)) → is_right w.table version name ≡ true
+    → All (IsOfFirst versions) own.uses → All (IsOfFirst versions) (recorded w.table name own).uses
+entering_uses versions w own version name history first right h =
+    recorded_uses versions w.table version own.depth own.uses name history first right h

@@ -4,6 +4,7 @@ use Rattle.std.specs.Prelude.{Vec}
 use Rattle.std.specs.declared.alloc.AllocError.{AllocError}
 use Rattle.std.specs.declared.alloc.Global.{Global}
 use Rattle.c_tree.specs.BareDef.{BareDef}
+use Rattle.c_semantics.specs.Names.{struct_name}
 use Rattle.c_semantics.specs.Threads.{Frame as SeenFrame, Thread as SeenThread, next_of}
 use Rattle.source_model.specs.Worlds.{World}
 use Rattle.source_model.specs.Moves.{gone_on, perform}
@@ -17,15 +18,16 @@ use Rattle.source_runner.specs.declared.thread.Frame.{Frame}
 use Rattle.source_runner.specs.declared.thread.Next.{Next}
 use Rattle.source_runner.specs.declared.thread.Next.TheVariants as next
 use Rattle.source_runner.specs.declared.thread.Thread.{Thread}
-use Rattle.source_runner.specs.declared.program.Program.{Program}
+use Rattle.source_programs.specs.declared.programs.Programs.{Programs}
 use Rattle.source_runner.specs.declared.machine.Machine.{Machine}
 use Rattle.resolved_tree.specs.Nodes.{Table}
 use Rattle.local_evaluation.specs.Pieces.{pending, stop_of}
 use Rattle.local_evaluation.specs.Work.{newest, scopes_of, went}
-use Rattle.source_runner.specs.Programs.{text_of, table_of}
+use Rattle.source_programs.specs.Programs.{current_of, table_of, versions_of}
 use Rattle.source_runner.specs.Stores.{Kept, Performs, came_to, standing_with, with_store}
 use Rattle.source_runner.specs.Machines.{IsFrame, IsReady, IsThread, IsUser, Moves, StandsBut, standing_at}
-use Rattle.source_runner.proofs.FirstUse.{now_first}
+use Rattle.version_laws.proofs.SameDefinitions.{members_alike}
+use Rattle.version_laws.proofs.TableHistories.{last_as_current}
 use Rattle.source_runner.proofs.Halted.{true_is_not_false}
 
 -- another store
@@ -34,7 +36,9 @@ pub stored : (m : Machine) (store : Store) (slot : ℕ) (w : World) (before : Se
 stored m store slot w before h = record {
   all = record {
     program = h.all.program;
-    table = h.all.table;
+    history = h.all.history;
+    text = h.all.text;
+    first = h.all.first;
     store = refl;
     threads = h.all.threads;
     misused = h.all.misused;
@@ -51,18 +55,19 @@ stored m store slot w before h = record {
 -- what the definitions make of the stop
 pub performed : (m : Machine) (slot : ℕ) (th : Thread) (f : Frame) (stop : Stop) (point : ℕ) (w : World) (before user : SeenThread)
     (did : Did) (new : Store) (after : List Value) → StandsBut m slot w before
-    → Performs (table_of m.program) (text_of m.program) slot (stop_of (table_of m.program) stop) m.store f.work.values.items did new after
+    → Performs (table_of m.program) (current_of m.program) slot (stop_of (table_of m.program) stop) m.store f.work.values.items did new after
     → perform (stop_of (table_of m.program) stop) (standing_at (table_of m.program) w slot th f point user) (newest f.work.values.items)
     ≡ came_to did (standing_with (table_of m.program) new (standing_at (table_of m.program) w slot th f point user)) (newest after)
 performed m slot th f stop point w before user did new after h performs =
     let t = table_of m.program in
     let at : World → Option World = λ v. perform (stop_of t stop) (standing_at t v slot th f point user) (newest f.work.values.items) in
-    ap at h.all.store ∙ performs (standing_at t w slot th f point user) refl (now_first (text_of m.program) w h.all.table)
+    ap at h.all.store ∙ performs (standing_at t w slot th f point user) refl
+    (λ tag. members_alike _ _ (last_as_current (versions_of m.program) w.table h.all.history (struct_name tag)))
 
 -- by what the stop came to
 pub performed_as : (m : Machine) (slot : ℕ) (th : Thread) (f : Frame) (stop : Stop) (point : ℕ) (w : World) (before user : SeenThread)
     (did other : Did) (new : Store) (after : List Value) → StandsBut m slot w before
-    → Performs (table_of m.program) (text_of m.program) slot (stop_of (table_of m.program) stop) m.store f.work.values.items did new after
+    → Performs (table_of m.program) (current_of m.program) slot (stop_of (table_of m.program) stop) m.store f.work.values.items did new after
     → did ≡ other
     → perform (stop_of (table_of m.program) stop) (standing_at (table_of m.program) w slot th f point user) (newest f.work.values.items)
     ≡ came_to other (standing_with (table_of m.program) new (standing_at (table_of m.program) w slot th f point user)) (newest after)
@@ -76,10 +81,10 @@ abbrev pub frame_then : Frame → ℕ → Vec Value Global → Frame
 frame_then f point values = record f { standing = point; work = record f.work { values = values } }
 
 -- the thread after it
-pub went_on : (text : List BareDef) (t : Table) (th : Thread) (f : Frame) (values : Vec Value Global) (point : ℕ) (w : World) (slot : ℕ) (user : SeenThread)
-    → IsUser text th user
-    → IsReady text t th (frame_then f point values) (gone_on (standing_at t w slot th f point user) (newest values.items))
-went_on text t th f values point w slot user h = record {
+pub went_on : (versions : List (List BareDef)) (t : Table) (th : Thread) (f : Frame) (values : Vec Value Global) (point : ℕ) (w : World) (slot : ℕ) (user : SeenThread)
+    → IsUser versions th user
+    → IsReady versions t th (frame_then f point values) (gone_on (standing_at t w slot th f point user) (newest values.items))
+went_on versions t th f values point w slot user h = record {
   serial = h.serial;
   depth = h.depth;
   uses = h.uses;
@@ -88,9 +93,9 @@ went_on text t th f values point w slot user h = record {
 }
 
 -- the thread where the run ends
-pub trapped : (text : List BareDef) (t : Table) (th : Thread) (n : Next) (frames : List SeenFrame) (over : Bool) (user : SeenThread) → over ≡ true
-    → IsUser text th user → IsThread text t over th n (record user { frames = frames })
-trapped text t th n frames over user e h =
+pub trapped : (versions : List (List BareDef)) (t : Table) (th : Thread) (n : Next) (frames : List SeenFrame) (over : Bool) (user : SeenThread) → over ≡ true
+    → IsUser versions th user → IsThread versions t over th n (record user { frames = frames })
+trapped versions t th n frames over user e h =
     record { serial = h.serial; depth = h.depth; uses = h.uses; does = λ going. absurd (true_is_not_false (sym e ∙ going)) }
 
 -- a move that was made, from whatever world
@@ -104,10 +109,10 @@ pub same_store : (m : Machine) (store : Store) (slot : ℕ) (w : World) (before 
     → StandsBut (record m { store = store }) slot w before
 same_store m store slot w before e h = subst (λ x. StandsBut (record m { store = x }) slot w before) (sym e) h
 
-pub same_values : (text : List BareDef) (t : Table) (over : Bool) (th : Thread) (f : Frame) (halt : Halt) (values : Vec Value Global) (own : SeenThread)
-    → values.items ≡ f.work.values.items → IsThread text t over th (next.Halt f halt) own
-    → IsThread text t over th (next.Halt (record f { work = record f.work { values = values } }) halt) own
-same_values text t over th f halt values own e h = record {
+pub same_values : (versions : List (List BareDef)) (t : Table) (over : Bool) (th : Thread) (f : Frame) (halt : Halt) (values : Vec Value Global) (own : SeenThread)
+    → values.items ≡ f.work.values.items → IsThread versions t over th (next.Halt f halt) own
+    → IsThread versions t over th (next.Halt (record f { work = record f.work { values = values } }) halt) own
+same_values versions t over th f halt values own e h = record {
   serial = h.serial;
   depth = h.depth;
   uses = h.uses;
@@ -127,6 +132,6 @@ pub kept_as : (did : Did) (old new : Store) (values after : List Value) → did 
 kept_as did old new values after e h = subst (λ d. Kept d old values new after) e h
 
 -- the same in a machine whose program is the same
-pub ready_in : (p q : Program) (th : Thread) (f : Frame) (own : SeenThread) → p ≡ q → IsReady (text_of p) (table_of p) th f own
-    → IsReady (text_of q) (table_of q) th f own
-ready_in p q th f own e h = subst (λ x. IsReady (text_of x) (table_of x) th f own) e h
+pub ready_in : (p q : Programs) (th : Thread) (f : Frame) (own : SeenThread) → p ≡ q → IsReady (versions_of p) (table_of p) th f own
+    → IsReady (versions_of q) (table_of q) th f own
+ready_in p q th f own e h = subst (λ x. IsReady (versions_of x) (table_of x) th f own) e h

@@ -7,7 +7,7 @@ use Rattle.resolved_tree.specs.declared.words.Word.{Word}
 use Rattle.source_runner.specs.declared.machine.Machine.{Machine}
 use Rattle.source_runner.specs.Machines.{StandsFor}
 use Rattle.resolved_tree.specs.Nodes.{Table, word}
-use Rattle.source_runner.specs.Programs.{table_of}
+use Rattle.source_programs.specs.Programs.{table_of}
 use Rattle.source_runner.specs.Stores.{with_store}
 use Rattle.source_runner.proofs.Performing.{other_number, same_number}
 

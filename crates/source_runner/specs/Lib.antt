@@ -1,13 +1,12 @@
-pub mod Definitions
+pub mod FoundChanges
 pub mod Frames
-pub mod Globals
 pub mod Joins
 pub mod Listed
-pub mod Loading
 pub mod Machines
 pub mod Makes
-pub mod Places
-pub mod Programs
+pub mod NewData
+pub mod OwnNames
+pub mod Queries
 pub mod SourceRuns
 pub mod States
 pub mod Stores

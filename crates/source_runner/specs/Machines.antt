@@ -35,7 +35,8 @@ use Rattle.local_evaluation.specs.Values.{seen, seen_thread}
 use Rattle.local_evaluation.specs.Pieces.{pending}
 use Rattle.local_evaluation.specs.Work.{newest, scopes_of, went}
 use Rattle.source_runner.specs.Frames.{frame_of, frames_of}
-use Rattle.source_runner.specs.Programs.{IsProgram, text_of, table_of}
+use Rattle.version_laws.specs.Histories.{IsHistory, last_text}
+use Rattle.source_programs.specs.Programs.{ArePrograms, current_of, table_of, versions_of}
 use Rattle.source_runner.specs.Stores.{with_store}
 
 -- an enter that is due
@@ -56,22 +57,23 @@ IsNext t (next.Enter e) below entering frames = (entering ≡ Some (enter_of t e
 IsNext t (next.Halt f halt) below entering frames =
     (entering ≡ None) × ((own : SeenFrame) × (frames ≡ own ∷ below) × IsFrame t f halt own)
 
--- the first entries of names that are defined: all that a transaction uses where no text was installed
-abbrev pub IsOfFirst : List BareDef → Use → Type 0
-IsOfFirst text use_made = (use_made.entry ≡ 0) × IsTrue (is_some (definition text use_made.name))
+-- a use of the first entry of a name that is defined, where there is one version alone
+abbrev pub IsOfFirst : List (List BareDef) → Use → Type 0
+IsOfFirst versions use_made =
+    length versions ≡ 1 → (use_made.entry ≡ 0) × IsTrue (is_some (definition (last_text versions) use_made.name))
 
 -- a thread; where the run has ended, what it does next is no matter
-pub record IsThread (text : List BareDef) (t : Table) (over : Bool) (th : Thread) (n : Next) (own : SeenThread) : Type 0 where
+pub record IsThread (versions : List (List BareDef)) (t : Table) (over : Bool) (th : Thread) (n : Next) (own : SeenThread) : Type 0 where
   pub serial : own.serial ≡ th.serial
   pub depth : own.depth ≡ th.depth
-  pub uses : All (IsOfFirst text) own.uses
+  pub uses : All (IsOfFirst versions) own.uses
   pub does : over ≡ false → IsNext t n (frames_of t th.below.items) own.entering own.frames
 
 -- a slot
-abbrev pub IsSlot : List BareDef → Table → Bool → Slot → world.Slot → Type 0
-IsSlot text t over Free own = own ≡ world.Free
-IsSlot text t over (Live th n) own = (m : SeenThread) × (own ≡ world.Live m) × IsThread text t over th n m
-IsSlot text t over (Over serial value) own = own ≡ world.Over serial (seen value)
+abbrev pub IsSlot : List (List BareDef) → Table → Bool → Slot → world.Slot → Type 0
+IsSlot versions t over Free own = own ≡ world.Free
+IsSlot versions t over (Live th n) own = (m : SeenThread) × (own ≡ world.Live m) × IsThread versions t over th n m
+IsSlot versions t over (Over serial value) own = own ≡ world.Over serial (seen value)
 
 -- the slot with a number; a slot that isn't there is free
 abbrev pub slot_at : List Slot → ℕ → Slot
@@ -83,53 +85,55 @@ finish_of (Finished r) = world.Finished (value_of r)
 finish_of (Trapped kind slot) = world.Trapped kind slot
 
 -- a transaction that was closed
-abbrev pub IsClosed : List BareDef → ℕ → world.Closed → Type 0
-IsClosed text slot own = (own.slot ≡ slot) × All (IsOfFirst text) own.uses
+abbrev pub IsClosed : List (List BareDef) → ℕ → world.Closed → Type 0
+IsClosed versions slot own = (own.slot ≡ slot) × All (IsOfFirst versions) own.uses
 
-abbrev pub AreClosed : List BareDef → List ℕ → List world.Closed → Type 0
-AreClosed text [] [] = Unit {0}
-AreClosed text (slot ∷ slots) (own ∷ others) = IsClosed text slot own × AreClosed text slots others
-AreClosed text [] (own ∷ others) = ⊥
-AreClosed text (slot ∷ slots) [] = ⊥
+abbrev pub AreClosed : List (List BareDef) → List ℕ → List world.Closed → Type 0
+AreClosed versions [] [] = Unit {0}
+AreClosed versions (slot ∷ slots) (own ∷ others) = IsClosed versions slot own × AreClosed versions slots others
+AreClosed versions [] (own ∷ others) = ⊥
+AreClosed versions (slot ∷ slots) [] = ⊥
 
 -- all of a machine but its slots stands for a world
 pub record StandsFor (m : Machine) (w : World) : Type 0 where
-  pub program : IsProgram m.program
-  pub table : w.table ≡ first_table (text_of m.program)
+  pub program : ArePrograms m.program
+  pub history : IsHistory (versions_of m.program) w.table
+  pub text : w.text ≡ current_of m.program
+  pub first : length (versions_of m.program) ≡ 1 → w.table ≡ first_table (current_of m.program)
   pub store : w ≡ with_store (table_of m.program) m.store w
   pub threads : w.threads ≡ m.threads
   pub misused : w.misused ≡ m.misused
-  pub closed : AreClosed (text_of m.program) m.closed.items w.closed
+  pub closed : AreClosed (versions_of m.program) m.closed.items w.closed
   pub finish : w.finish ≡ option_map finish_of m.finish
   pub count : length w.slots ≡ length m.slots.items
 
 -- a machine stands for a world
 pub record Stands (m : Machine) (w : World) : Type 0 where
   pub all : StandsFor m w
-  pub slots : (n : ℕ) → IsSlot (text_of m.program) (table_of m.program) (is_over w) (slot_at m.slots.items n) (in_slot w n)
+  pub slots : (n : ℕ) → IsSlot (versions_of m.program) (table_of m.program) (is_over w) (slot_at m.slots.items n) (in_slot w n)
 
 -- a machine stands for a world but for one slot, whose thread moves: in the world the thread is there still, and the
 -- machine has only that the slot isn't free
 pub record StandsBut (m : Machine) (slot : ℕ) (w : World) (before : SeenThread) : Type 0 where
   pub all : StandsFor m w
   pub within : slot < length m.slots.items
-  pub others : (n : ℕ) → (n ≡ slot → ⊥) → IsSlot (text_of m.program) (table_of m.program) (is_over w) (slot_at m.slots.items n) (in_slot w n)
+  pub others : (n : ℕ) → (n ≡ slot → ⊥) → IsSlot (versions_of m.program) (table_of m.program) (is_over w) (slot_at m.slots.items n) (in_slot w n)
   pub taken : slot_at m.slots.items slot ≡ Over 0 (Started None)
   pub own : in_slot w slot ≡ world.Live before
 
 -- a thread whose frame is after a stop
-pub record IsReady (text : List BareDef) (t : Table) (th : Thread) (f : Frame) (own : SeenThread) : Type 0 where
+pub record IsReady (versions : List (List BareDef)) (t : Table) (th : Thread) (f : Frame) (own : SeenThread) : Type 0 where
   pub serial : own.serial ≡ th.serial
   pub depth : own.depth ≡ th.depth
-  pub uses : All (IsOfFirst text) own.uses
+  pub uses : All (IsOfFirst versions) own.uses
   pub entering : own.entering ≡ None
   pub frames : own.frames ≡ frame_of t f ∷ frames_of t th.below.items
 
 -- a thread at a stop whose use was made; its frames are those with which the stop is made
-pub record IsUser (text : List BareDef) (th : Thread) (own : SeenThread) : Type 0 where
+pub record IsUser (versions : List (List BareDef)) (th : Thread) (own : SeenThread) : Type 0 where
   pub serial : own.serial ≡ th.serial
   pub depth : own.depth ≡ th.depth
-  pub uses : All (IsOfFirst text) own.uses
+  pub uses : All (IsOfFirst versions) own.uses
   pub entering : own.entering ≡ None
 
 -- a frame at the stop of a point
@@ -140,8 +144,8 @@ frame_at t f point = record (frame_of t f) { standing = point }
 pub record IsAtStop (m : Machine) (slot : ℕ) (th : Thread) (f : Frame) (stop : Stop) (point : ℕ) (w : World) (before user : SeenThread) : Type 0 where
   pub but : StandsBut m slot w before
   pub going : is_over w ≡ false
-  pub same : IsThread (text_of m.program) (table_of m.program) false th (next.Halt f (At stop point)) before
-  pub used : IsUser (text_of m.program) th user
+  pub same : IsThread (versions_of m.program) (table_of m.program) false th (next.Halt f (At stop point)) before
+  pub used : IsUser (versions_of m.program) th user
 
 -- how it stands there
 abbrev pub standing_at : Table → World → ℕ → Thread → Frame → ℕ → SeenThread → Standing
@@ -172,8 +176,8 @@ started_as w (Some place) = Some (record { slot = place; serial = w.threads })
 pub record IsPut (old new : Machine) (place : ℕ) (name : Word) (argument : Value) (version : ℕ) : Type 0 where
   pub same : new ≡ record old { slots = new.slots; threads = suc old.threads }
   pub slot : (s : Slot) × (new.slots.items ≡ slice_set old.slots.items place s)
-      × ((text : List BareDef) (t : Table) (over : Bool)
-      → IsSlot text t over s (world.Live (started old.threads (enter_with t name argument version))))
+      × ((versions : List (List BareDef)) (t : Table) (over : Bool)
+      → IsSlot versions t over s (world.Live (started old.threads (enter_with t name argument version))))
 
 -- a thread was started in the least free slot, if there is one
 pub record IsStarted (m : Machine) (slot : ℕ) (w : World) (before : SeenThread) (enter : SeenEnter) (ref : Option ThreadRef) : Type 0 where

@@ -1,7 +1,9 @@
 -- What threads share, as the definitions have it.
 use Rattle.std.specs.Prelude.{◌≡◌, ℕ, Bool, true, false, List, map, reverse, Option, None}
 use Rattle.c_tree.specs.BareDef.{BareDef}
-use Rattle.c_semantics.specs.Texts.{definition}
+use Rattle.c_tree.specs.BareExpr.{Bytes}
+use Rattle.c_semantics.specs.Names.{struct_name}
+use Rattle.c_semantics.specs.Texts.{definition, members_of}
 use Rattle.c_semantics.specs.Stops.{Stop, Spawn, Join, Call, Return, Begin, End}
 use Rattle.c_semantics.specs.Values.{Value as Seen}
 use Rattle.c_semantics.specs.Pieces.{Variable}
@@ -18,7 +20,7 @@ use Rattle.source_runner.specs.declared.shared_stops.Did.TheVariants.{On, Trap, 
 use Rattle.resolved_tree.specs.Nodes.{Table, word}
 use Rattle.local_evaluation.specs.Values.{seen}
 use Rattle.local_evaluation.specs.Work.{newest}
-use Rattle.source_runner.specs.Globals.{globals_of}
+use Rattle.source_programs.specs.Globals.{globals_of}
 
 -- a field, an object, a mutex that is held
 abbrev pub field_of : Table → Field → Variable
@@ -60,10 +62,15 @@ came_to On s values = goes_on s s.world values
 came_to (Trap kind) s values = traps s kind
 came_to Nothing s values = None
 
+-- the structs have the fields that a text gives them
+abbrev pub SeesLayouts : List BareDef → World → Type 0
+SeesLayouts text w =
+    (tag : Bytes) → members_of (now w (struct_name tag)) ≡ members_of (definition text (struct_name tag))
+
 -- it is what the stop makes of a thread in that slot, whatever else there is
 abbrev pub Performs : Table → List BareDef → ℕ → Stop → Store → List Value → Did → Store → List Value → Type 0
 Performs t text slot stop old values did new after =
-    (s : Standing) → s.slot ≡ slot → now s.world ≡ definition text
+    (s : Standing) → s.slot ≡ slot → SeesLayouts text s.world
     → perform stop (standing_with t old s) (newest values) ≡ came_to did (standing_with t new s) (newest after)
 
 -- where a stop can't be made nothing has changed

@@ -14,7 +14,7 @@ ghost use Rattle.source_runner.specs.Machines.{IsThread, Stands, frame_at};
 ghost use Rattle.source_runner.specs.Makes.{can_make, has_values, is_handle, is_number, is_reference};
 ghost use Rattle.resolved_tree.specs.Nodes.{Table};
 ghost use Rattle.local_evaluation.specs.Pieces.{stop_of};
-ghost use Rattle.source_runner.specs.Programs.{table_of, text_of};
+ghost use Rattle.source_programs.specs.Programs.{table_of, versions_of};
 ghost use Rattle.source_runner.specs.States.{as_int, ending_of, state_of};
 ghost use Rattle.local_evaluation.specs.Work.{newest};
 
@@ -119,7 +119,7 @@ impl Machine {
     /// Whether a thread can do what it does next, in a run that goes on.
     fn can_act(&self, thread: &Thread, next: &Next) -> bool
         ensures { (w : World) (slot : ℕ) (own : SeenThread) → Stands self.now w
-            → IsThread (text_of self.now.program) (table_of self.now.program) false thread.now next.now own
+            → IsThread (versions_of self.now.program) (table_of self.now.program) false thread.now next.now own
             → result ≡ is_some (thread_move w slot own own.entering) }
     {
         match next {
@@ -154,7 +154,7 @@ fn as_int(n: Int) -> i32
 
 /// Whether what a thread does next leads to a check-in.
 fn next_leads(thread: &Thread, next: &Next) -> bool
-    ensures { (text : List BareDef) (t : Table) (own : SeenThread) → IsThread text t false thread.now next.now own
+    ensures { (versions : List (List BareDef)) (t : Table) (own : SeenThread) → IsThread versions t false thread.now next.now own
         → result ≡ (is_some own.entering || frames_lead own.frames) }
 {
     match next {

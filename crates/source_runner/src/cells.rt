@@ -9,33 +9,20 @@ ghost use Rattle.c_semantics.specs.Transformers.{first_cell};
 ghost use Rattle.source_model.specs.Worlds.{World, with_cells_in, cells_of as cells_in};
 ghost use Rattle.source_model.specs.Moves.{in_bounds};
 ghost use Rattle.resolved_tree.specs.Nodes.{word};
-ghost use Rattle.source_runner.specs.Globals.{globals_of};
+ghost use Rattle.source_programs.specs.Globals.{globals_of};
 ghost use Rattle.source_runner.specs.Stores.{Kept, Performs};
 ghost use Rattle.resolved_tree.specs.Trees.{table};
 ghost use Rattle.local_evaluation.specs.Values.{seen};
 ghost use Rattle.local_evaluation.specs.Work.{newest};
 
-use crate::places::Places;
 use crate::shared_stops::Did;
-use crate::store::{Cells, Globals, Store};
+use crate::store::Store;
 use bytecode::TrapKind;
 use c_ints::Int;
 use local_evaluation::Value;
 use resolved_tree::{Trees, Word};
-use std::alloc::{AllocError, Global};
-
-/// Globals and arrays, found by their names.
-pub(crate) fn found_by_name(alloc: Global, list: Vec<Cells>) -> Result<Globals, AllocError>
-    ensures { IfOk result (λ globals. globals.list.items ≡ list.items) }
-{
-    let mut places = Places::new(alloc);
-    let mut left = list.len();
-    while left > 0 {
-        left -= 1;
-        places.put(list[left].name.as_str(), left)?;
-    }
-    Ok(Globals { list, places })
-}
+use source_programs::Globals;
+use std::alloc::AllocError;
 
 /// The place of the global of a name.
 fn place_of(trees: &Trees, globals: &Globals, name: Word) -> Option<usize>

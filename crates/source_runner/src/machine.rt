@@ -1,8 +1,10 @@
 //! The state of a run, and the move of a thread.
-ghost use Rattle.std.specs.Prelude.{◌≡◌, ◌<◌, ◌||◌, true, false, Some, None, length, option_map};
+ghost use Rattle.std.specs.Prelude.{◌≡◌, ◌<◌, ◌||◌, true, false, Some, None, length, map, option_map, IfOk};
 ghost use Rattle.std.specs.Option.{option_map_or};
-ghost use Rattle.c_semantics.specs.Threads.{Thread as SeenThread};
-ghost use Rattle.source_model.specs.Versions.{first_table};
+ghost use Rattle.c_semantics.specs.Texts.{definition};
+ghost use Rattle.c_semantics.specs.Threads.{Thread as SeenThread, entered};
+ghost use Rattle.source_model.specs.Versions.{Table as VersionTable};
+ghost use Rattle.version_laws.specs.Histories.{IsHistory};
 ghost use Rattle.source_model.specs.Worlds.{World, Trapped, in_slot, is_over, with_thread};
 ghost use Rattle.source_model.specs.Uses.{use_at, is_right, marked};
 ghost use Rattle.source_model.specs.Moves.{enter, in_frames, move, move_of, perform, stop_made, thread_move};
@@ -12,20 +14,21 @@ ghost use Rattle.source_runner.specs.declared.thread.Slot.TheVariants.{Over};
 ghost use Rattle.source_runner.specs.declared.thread.Next.TheVariants.{Enter as Entering, Halt as Halting};
 ghost use Rattle.local_evaluation.specs.declared.work.Halt.TheVariants.{At as AtStop};
 ghost use Rattle.source_runner.specs.Machines.{Moves, IsReady, IsStopped, IsThread, Stands, StandsBut, enter_of, frame_at, stands_at};
-ghost use Rattle.source_runner.specs.Frames.{frames_of};
-ghost use Rattle.resolved_tree.specs.Nodes.{Table};
+ghost use Rattle.source_runner.specs.Frames.{frame_of, frames_of};
+ghost use Rattle.resolved_tree.specs.Nodes.{Table, word};
 ghost use Rattle.local_evaluation.specs.Pieces.{stop_of};
-ghost use Rattle.source_runner.specs.Programs.{IsProgram, text_of, table_of, name_of};
+ghost use Rattle.source_programs.specs.Programs.{ArePrograms, current_of, name_of, table_of, versions_of};
 ghost use Rattle.source_runner.specs.Stores.{is_threads};
+ghost use Rattle.local_evaluation.specs.Values.{seen};
 ghost use Rattle.local_evaluation.specs.Work.{newest};
 
-use crate::program::{Name, Program};
 use crate::shared_stops::{Did, perform};
 use crate::store::Store;
 use crate::thread::{Enter, Frame, Next, Slot, Stopped, Thread};
 use bytecode::TrapKind;
 use c_ints::Int;
-use local_evaluation::{Halt, Stop, Value, evaluate};
+use local_evaluation::{Halt, Stop, Value, Work, evaluate};
+use source_programs::{Name, Programs};
 use std::alloc::AllocError;
 use std::mem;
 
@@ -44,7 +47,7 @@ pub(crate) enum Finish {
 /// The state of a run.
 #[derive(Drop)]
 pub(crate) struct Machine {
-    pub program: Program,
+    pub program: Programs,
     pub store: Store,
     pub slots: Vec<Slot>,
     /// How many threads were started.
@@ -93,7 +96,8 @@ fn use_at(stop: Stop) -> Option<Name>
 impl Machine {
     /// Makes the move of the thread in a slot. Where it can't be made, nothing changes.
     pub(crate) fn make(&mut self, slot: u8) -> Result<bool, AllocError>
-        ensures { (w : World) → Stands self.old w → Moves self.new w result (move w slot) }
+        ensures moves { (w : World) → Stands self.old w → Moves self.new w result (move w slot) }
+        ensures same { self.new.program ≡ self.old.program }
     {
         if self.must_stay(slot as usize) {
             return Ok(false);
@@ -105,12 +109,20 @@ impl Machine {
     pub(crate) fn must_stay(&self, slot: usize) -> bool
         ensures { (w : World) → Stands self.now w → result ≡ (is_over w || must_wait w slot) }
     {
-        self.misused || self.finish.is_some() || self.waits(slot).is_some()
+        self.is_over() || self.waits(slot).is_some()
+    }
+
+    /// Whether the run is over: a definition was misused, or the run has ended.
+    pub(crate) fn is_over(&self) -> bool
+        ensures { (w : World) → Stands self.now w → result ≡ is_over w }
+    {
+        self.misused || self.finish.is_some()
     }
 
     /// Takes a thread from its slot and makes its move.
     fn take(&mut self, slot: u8) -> Result<bool, AllocError>
-        ensures { (w : World) → Stands self.old w → is_over w ≡ false → Moves self.new w result (move_of w slot (in_slot w slot)) }
+        ensures moves { (w : World) → Stands self.old w → is_over w ≡ false → Moves self.new w result (move_of w slot (in_slot w slot)) }
+        ensures same { self.new.program ≡ self.old.program }
     {
         let Some(place) = self.slots.get_mut(slot as usize) else {
             return Ok(false);
@@ -127,9 +139,10 @@ impl Machine {
     /// The move of a thread that was taken from its slot.
     fn act(&mut self, slot: u8, thread: Thread, next: Next) -> Result<bool, AllocError>
         requires { slot < length self.old.slots.items }
-        ensures { (w : World) (before : SeenThread) → StandsBut self.old slot w before → is_over w ≡ false
-            → IsThread (text_of self.old.program) (table_of self.old.program) false thread next before
+        ensures moves { (w : World) (before : SeenThread) → StandsBut self.old slot w before → is_over w ≡ false
+            → IsThread (versions_of self.old.program) (table_of self.old.program) false thread next before
             → Moves self.new w result (thread_move w slot before before.entering) }
+        ensures same { self.new.program ≡ self.old.program }
     {
         match next {
             Next::Enter(due) => self.enter(slot, thread, due),
@@ -140,9 +153,10 @@ impl Machine {
     /// Puts a thread back into its slot.
     pub(crate) fn keep(&mut self, slot: u8, thread: Thread, next: Next)
         requires { slot < length self.old.slots.items }
-        ensures { (w : World) (before after : SeenThread) → StandsBut self.old slot w before
-            → IsThread (text_of self.old.program) (table_of self.old.program) (is_over w) thread next after
+        ensures stands { (w : World) (before after : SeenThread) → StandsBut self.old slot w before
+            → IsThread (versions_of self.old.program) (table_of self.old.program) (is_over w) thread next after
             → Stands self.new (with_thread slot after w) }
+        ensures same { self.new.program ≡ self.old.program }
     {
         self.slots[slot as usize] = Slot::Live(thread, next);
     }
@@ -155,9 +169,10 @@ impl Machine {
         frame: Frame,
     ) -> Result<bool, AllocError>
         requires { slot < length self.old.slots.items }
-        ensures { (w : World) (before after : SeenThread) → StandsBut self.old slot w before
-            → IsReady (text_of self.old.program) (table_of self.old.program) thread frame after
+        ensures moves { (w : World) (before after : SeenThread) → StandsBut self.old slot w before
+            → IsReady (versions_of self.old.program) (table_of self.old.program) thread frame after
             → Moves self.new w result (Some (with_thread slot after w)) }
+        ensures same { self.new.program ≡ self.old.program }
     {
         let mut frame = frame;
         let halt = evaluate(self.program.trees(), &mut frame.work)?;
@@ -174,9 +189,10 @@ impl Machine {
         kind: TrapKind,
     ) -> Result<bool, AllocError>
         requires { slot < length self.old.slots.items }
-        ensures { (w : World) (before after : SeenThread) → StandsBut self.old slot w before
-            → IsThread (text_of self.old.program) (table_of self.old.program) true thread next after
+        ensures moves { (w : World) (before after : SeenThread) → StandsBut self.old slot w before
+            → IsThread (versions_of self.old.program) (table_of self.old.program) true thread next after
             → Moves self.new w result (Some (record (with_thread slot after w) { finish = Some (Trapped kind slot) })) }
+        ensures same { self.new.program ≡ self.old.program }
     {
         self.finish = Some(Finish::Trapped(kind, slot));
         self.keep(slot, thread, next);
@@ -186,9 +202,10 @@ impl Machine {
     /// A definition was misused.
     fn misuse(&mut self, slot: u8, thread: Thread, next: Next) -> Result<bool, AllocError>
         requires { slot < length self.old.slots.items }
-        ensures { (w : World) (before : SeenThread) → StandsBut self.old slot w before
-            → IsThread (text_of self.old.program) (table_of self.old.program) true thread next before
+        ensures moves { (w : World) (before : SeenThread) → StandsBut self.old slot w before
+            → IsThread (versions_of self.old.program) (table_of self.old.program) true thread next before
             → Moves self.new w result (Some (marked w)) }
+        ensures same { self.new.program ≡ self.old.program }
     {
         self.misused = true;
         self.keep(slot, thread, next);
@@ -198,9 +215,10 @@ impl Machine {
     /// The thread can't move.
     pub(crate) fn stay(&mut self, slot: u8, thread: Thread, next: Next) -> Result<bool, AllocError>
         requires { slot < length self.old.slots.items }
-        ensures { (w : World) (before : SeenThread) → StandsBut self.old slot w before
-            → IsThread (text_of self.old.program) (table_of self.old.program) (is_over w) thread next before
+        ensures moves { (w : World) (before : SeenThread) → StandsBut self.old slot w before
+            → IsThread (versions_of self.old.program) (table_of self.old.program) (is_over w) thread next before
             → Moves self.new w result None }
+        ensures same { self.new.program ≡ self.old.program }
     {
         self.keep(slot, thread, next);
         Ok(false)
@@ -209,21 +227,41 @@ impl Machine {
     /// A thread enters a function.
     fn enter(&mut self, slot: u8, thread: Thread, due: Enter) -> Result<bool, AllocError>
         requires { slot < length self.old.slots.items }
-        ensures { (w : World) (before : SeenThread) → StandsBut self.old slot w before → is_over w ≡ false
-            → IsThread (text_of self.old.program) (table_of self.old.program) false thread (Entering due) before
+        ensures moves { (w : World) (before : SeenThread) → StandsBut self.old slot w before → is_over w ≡ false
+            → IsThread (versions_of self.old.program) (table_of self.old.program) false thread (Entering due) before
             → Moves self.new w result (enter w slot before (enter_of (table_of self.old.program) due)) }
+        ensures same { self.new.program ≡ self.old.program }
     {
-        if !self
-            .program
-            .is_right(due.version, Name::Plain(due.function))
-        {
+        if !self.is_right_use(due.version, Name::Plain(due.function)) {
             return self.misuse(slot, thread, Next::Enter(due));
         }
         if thread.below.len() == FRAMES {
             return self.trap(slot, thread, Next::Enter(due), TrapKind::Depth);
         }
-        let frame = self.program.frame(due)?;
+        let frame = self.frame(due)?;
         self.go_on(slot, thread, frame)
+    }
+
+    /// The frame of a function that is entered, in the version in force.
+    fn frame(&self, due: Enter) -> Result<Frame, AllocError>
+        ensures { ArePrograms self.now.program → IfOk result (λ frame. frame_of (table_of self.now.program) frame
+            ≡ entered (definition (current_of self.now.program)) (word (table_of self.now.program) due.function)
+            (length (versions_of self.now.program)) (map seen due.arguments.items)) }
+    {
+        let alloc = *due.arguments.allocator();
+        let mut work = Work {
+            pieces: Vec::new(alloc),
+            values: Vec::new(alloc),
+            scopes: Vec::new(alloc),
+        };
+        self.program
+            .begin(&mut work, due.function, due.arguments.as_slice())?;
+        Ok(Frame {
+            function: due.function,
+            version: self.program.version(),
+            standing: 0,
+            work,
+        })
     }
 
     /// What a thread does after its private work.
@@ -235,9 +273,10 @@ impl Machine {
         halt: Halt,
     ) -> Result<bool, AllocError>
         requires { slot < length self.old.slots.items }
-        ensures { (w : World) (before : SeenThread) → StandsBut self.old slot w before → is_over w ≡ false
-            → IsThread (text_of self.old.program) (table_of self.old.program) false thread (Halting frame halt) before
+        ensures moves { (w : World) (before : SeenThread) → StandsBut self.old slot w before → is_over w ≡ false
+            → IsThread (versions_of self.old.program) (table_of self.old.program) false thread (Halting frame halt) before
             → Moves self.new w result (in_frames w slot before before.frames) }
+        ensures same { self.new.program ≡ self.old.program }
     {
         match halt {
             Halt::At(stop, point) => {
@@ -256,20 +295,30 @@ impl Machine {
 
     /// Whether the use of a stop is right.
     pub(crate) fn is_right(&self, version: usize, stop: Stop) -> bool
-        ensures { IsProgram self.now.program → result ≡ option_map_or (is_right (first_table (text_of self.now.program)) version) (use_at (stop_of (table_of self.now.program) stop)) true }
+        ensures { (table : VersionTable) → ArePrograms self.now.program → IsHistory (versions_of self.now.program) table
+            → result ≡ option_map_or (is_right table version) (use_at (stop_of (table_of self.now.program) stop)) true }
     {
         match use_at(stop) {
-            Some(name) => self.program.is_right(version, name),
+            Some(name) => self.is_right_use(version, name),
             None => true,
         }
+    }
+
+    /// Whether the use of a name on behalf of a version is right.
+    fn is_right_use(&self, version: usize, name: Name) -> bool
+        ensures { (table : VersionTable) → ArePrograms self.now.program → IsHistory (versions_of self.now.program) table
+            → result ≡ is_right table version (name_of (table_of self.now.program) name) }
+    {
+        self.program.is_right(version, name)
     }
 
     /// A stop, if its use is right.
     fn stop(&mut self, at: Stopped, stop: Stop) -> Result<bool, AllocError>
         requires { at.slot < length self.old.slots.items }
-        ensures { let t = table_of self.old.program in (w : World) (before : SeenThread) → StandsBut self.old at.slot w before → is_over w ≡ false
-            → IsThread (text_of self.old.program) t false at.thread (Halting at.frame (AtStop stop at.point)) before
+        ensures moves { let t = table_of self.old.program in (w : World) (before : SeenThread) → StandsBut self.old at.slot w before → is_over w ≡ false
+            → IsThread (versions_of self.old.program) t false at.thread (Halting at.frame (AtStop stop at.point)) before
             → Moves self.new w result (stop_made (stop_of t stop) w at.slot before (frame_at t at.frame at.point) (frames_of t at.thread.below.items)) }
+        ensures same { self.new.program ≡ self.old.program }
     {
         if !self.is_right(at.frame.version, stop) {
             return self.misuse(
@@ -292,9 +341,10 @@ impl Machine {
     /// A stop that changes no other thread.
     fn perform(&mut self, at: Stopped, stop: Stop) -> Result<bool, AllocError>
         requires { at.slot < length self.old.slots.items }
-        ensures { let t = table_of self.old.program in (w : World) (before user : SeenThread)
+        ensures moves { let t = table_of self.old.program in (w : World) (before user : SeenThread)
             → IsStopped self.old at stop w before user → is_threads (stop_of t stop) ≡ false
             → Moves self.new w result (perform (stop_of t stop) (stands_at t w at user) (newest at.frame.work.values.items)) }
+        ensures same { self.new.program ≡ self.old.program }
     {
         let Stopped {
             slot,

@@ -9,21 +9,21 @@ ghost use Rattle.c_semantics.specs.Values.{Value as SeenValue, Reference, int_of
 ghost use Rattle.source_model.specs.Worlds.{World, Object as SeenObject};
 ghost use Rattle.source_model.specs.Moves.{Standing, goes_on, traps, on_object, release as released};
 ghost use Rattle.source_runner.specs.declared.store.Object.{Object};
-ghost use Rattle.source_runner.specs.Definitions.{bindings_of};
+ghost use Rattle.source_programs.specs.Definitions.{bindings_of};
 ghost use Rattle.resolved_tree.specs.Nodes.{Table, word};
-ghost use Rattle.source_runner.specs.Programs.{IsProgram, text_of, table_of};
+ghost use Rattle.source_programs.specs.Programs.{ArePrograms, current_of, table_of};
 ghost use Rattle.source_runner.specs.Stores.{Kept, Performs, object_of, objects_of, fields_of};
 ghost use Rattle.resolved_tree.specs.Trees.{table};
 ghost use Rattle.local_evaluation.specs.Values.{seen, seen_object};
 
 use crate::cells::take_under;
-use crate::program::{Binding, Program};
 use crate::shared_stops::Did;
 use crate::store::{Field, Object, Objects, Store};
 use bytecode::TrapKind;
 use c_ints::Int;
 use local_evaluation::{ObjectId, Value};
 use resolved_tree::{Trees, Word, later};
+use source_programs::{Binding, Programs};
 use std::alloc::{AllocError, Global};
 
 /// What a handle leads to: the number of an object that lives, or the trap of the null handle or of an ended object.
@@ -131,7 +131,7 @@ pub(crate) fn write_field(
 }
 
 /// The fields of a new object, each zero or null.
-fn fresh(alloc: Global, members: &[Binding]) -> Result<Vec<Field>, AllocError>
+pub(crate) fn fresh(alloc: Global, members: &[Binding]) -> Result<Vec<Field>, AllocError>
     ensures { IfOk result (λ fields. (t : Table) → fields_of t fields.items ≡ zero_fields (bindings_of t members.now)) }
 {
     let mut fields = Vec::with_capacity(alloc, members.len())?;
@@ -160,12 +160,12 @@ fn add(objects: &mut Objects, tag: Word, fields: Vec<Field>) -> Result<(), Alloc
 
 /// Makes an object, or gives null where as many live as may.
 pub(crate) fn allocate(
-    program: &Program,
+    program: &Programs,
     store: &mut Store,
     values: &mut Vec<Value>,
     tag: Word,
 ) -> Result<Did, AllocError>
-    ensures made { let t = table_of program.now in (slot : ℕ) → IsProgram program.now → IfOk result (λ did. Performs t (text_of program.now) slot (New (word t tag)) store.old values.old.items did store.new values.new.items) }
+    ensures made { let t = table_of program.now in (slot : ℕ) → ArePrograms program.now → IfOk result (λ did. Performs t (current_of program.now) slot (New (word t tag)) store.old values.old.items did store.new values.new.items) }
     ensures kept { IfOk result (λ did. Kept did store.old values.old.items store.new values.new.items) }
 {
     if store.objects.live == store.capacity {

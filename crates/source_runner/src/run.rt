@@ -1,26 +1,35 @@
 //! Whole runs.
-ghost use Rattle.std.specs.Prelude.{◌≡◌, ◌<◌, [], List, true, false, map, length, option_map, Some, Err, IfOk, OnErr};
+ghost use Rattle.std.specs.Prelude.{◌≡◌, ◌<◌, [], List, All, true, false, map, length, option_map, option_copied, slice_get, slice_index_or, Some, Err, IfOk, OnErr};
 ghost use Rattle.c_tree.specs.BareDef.{BareDef};
 ghost use Rattle.source_model.specs.Waits.{waits_for};
 ghost use Rattle.source_model.specs.Worlds.{Limits, in_slot, is_over};
-ghost use Rattle.source_model.specs.Runs.{SourceMove as Made, can_move, is_live, source_run};
-ghost use Rattle.source_model.specs.Guards.{move_leads};
+ghost use Rattle.source_model.specs.Versions.{current};
+ghost use Rattle.source_model.specs.Runs.{SourceMove as Made, Install, can_move, is_live, source_run};
+ghost use Rattle.source_model.specs.Guards.{in_transaction, move_leads};
+ghost use Rattle.version_laws.specs.Histories.{last_text, versions_by};
+ghost use Rattle.resolved_tree.specs.Nodes.{word as word_text};
+ghost use Rattle.type_transformers.specs.Changes.{IsChange, changing, name_of};
+ghost use Rattle.source_programs.specs.Programs.{text_in};
 ghost use Rattle.source_runner.specs.States.{as_int, ending_of, state_of};
 ghost use Rattle.source_runner.specs.declared.run.SourceMove.TheVariants.{Move};
 ghost use Rattle.source_model.specs.Spans.{spans};
 ghost use Rattle.source_runner.specs.Listed.{span_of};
 ghost use Rattle.source_runner.specs.Waits.{waiting_of};
-ghost use Rattle.source_runner.specs.SourceRuns.{IsRun, Steps, text_in};
+ghost use Rattle.source_runner.specs.Queries.{entering_in, innermost_in, place_at};
+ghost use Rattle.source_runner.specs.SourceRuns.{CameBy, IsRun, KeepsTexts, Steps, trees_of, words_of};
 
 use crate::can_move::SourceState;
 use crate::machine::Machine;
-use crate::program::load;
+use crate::queries::FrameAt;
 use crate::spans::{Span, list_spans};
 use crate::start::start;
 use crate::waits::SourceWait;
 use bytecode::Ending;
 use c_types::Typed;
+use resolved_tree::Word;
+use source_programs::Programs;
 use std::alloc::{AllocError, Global};
+use type_transformers::Change;
 
 /// A move of the source machine.
 #[derive(Clone, Copy, Debug, PartialEq, Eq)]
@@ -39,11 +48,11 @@ pub enum Stepped {
 }
 
 /// A run of the source machine over some texts. Its clauses say that it is the run of the definitions over the moves that
-/// were made; once a step ran out of memory nothing is said of it any more.
+/// were made; once a step of a thread ran out of memory nothing is said of it any more.
 #[derive(Drop)]
 pub struct SourceRun {
     machine: Machine,
-    /// The spans of the records, of which this many are closed.
+    /// The spans of the records as long as no text was installed, and how many of the records are closed.
     spans: Vec<Span>,
     counted: usize,
     /// Whether a step ran out of memory.
@@ -59,12 +68,12 @@ impl SourceRun {
         slots: u8,
     ) -> Result<SourceRun, AllocError>
         requires { 0 < length texts.items }
-        ensures { IfOk result (IsRun (map text_in texts.items) (record { objects = objects; slots = slots }) []) }
+        ensures run { IfOk result (IsRun (map text_in texts.items) (record { objects = objects; slots = slots }) []) }
+        ensures trees { IfOk result (λ r. trees_of r ≡ texts.items) }
     {
-        let mut texts = texts;
-        let loaded = load(alloc, texts.remove(0))?;
+        let program = Programs::load(alloc, texts)?;
         Ok(SourceRun {
-            machine: start(alloc, loaded, objects as usize, slots as usize)?,
+            machine: start(alloc, program, objects as usize, slots as usize)?,
             spans: Vec::new(alloc),
             counted: 0,
             failed: false,
@@ -77,6 +86,7 @@ impl SourceRun {
             → Steps texts limits moves m self.new result }
         ensures fails { OnErr result (self.new.failed ≡ true) }
         ensures failed { self.old.failed ≡ true → result ≡ Err (record {}) }
+        ensures same { KeepsTexts self.old self.new }
     {
         if self.failed {
             return Err(AllocError);
@@ -90,8 +100,9 @@ impl SourceRun {
 
     /// Makes a move, if it can be made.
     fn make(&mut self, m: SourceMove) -> Result<Stepped, AllocError>
-        ensures { (texts : List (List BareDef)) (limits : Limits) (moves : List Made) → IsRun texts limits moves self.old
+        ensures stepped { (texts : List (List BareDef)) (limits : Limits) (moves : List Made) → IsRun texts limits moves self.old
             → Steps texts limits moves m self.new result }
+        ensures same { KeepsTexts self.old self.new }
     {
         match m {
             SourceMove::Move(slot) => self.make_move(slot),
@@ -100,8 +111,9 @@ impl SourceRun {
 
     /// Makes the move of the thread in a slot, if it can be made.
     fn make_move(&mut self, slot: u8) -> Result<Stepped, AllocError>
-        ensures { (texts : List (List BareDef)) (limits : Limits) (moves : List Made) → IsRun texts limits moves self.old
+        ensures stepped { (texts : List (List BareDef)) (limits : Limits) (moves : List Made) → IsRun texts limits moves self.old
             → Steps texts limits moves (Move slot) self.new result }
+        ensures same { KeepsTexts self.old self.new }
     {
         if self.machine.make(slot)? {
             list_spans(&self.machine, &mut self.spans, self.counted)?;
@@ -110,6 +122,27 @@ impl SourceRun {
         } else {
             Ok(Stepped::CannotMove)
         }
+    }
+
+    /// Installs the text with a number, if there is one and the run isn't over; the changes are those from the text in force
+    /// to it. Where memory runs out, the run stays as it is.
+    pub fn install(&mut self, number: usize, changes: &[Change]) -> Result<Stepped, AllocError>
+        ensures made { (texts : List (List BareDef)) (limits : Limits) (moves : List Made) → IsRun texts limits moves self.old
+            → let p = last_text (versions_by texts moves) in let q = slice_index_or texts number [] in
+            map name_of changes.now ≡ changing p q → All (IsChange p q) changes.now
+            → IfOk result (CameBy texts limits moves (Install number) self.new) }
+        ensures stays { OnErr result ((texts : List (List BareDef)) (limits : Limits) (moves : List Made) → IsRun texts limits moves self.old
+            → IsRun texts limits moves self.new) }
+        ensures same { KeepsTexts self.old self.new }
+    {
+        if self.machine.is_over() {
+            return Ok(Stepped::CannotMove);
+        }
+        if self.machine.program.text(number).is_none() {
+            return Ok(Stepped::CannotMove);
+        }
+        self.machine.follow(number, changes)?;
+        Ok(Stepped::Done)
     }
 
     /// What was printed.
@@ -128,11 +161,11 @@ impl SourceRun {
         self.machine.misused
     }
 
-    /// The versions that the definitions of each record share: of closed ones in order of closing, then of open ones by
-    /// slot.
+    /// The versions that the definitions of each record share, as long as no text was installed: of closed ones in order of
+    /// closing, then of open ones by slot.
     pub fn spans(&self) -> &[Span]
         ensures { (texts : List (List BareDef)) (limits : Limits) (moves : List Made) → IsRun texts limits moves self.now
-            → option_map (λ x. spans x.world) (source_run texts limits moves) ≡ Some (map span_of result.now) }
+            → length (versions_by texts moves) ≡ 1 → option_map (λ x. spans x.world) (source_run texts limits moves) ≡ Some (map span_of result.now) }
     {
         self.spans.as_slice()
     }
@@ -186,5 +219,59 @@ impl SourceRun {
             → option_map (λ x. waits_for x.world slot) (source_run texts limits moves) ≡ Some (option_map waiting_of result) }
     {
         self.machine.waits(slot as usize)
+    }
+
+    /// The text with a number.
+    pub fn text(&self, number: usize) -> Option<&Typed>
+        ensures { option_copied result ≡ slice_get (trees_of self.now) number }
+    {
+        self.machine.program.text(number)
+    }
+
+    /// The current version; the first is 1.
+    pub fn version(&self) -> usize
+        ensures count { (texts : List (List BareDef)) (limits : Limits) (moves : List Made) → IsRun texts limits moves self.now
+            → result ≡ length (versions_by texts moves) }
+        ensures current { (texts : List (List BareDef)) (limits : Limits) (moves : List Made) → IsRun texts limits moves self.now
+            → option_map (λ x. current x.world.table) (source_run texts limits moves) ≡ Some result }
+    {
+        self.machine.program.version()
+    }
+
+    /// A word of the run's texts.
+    pub fn word(&self, word: Word) -> &str
+        ensures { result.now ≡ word_text (words_of self.now) word }
+    {
+        self.machine.program.trees().text(word)
+    }
+
+    /// Whether the thread in a slot is in a transaction.
+    pub fn in_transaction(&self, slot: u8) -> bool
+        ensures { (texts : List (List BareDef)) (limits : Limits) (moves : List Made) → IsRun texts limits moves self.now
+            → option_map (λ x. in_transaction (in_slot x.world slot)) (source_run texts limits moves) ≡ Some result }
+    {
+        self.machine.in_transaction(slot as usize)
+    }
+
+    /// Where the innermost frame of the thread in a slot is, if a thread with frames lives there. It is asked of a run that
+    /// isn't over.
+    pub fn frame(&self, slot: u8) -> Option<FrameAt>
+        ensures { (texts : List (List BareDef)) (limits : Limits) (moves : List Made) → IsRun texts limits moves self.now
+            → option_map (λ x. is_over x.world) (source_run texts limits moves) ≡ Some false
+            → option_map (λ x. innermost_in (in_slot x.world slot)) (source_run texts limits moves)
+            ≡ Some (option_map (place_at (words_of self.now)) result) }
+    {
+        self.machine.innermost(slot as usize)
+    }
+
+    /// The function that the thread in a slot is about to enter, if an enter is its next move. It is asked of a run that
+    /// isn't over.
+    pub fn entering(&self, slot: u8) -> Option<Word>
+        ensures { (texts : List (List BareDef)) (limits : Limits) (moves : List Made) → IsRun texts limits moves self.now
+            → option_map (λ x. is_over x.world) (source_run texts limits moves) ≡ Some false
+            → option_map (λ x. entering_in (in_slot x.world slot)) (source_run texts limits moves)
+            ≡ Some (option_map (word_text (words_of self.now)) result) }
+    {
+        self.machine.entering(slot as usize)
     }
 }

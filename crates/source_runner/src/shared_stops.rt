@@ -1,17 +1,17 @@
 //! Stops that read or change what threads share.
 ghost use Rattle.std.specs.Prelude.{◌≡◌, false, IfOk};
 ghost use Rattle.local_evaluation.specs.Pieces.{stop_of};
-ghost use Rattle.source_runner.specs.Programs.{IsProgram, table_of, text_of};
+ghost use Rattle.source_programs.specs.Programs.{ArePrograms, current_of, table_of};
 ghost use Rattle.source_runner.specs.Stores.{Kept, Performs, is_threads};
 
 use crate::cells::{read_element, read_global, write_element, write_global};
 use crate::mutexes::{initialise, lock, unlock};
 use crate::objects::{allocate, read_field, release, write_field};
 use crate::output::print_values;
-use crate::program::Program;
 use crate::store::Store;
 use bytecode::TrapKind;
 use local_evaluation::{Stop, Value};
+use source_programs::Programs;
 use std::alloc::AllocError;
 
 /// What a stop comes to.
@@ -27,14 +27,14 @@ pub(crate) enum Did {
 
 /// Makes a stop of the thread in a slot that changes no thread; its use was found to be right, and it needn't wait.
 pub(crate) fn perform(
-    program: &Program,
+    program: &Programs,
     store: &mut Store,
     slot: usize,
     values: &mut Vec<Value>,
     stop: Stop,
 ) -> Result<Did, AllocError>
-    ensures made { let t = table_of program.now in IsProgram program.now → is_threads (stop_of t stop) ≡ false
-        → IfOk result (λ did. Performs t (text_of program.now) slot (stop_of t stop) store.old values.old.items did store.new values.new.items) }
+    ensures made { let t = table_of program.now in ArePrograms program.now → is_threads (stop_of t stop) ≡ false
+        → IfOk result (λ did. Performs t (current_of program.now) slot (stop_of t stop) store.old values.old.items did store.new values.new.items) }
     ensures kept { IfOk result (λ did. Kept did store.old values.old.items store.new values.new.items) }
 {
     let trees = program.trees();

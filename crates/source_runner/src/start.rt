@@ -1,24 +1,23 @@
 //! The start of a run.
-ghost use Rattle.std.specs.Prelude.{◌≡◌, ◌-◌, ◌∷◌, Bool, List, codes, replicate, IfOk};
+ghost use Rattle.std.specs.Prelude.{◌≡◌, ◌-◌, ◌∷◌, [], Bool, List, codes, replicate, IfOk};
 ghost use Rattle.c_tree.specs.BareDef.{BareDef};
 ghost use Rattle.c_semantics.specs.Threads.{started};
 ghost use Rattle.source_model.specs.Worlds.{first_world, main_enter, Live as IsLive};
 ghost use Rattle.source_runner.specs.declared.thread.Slot.TheVariants.{Free as FreeSlot};
-ghost use Rattle.source_runner.specs.Loading.{IsLoaded};
 ghost use Rattle.source_runner.specs.Machines.{IsSlot, Stands};
 ghost use Rattle.resolved_tree.specs.Nodes.{Table, word};
-ghost use Rattle.source_runner.specs.Programs.{text_of};
+ghost use Rattle.source_programs.specs.Programs.{ArePrograms, table_of, text_at, versions_of};
 
 use crate::machine::Machine;
-use crate::program::Loaded;
 use crate::store::{Objects, Store};
 use crate::thread::{Enter, Next, Slot, Thread};
 use resolved_tree::Word;
+use source_programs::Programs;
 use std::alloc::{AllocError, Global};
 
 /// The thread of main.
 fn main_slot(alloc: Global, main: Word) -> Slot
-    ensures { (text : List BareDef) (t : Table) (over : Bool) → word t main ≡ codes "main" → IsSlot text t over result (IsLive (started 0 main_enter)) }
+    ensures { (versions : List (List BareDef)) (t : Table) (over : Bool) → word t main ≡ codes "main" → IsSlot versions t over result (IsLive (started 0 main_enter)) }
 {
     Slot::Live(
         Thread {
@@ -46,23 +45,19 @@ fn slots_of(alloc: Global, first: Slot, count: usize) -> Result<Vec<Slot>, Alloc
     Ok(slots)
 }
 
-/// The start of a run of a text, where so many objects may live in so many slots.
+/// The start of a run of the first of some texts, where so many objects may live in so many slots.
 pub(crate) fn start(
     alloc: Global,
-    loaded: Loaded,
+    program: Programs,
     objects: usize,
     slots: usize,
 ) -> Result<Machine, AllocError>
-    ensures program { IfOk result (λ m. m.program ≡ loaded.program) }
-    ensures capacity { IfOk result (λ m. m.store.capacity ≡ objects) }
-    ensures stands { IsLoaded loaded → IfOk result (λ m. Stands m (first_world (text_of loaded.program) (record { objects = objects; slots = slots }))) }
+    ensures program { IfOk result (λ m. m.program ≡ program) }
+    ensures stands { ArePrograms program → versions_of program ≡ text_at program 0 ∷ []
+        → IfOk result (λ m. Stands m (first_world (text_at program 0) (record { objects = objects; slots = slots }))) }
 {
-    let slots = slots_of(alloc, main_slot(alloc, loaded.main), slots)?;
-    let Loaded {
-        program,
-        globals,
-        ..
-    } = loaded;
+    let globals = program.globals_in(alloc, 0)?;
+    let slots = slots_of(alloc, main_slot(alloc, program.main()), slots)?;
     Ok(Machine {
         program,
         store: Store {

@@ -1,29 +1,9 @@
 //! What threads share: globals, objects, mutexes, and what was printed.
-ghost use Rattle.std.specs.Prelude.{◌≡◌, bytes_eq, count_by};
-ghost use Rattle.std.specs.List.{position};
-ghost use Rattle.c_tree.specs.BareExpr.{Bytes};
-ghost use Rattle.source_runner.specs.Globals.{globals_of};
-ghost use Rattle.source_runner.specs.Places.{place_in};
+ghost use Rattle.std.specs.Prelude.{◌≡◌, count_by};
 
-use crate::places::Places;
 use local_evaluation::Value;
 use resolved_tree::Word;
-
-/// A global variable, which has one cell, or an array.
-#[derive(Drop)]
-pub(crate) struct Cells {
-    pub name: String,
-    pub cells: Vec<Value>,
-}
-
-/// The globals and arrays, in the text's order.
-#[derive(Drop)]
-pub(crate) struct Globals {
-    pub list: Vec<Cells>,
-    /// Where the first of a name is.
-    pub places: Places,
-    ghost placed: { (name : Bytes) → place_in places name ≡ position (λ g. bytes_eq name g.name) (globals_of list.items) },
-}
+use source_programs::Globals;
 
 /// A field of an object.
 #[derive(Clone, Copy)]

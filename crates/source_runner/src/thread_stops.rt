@@ -13,7 +13,7 @@ ghost use Rattle.source_runner.specs.Frames.{frames_of};
 ghost use Rattle.source_runner.specs.Joins.{is_free_slot, result_of};
 ghost use Rattle.source_runner.specs.Machines.{IsPut, IsSlot, IsStarted, IsStopped, IsUser, Moves, Stands, StandsBut, enter_with, standing_at, stands_at};
 ghost use Rattle.resolved_tree.specs.Nodes.{Table, word};
-ghost use Rattle.source_runner.specs.Programs.{table_of, text_of};
+ghost use Rattle.source_programs.specs.Programs.{table_of, versions_of};
 ghost use Rattle.local_evaluation.specs.Values.{seen, seen_thread};
 ghost use Rattle.local_evaluation.specs.Work.{newest};
 
@@ -82,8 +82,8 @@ fn entering(
     argument: Value,
     version: usize,
 ) -> Result<Slot, AllocError>
-    ensures { IfOk result (λ slot. (text : List BareDef) (t : Table) (over : Bool)
-        → IsSlot text t over slot (IsLive (started serial (enter_with t name argument version)))) }
+    ensures { IfOk result (λ slot. (versions : List (List BareDef)) (t : Table) (over : Bool)
+        → IsSlot versions t over slot (IsLive (started serial (enter_with t name argument version)))) }
 {
     let mut arguments = Vec::new(alloc);
     arguments.push(argument)?;
@@ -105,9 +105,10 @@ impl Machine {
     /// Starts a thread with the newest value in the least free slot. Where there is none, the handle names no thread.
     pub(crate) fn spawn(&mut self, at: Stopped, name: Word) -> Result<bool, AllocError>
         requires { at.slot < length self.old.slots.items }
-        ensures { let t = table_of self.old.program in (w : World) (before user : SeenThread)
+        ensures moves { let t = table_of self.old.program in (w : World) (before user : SeenThread)
             → IsStopped self.old at (AtSpawn name) w before user
             → Moves self.new w result (spawn (stands_at t w at user) (word t name) (newest at.frame.work.values.items)) }
+        ensures same { self.new.program ≡ self.old.program }
     {
         match last(at.frame.work.values.as_slice()) {
             Some(argument) => self.spawn_with(at, name, argument),
@@ -122,9 +123,10 @@ impl Machine {
     /// The same with its argument.
     fn spawn_with(&mut self, at: Stopped, name: Word, argument: Value) -> Result<bool, AllocError>
         requires { at.slot < length self.old.slots.items }
-        ensures { let t = table_of self.old.program in (w : World) (before user : SeenThread)
+        ensures moves { let t = table_of self.old.program in (w : World) (before user : SeenThread)
             → IsStopped self.old at (AtSpawn name) w before user
             → Moves self.new w result (spawn (stands_at t w at user) (word t name) (seen argument ∷ drop 1 (newest at.frame.work.values.items))) }
+        ensures same { self.new.program ≡ self.old.program }
     {
         let Stopped {
             slot,
@@ -148,7 +150,7 @@ impl Machine {
         argument: Value,
         version: usize,
     ) -> Result<Option<ThreadRef>, AllocError>
-        ensures kept { OnOk result (self.new.program ≡ self.old.program) }
+        ensures same { self.new.program ≡ self.old.program }
         ensures within { OnOk result (length self.new.slots.items ≡ length self.old.slots.items) }
         ensures started { let enter = enter_with (table_of self.old.program) name argument version in (w : World) (before : SeenThread)
             → StandsBut self.old slot w before → IfOk result (λ started. IsStarted self.new slot w before enter started) }
@@ -175,7 +177,8 @@ impl Machine {
         version: usize,
     ) -> Result<(), AllocError>
         requires { place < length self.old.slots.items }
-        ensures { OnOk result (IsPut self.old self.new place name argument version) }
+        ensures put { OnOk result (IsPut self.old self.new place name argument version) }
+        ensures same { self.new.program ≡ self.old.program }
     {
         let threads = later(self.threads)?;
         let alloc = *self.slots.allocator();
@@ -188,9 +191,10 @@ impl Machine {
     /// Joins the thread that the newest value names.
     pub(crate) fn join(&mut self, at: Stopped) -> Result<bool, AllocError>
         requires { at.slot < length self.old.slots.items }
-        ensures { let t = table_of self.old.program in (w : World) (before user : SeenThread)
+        ensures moves { let t = table_of self.old.program in (w : World) (before user : SeenThread)
             → IsStopped self.old at AtJoin w before user
             → Moves self.new w result (join (stands_at t w at user) (newest at.frame.work.values.items)) }
+        ensures same { self.new.program ≡ self.old.program }
     {
         match handle(at.frame.work.values.as_slice()) {
             Some(named) => self.join_handle(at, named),
@@ -205,9 +209,10 @@ impl Machine {
     /// Joins the thread that a handle names, if it names one.
     fn join_handle(&mut self, at: Stopped, named: Option<ThreadRef>) -> Result<bool, AllocError>
         requires { at.slot < length self.old.slots.items }
-        ensures { let t = table_of self.old.program in (w : World) (before user : SeenThread)
+        ensures moves { let t = table_of self.old.program in (w : World) (before user : SeenThread)
             → IsStopped self.old at AtJoin w before user
             → Moves self.new w result (join (stands_at t w at user) (IsStartedValue (option_map seen_thread named) ∷ drop 1 (newest at.frame.work.values.items))) }
+        ensures same { self.new.program ≡ self.old.program }
     {
         match named {
             Some(named) => self.join_named(at, named),
@@ -223,9 +228,10 @@ impl Machine {
     /// Joins a thread: its slot is free again, and its result is the newest value.
     fn join_named(&mut self, at: Stopped, named: ThreadRef) -> Result<bool, AllocError>
         requires { at.slot < length self.old.slots.items }
-        ensures { let t = table_of self.old.program in (w : World) (before user : SeenThread)
+        ensures moves { let t = table_of self.old.program in (w : World) (before user : SeenThread)
             → IsStopped self.old at AtJoin w before user
             → Moves self.new w result (join_slot (stands_at t w at user) (seen_thread named) (drop 1 (newest at.frame.work.values.items)) (in_slot w named.slot)) }
+        ensures same { self.new.program ≡ self.old.program }
     {
         match result_of(self.slots.as_slice(), at.slot as usize, named) {
             Some(value) => self.take_result(at, named, value),
@@ -246,9 +252,10 @@ impl Machine {
         value: Value,
     ) -> Result<bool, AllocError>
         requires { at.slot < length self.old.slots.items }
-        ensures { let t = table_of self.old.program in (w : World) (before user : SeenThread)
+        ensures moves { let t = table_of self.old.program in (w : World) (before user : SeenThread)
             → IsStopped self.old at AtJoin w before user → (named.slot ≡ at.slot → ⊥)
             → Moves self.new w result (goes_on (stands_at t w at user) (with_slot named.slot IsFree w) (seen value ∷ drop 1 (newest at.frame.work.values.items))) }
+        ensures same { self.new.program ≡ self.old.program }
     {
         let Stopped {
             slot,
@@ -277,9 +284,10 @@ impl Machine {
     /// Calls a function, whose enter is the next move; its arguments are the newest values.
     pub(crate) fn call(&mut self, at: Stopped, name: Word, count: usize) -> Result<bool, AllocError>
         requires { at.slot < length self.old.slots.items }
-        ensures { let t = table_of self.old.program in (w : World) (before user : SeenThread)
+        ensures moves { let t = table_of self.old.program in (w : World) (before user : SeenThread)
             → IsStopped self.old at (AtCall name count) w before user
             → Moves self.new w result (call (stands_at t w at user) (word t name) count (newest at.frame.work.values.items)) }
+        ensures same { self.new.program ≡ self.old.program }
     {
         let Stopped {
             slot,
@@ -304,9 +312,10 @@ impl Machine {
     /// Returns the newest value to the frame that called, or ends the thread with it.
     pub(crate) fn give_back(&mut self, at: Stopped) -> Result<bool, AllocError>
         requires { at.slot < length self.old.slots.items }
-        ensures { let t = table_of self.old.program in (w : World) (before user : SeenThread)
+        ensures moves { let t = table_of self.old.program in (w : World) (before user : SeenThread)
             → IsStopped self.old at AtReturn w before user
             → Moves self.new w result (return (stands_at t w at user) (newest at.frame.work.values.items)) }
+        ensures same { self.new.program ≡ self.old.program }
     {
         match last(at.frame.work.values.as_slice()) {
             Some(value) => self.give(at.slot, at.thread, at.frame, value),
@@ -327,9 +336,10 @@ impl Machine {
         value: Value,
     ) -> Result<bool, AllocError>
         requires { slot < length self.old.slots.items }
-        ensures { let t = table_of self.old.program in (w : World) (before user : SeenThread) (point : ℕ) → StandsBut self.old slot w before
-            → IsUser (text_of self.old.program) thread user → IsUser (text_of self.old.program) thread before
+        ensures moves { let t = table_of self.old.program in (w : World) (before user : SeenThread) (point : ℕ) → StandsBut self.old slot w before
+            → IsUser (versions_of self.old.program) thread user → IsUser (versions_of self.old.program) thread before
             → Moves self.new w result (return_to (standing_at t w slot thread frame point user) (seen value) (frames_of t thread.below.items)) }
+        ensures same { self.new.program ≡ self.old.program }
     {
         let mut thread = thread;
         match pop_frame(&mut thread.below) {
@@ -351,9 +361,10 @@ impl Machine {
         value: Value,
     ) -> Result<bool, AllocError>
         requires { slot < length self.old.slots.items }
-        ensures { (w : World) (before user : SeenThread) (point : ℕ) → StandsBut self.old slot w before
-            → IsUser (text_of self.old.program) thread user → IsUser (text_of self.old.program) thread before
+        ensures moves { (w : World) (before user : SeenThread) (point : ℕ) → StandsBut self.old slot w before
+            → IsUser (versions_of self.old.program) thread user → IsUser (versions_of self.old.program) thread before
             → Moves self.new w result (finish_thread (standing_at (table_of self.old.program) w slot thread frame point user) (seen value) slot) }
+        ensures same { self.new.program ≡ self.old.program }
     {
         if slot == 0 {
             self.finish = Some(Finish::Finished(number_of(value)));
@@ -367,8 +378,9 @@ impl Machine {
     /// A thread ends with a result.
     fn leave(&mut self, slot: u8, serial: usize, value: Value)
         requires { slot < length self.old.slots.items }
-        ensures { (w : World) (before : SeenThread) → StandsBut self.old slot w before
+        ensures stands { (w : World) (before : SeenThread) → StandsBut self.old slot w before
             → Stands self.new (with_slot slot (IsOver serial (seen value)) w) }
+        ensures same { self.new.program ≡ self.old.program }
     {
         self.slots[slot as usize] = Slot::Over(serial, value);
     }
@@ -376,9 +388,10 @@ impl Machine {
     /// Begins a transaction.
     pub(crate) fn begin(&mut self, at: Stopped) -> Result<bool, AllocError>
         requires { at.slot < length self.old.slots.items }
-        ensures { let t = table_of self.old.program in (w : World) (before user : SeenThread)
+        ensures moves { let t = table_of self.old.program in (w : World) (before user : SeenThread)
             → IsStopped self.old at AtBegin w before user
             → Moves self.new w result (begin_at (stands_at t w at user) user.depth (gone_on (stands_at t w at user) (newest at.frame.work.values.items))) }
+        ensures same { self.new.program ≡ self.old.program }
     {
         let Stopped {
             slot,
@@ -396,9 +409,10 @@ impl Machine {
     /// Ends the innermost transaction; the record of the outermost one is closed.
     pub(crate) fn end(&mut self, at: Stopped) -> Result<bool, AllocError>
         requires { at.slot < length self.old.slots.items }
-        ensures { let t = table_of self.old.program in (w : World) (before user : SeenThread)
+        ensures moves { let t = table_of self.old.program in (w : World) (before user : SeenThread)
             → IsStopped self.old at AtEnd w before user
             → Moves self.new w result (end_at (stands_at t w at user) user.depth (gone_on (stands_at t w at user) (newest at.frame.work.values.items))) }
+        ensures same { self.new.program ≡ self.old.program }
     {
         match at.thread.depth {
             0 => self.stay(
@@ -415,9 +429,10 @@ impl Machine {
     fn end_inner(&mut self, at: Stopped) -> Result<bool, AllocError>
         requires slot { at.slot < length self.old.slots.items }
         requires depth { 1 < at.thread.depth }
-        ensures { let t = table_of self.old.program in (w : World) (before user : SeenThread)
+        ensures moves { let t = table_of self.old.program in (w : World) (before user : SeenThread)
             → IsStopped self.old at AtEnd w before user
             → Moves self.new w result (end_at (stands_at t w at user) user.depth (gone_on (stands_at t w at user) (newest at.frame.work.values.items))) }
+        ensures same { self.new.program ≡ self.old.program }
     {
         let Stopped {
             slot,
@@ -436,9 +451,10 @@ impl Machine {
     fn close(&mut self, at: Stopped) -> Result<bool, AllocError>
         requires slot { at.slot < length self.old.slots.items }
         requires depth { at.thread.depth ≡ 1 }
-        ensures { let t = table_of self.old.program in (w : World) (before user : SeenThread)
+        ensures moves { let t = table_of self.old.program in (w : World) (before user : SeenThread)
             → IsStopped self.old at AtEnd w before user
             → Moves self.new w result (end_at (stands_at t w at user) user.depth (gone_on (stands_at t w at user) (newest at.frame.work.values.items))) }
+        ensures same { self.new.program ≡ self.old.program }
     {
         let Stopped {
             slot,

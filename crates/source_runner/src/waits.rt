@@ -5,7 +5,7 @@ ghost use Rattle.source_model.specs.Worlds.{World, holder_of, is_over};
 ghost use Rattle.source_runner.specs.Machines.{Stands};
 ghost use Rattle.resolved_tree.specs.Nodes.{word};
 ghost use Rattle.local_evaluation.specs.Pieces.{stop_of};
-ghost use Rattle.source_runner.specs.Programs.{table_of};
+ghost use Rattle.source_programs.specs.Programs.{table_of};
 ghost use Rattle.source_runner.specs.Waits.{waiting_of};
 ghost use Rattle.local_evaluation.specs.Work.{newest};
 

@@ -2,12 +2,20 @@
 //! means. Its texts are read from C, and its runs are made by the public calls.
 //!
 //! Read in this order: `runs` (texts, with what each prints and how it ends), `moves` (what is asked of a run between its
-//! moves, and threads that share objects and mutexes), `evaluation` (where a thread's private work stops).
+//! moves, and threads that share objects and mutexes), `installs` (newer texts that are installed while a run goes on),
+//! `misuses` (what old code uses that is no longer what it was), `queries` (where a thread stands, across an install),
+//! `evaluation` (where a thread's private work stops).
 #![tactic(auto)]
 
 #[cfg(test)]
 mod evaluation;
 #[cfg(test)]
+mod installs;
+#[cfg(test)]
+mod misuses;
+#[cfg(test)]
 mod moves;
+#[cfg(test)]
+mod queries;
 #[cfg(test)]
 mod runs;

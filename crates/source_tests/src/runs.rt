@@ -1,17 +1,18 @@
 //! Texts, with what each prints and how it ends.
 use bytecode::TrapKind;
 use c_front::read_text;
+use c_types::Typed;
 use source_runner::{SourceMove, SourceRun, SourceState};
 use std::alloc::{AllocError, Global};
 use std::test::Fail;
 
 /// How many slots there are, and how many objects may live at once.
-const SLOTS: u8 = 4;
+pub(crate) const SLOTS: u8 = 4;
 
 const OBJECTS: u32 = 2;
 
 /// More turns than any of these texts takes.
-const TURNS: usize = 1000;
+pub(crate) const TURNS: usize = 1000;
 
 /// Texts of which `main` returns 0, and what they print.
 static PRINTS: [(&str, &str); 36] = [
@@ -237,18 +238,43 @@ static ENDS: [(&str, SourceState); 16] = [
     ),
 ];
 
-/// The run of a text.
-pub(crate) fn run_of(alloc: Global, text: &str) -> Result<SourceRun, Fail> {
-    let Ok(typed) = read_text(alloc, text.as_bytes()) else {
-        return Err(Fail::new("the text has a fault"));
-    };
+/// A text that is read.
+fn read(alloc: Global, text: &str) -> Result<Typed, Fail> {
+    match read_text(alloc, text.as_bytes()) {
+        Ok(typed) => Ok(typed),
+        Err(_) => Err(Fail::new("a text has a fault")),
+    }
+}
+
+/// Some texts that are read.
+fn read_all(alloc: Global, sources: &[&str]) -> Result<Vec<Typed>, Fail> {
     let mut texts = Vec::new(alloc);
-    texts.push(typed)?;
+    for source in sources {
+        texts.push(read(alloc, *source)?)?;
+    }
+    Ok(texts)
+}
+
+/// The run of the first of some texts.
+fn first_run(alloc: Global, texts: Vec<Typed>) -> Result<SourceRun, Fail> {
+    if texts.is_empty() {
+        return Err(Fail::new("there is no text"));
+    }
     Ok(SourceRun::new(alloc, texts, OBJECTS, SLOTS)?)
 }
 
+/// The run of the first of some texts, where the others can be installed.
+pub(crate) fn run_over(alloc: Global, sources: &[&str]) -> Result<SourceRun, Fail> {
+    first_run(alloc, read_all(alloc, sources)?)
+}
+
+/// The run of a text.
+pub(crate) fn run_of(alloc: Global, text: &str) -> Result<SourceRun, Fail> {
+    run_over(alloc, &[text])
+}
+
 /// Moves the threads in turn, each as often as it can.
-fn take_turns(run: &mut SourceRun) -> Result<(), AllocError> {
+pub(crate) fn take_turns(run: &mut SourceRun) -> Result<(), AllocError> {
     for turn in 0..TURNS {
         for slot in 0..SLOTS {
             run.step(SourceMove::Move(slot))?;
@@ -258,7 +284,7 @@ fn take_turns(run: &mut SourceRun) -> Result<(), AllocError> {
 }
 
 /// Whether a run prints this and ends so.
-fn ends(run: &mut SourceRun, out: &str, state: SourceState) -> Result<bool, Fail> {
+pub(crate) fn ends(run: &mut SourceRun, out: &str, state: SourceState) -> Result<bool, Fail> {
     take_turns(run)?;
     Ok(run.output() == out.as_bytes() && run.state() == state)
 }

@@ -4,7 +4,7 @@ use Rattle.c_semantics.specs.Transformers.{zero_fields}
 use Rattle.c_semantics.specs.Values.{Reference}
 use Rattle.source_runner.specs.declared.store.Object.{Object}
 use Rattle.resolved_tree.specs.Nodes.{word}
-use Rattle.source_runner.specs.Programs.{text_of, table_of}
+use Rattle.source_programs.specs.Programs.{current_of, table_of}
 use Rattle.source_runner.specs.Stores.{object_of, objects_of}
 use Rattle.local_evaluation.specs.Values.{seen}
 use Rattle.local_evaluation.specs.Work.{newest}
@@ -16,7 +16,7 @@ use Rattle.source_runner.proofs.objects.allocate.Goals as goal
 pub returns-clause-made : goal.returns-clause-made
 returns-clause-made c = λ slot is_program.
     let t = table_of c.args.program.now in
-    let text = text_of c.args.program.now in
+    let text = current_of c.args.program.now in
     let tag = word t c.args.tag in
     let old = c.args.store.now in
     let made : Object = record { tag = c.args.tag; fields = c.in_ok-fields.fields; live = true } in

@@ -1,7 +1,7 @@
 use Rattle.std.proofs.Common.{◌≡◌, take}
 use Rattle.c_semantics.specs.Transformers.{zero_fields}
 use Rattle.resolved_tree.specs.Nodes.{Table}
-use Rattle.source_runner.specs.Definitions.{bindings_of}
+use Rattle.source_programs.specs.Definitions.{bindings_of}
 use Rattle.source_runner.specs.Stores.{fields_of}
 use Rattle.source_runner.proofs.objects.fresh.Given as goal
 

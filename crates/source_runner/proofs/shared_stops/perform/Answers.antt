@@ -3,7 +3,7 @@ use Rattle.std.proofs.lemmas.List.{with_items_is}
 use Rattle.c_semantics.specs.Stops.{ReadElement, ReadField, Free}
 use Rattle.resolved_tree.specs.Nodes.{word}
 use Rattle.local_evaluation.specs.Pieces.{stop_of}
-use Rattle.source_runner.specs.Programs.{table_of, text_of}
+use Rattle.source_programs.specs.Programs.{current_of, table_of}
 use Rattle.resolved_tree.specs.Trees.{table}
 use Rattle.source_runner.proofs.Performing.{performs_same}
 use Rattle.source_runner.proofs.shared_stops.perform.Goals as goal
@@ -12,7 +12,7 @@ pub returns-in-ReadElement-clause-made : goal.returns-in-ReadElement-clause-made
 returns-in-ReadElement-clause-made c = λ is_program own.
     let t = table c.trees-trees.result.now in
     let u = table_of c.args.program.now in
-    let text = text_of c.args.program.now in
+    let text = current_of c.args.program.now in
     let values = c.args.values.now in
     let name = c.in-ReadElement.name in
     let after = c.read_element.new.values in
@@ -26,7 +26,7 @@ pub returns-in-ReadField-clause-made : goal.returns-in-ReadField-clause-made
 returns-in-ReadField-clause-made c = λ is_program own.
     let t = table c.trees-trees.result.now in
     let u = table_of c.args.program.now in
-    let text = text_of c.args.program.now in
+    let text = current_of c.args.program.now in
     let values = c.args.values.now in
     let name = c.in-ReadField.name in
     let tag = word u c.in-ReadField.field-0 in
@@ -40,7 +40,7 @@ returns-in-ReadField-clause-made c = λ is_program own.
 pub returns-in-Free-clause-made : goal.returns-in-Free-clause-made
 returns-in-Free-clause-made c = λ is_program own.
     let u = table_of c.args.program.now in
-    let text = text_of c.args.program.now in
+    let text = current_of c.args.program.now in
     let values = c.args.values.now in
     let tag = word u c.in-Free.field-0 in
     let after = c.release.new.values in

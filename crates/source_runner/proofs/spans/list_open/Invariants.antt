@@ -4,5 +4,5 @@ use Rattle.source_runner.proofs.spans.list_open.Given as goal
 
 abbrev pub invariant-loop-place : goal.invariant-loop-place
 invariant-loop-place l =
-    map span_of l.spans.items ++ spans_from l.version l.place (drop l.place l.slots)
-    ≡ map span_of l.fn.spans.items ++ spans_from l.version 0 l.slots
+    map span_of l.spans.items ++ spans_from l.place (drop l.place l.slots)
+    ≡ map span_of l.fn.spans.items ++ spans_from 0 l.slots

@@ -1,6 +1,6 @@
 use Rattle.std.proofs.Common.{subst}
 use Rattle.source_runner.specs.declared.machine.Finish.TheVariants.{Finished}
-use Rattle.source_runner.specs.Programs.{table_of, text_of}
+use Rattle.source_programs.specs.Programs.{table_of, versions_of}
 use Rattle.local_evaluation.specs.Values.{seen}
 use Rattle.source_runner.specs.Machines.{Stands}
 use Rattle.source_runner.proofs.Calls.{finish_main}
@@ -9,8 +9,8 @@ use Rattle.source_runner.proofs.Stopping.{moves_as}
 use Rattle.source_runner.proofs.Stored.{trapped}
 use Rattle.source_runner.proofs.machine.Machine.finish.Goals as goal
 
-pub returns-then-slot-eq0 : goal.returns-then-slot-eq0
-returns-then-slot-eq0 c = λ w before user point but used had.
+pub returns-then-slot-eq0-clause-moves : goal.returns-then-slot-eq0-clause-moves
+returns-then-slot-eq0-clause-moves c = λ w before user point but used had.
     let m = c.args.self.now in
     let t = table_of m.program in
     let end = finished m c.args.slot w before (Finished c.number_of.result) but in
@@ -18,5 +18,5 @@ returns-then-slot-eq0 c = λ w before user point but used had.
     (finish_main t w c.args.slot c.args.thread c.args.frame point user (seen c.args.value) _ c.if-slot-eq0.true c.number_of.ensures)
     (record {
       came = subst (λ v. Stands c.keep.new.self v) (with_same _ _ _ before end)
-          (c.keep.ensures _ before before end (trapped (text_of m.program) t c.args.thread _ before.frames _ before (or_true w.misused) had));
+          (c.keep.ensures.stands _ before before end (trapped (versions_of m.program) t c.args.thread _ before.frames _ before (or_true w.misused) had));
     })

@@ -1,7 +1,7 @@
 use Rattle.std.proofs.Common.{None, Some, sym, ap, ◌∙◌}
 use Rattle.source_model.specs.Waits.{held_by}
 use Rattle.resolved_tree.specs.Nodes.{word}
-use Rattle.source_runner.specs.Programs.{table_of}
+use Rattle.source_programs.specs.Programs.{table_of}
 use Rattle.source_runner.proofs.Waiting.{holder_is, itself_holds, others_hold}
 use Rattle.source_runner.proofs.machine.Machine.held_by.Goals as goal
 use Rattle.source_runner.proofs.machine.Machine.held_by.Goals.{in_default-via-in-Some+else-holder-slot, in_default-via-in_default}

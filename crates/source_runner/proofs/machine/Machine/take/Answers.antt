@@ -8,19 +8,19 @@ use Rattle.source_runner.proofs.Stopping.{moves_as}
 use Rattle.source_runner.proofs.Taking.{lives, none_moves, slot_is, stands_with, taking, twice}
 use Rattle.source_runner.proofs.machine.Machine.take.Goals as goal
 
-pub returns-in-Live : goal.returns-in-Live
-returns-in-Live c = λ w h going.
+pub returns-in-Live-clause-moves : goal.returns-in-Live-clause-moves
+returns-in-Live-clause-moves c = λ w h going.
     let m = c.args.self.now in
     let slot = c.args.slot in
     let at = sym (c.in-Some.ensures.item.3.1 Free) ∙ sym c.replace.ensures.value ∙ c.in-Live.is in
     let there = lives m w slot c.in-Live.thread c.in-Live.next h at in
     moves_as _ w _ _ _ (ap (move_of w slot) there.1)
-    (c.act.ensures w there.0
+    (c.act.ensures.moves w there.0
     (taking m _ w slot there.0 h c.in-Some.ensures.item.3.0 (ap (slice_set m.slots.items slot) (c.replace.ensures.after ∙ c.taken.ensures)) there.1)
     going (not_over _ _ _ _ _ _ going there.2))
 
-pub returns-in_default-replace : goal.returns-in_default-replace
-returns-in_default-replace c = λ w h going.
+pub returns-in_default-replace-clause-moves : goal.returns-in_default-replace-clause-moves
+returns-in_default-replace-clause-moves c = λ w h going.
     let m = c.args.self.now in
     let slot = c.args.slot in
     let same = c.replace.ensures.value ∙ c.in-Some.ensures.item.3.1 Free in

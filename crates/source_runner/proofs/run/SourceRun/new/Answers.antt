@@ -1,16 +1,27 @@
-use Rattle.std.proofs.Common.{false, [], map, refl, sym, subst, arith}
+use Rattle.std.proofs.Common.{◌<◌, false, [], ◌∷◌, length, map, refl, sym, ap, subst, ◌∙◌, arith}
+use Rattle.std.specs.Prelude.{slice_index_or}
+use Rattle.std.proofs.lemmas.List.{length-map}
 use Rattle.source_model.specs.Worlds.{Limits, first_world}
+use Rattle.source_programs.specs.Programs.{text_in, texts_of, trees_of, versions_of}
 use Rattle.source_runner.specs.Machines.{Stands}
-use Rattle.source_runner.specs.SourceRuns.{IsRun, text_in}
-use Rattle.source_runner.proofs.Running.{first_run, head_is}
+use Rattle.source_runner.proofs.Running.{first_run}
+use Rattle.source_runner.proofs.Texts.{texts_are}
 use Rattle.source_runner.proofs.run.SourceRun.new.Goals as goal
 
-pub returns : goal.returns
-returns c =
+pub returns-clause-run : goal.returns-clause-run
+returns-clause-run c =
     let limits : Limits = record { objects = c.args.objects; slots = c.args.slots } in
-    let loaded = c.in_ok-loaded.ensures in
-    let texts = head_is c.args.texts.items c.remove.result c.requires c.remove.ensures.value in
-    let stands = subst (λ text. Stands c.in_ok-start.field-0 (first_world text limits)) loaded.text
-    (c.in_ok-start.ensures.stands (record { sound = loaded.sound; globals = loaded.globals; main = loaded.main })) in
-    subst (λ ts. IsRun (map text_in ts) limits [] (record { machine = c.in_ok-start.field-0; spans = c.new.result; counted = 0; failed = false })) (sym texts.1)
-    (first_run (text_in c.remove.result) (map text_in texts.0) limits _ stands (omega (arith, c.ranges.slots.fits)) c.new.ensures.items refl)
+    let loaded = c.in_ok-program.ensures in
+    let made = c.in_ok-start.ensures in
+    let m = c.in_ok-start.field-0 in
+    let texts = map text_in c.args.texts.items in
+    let same = texts_are c.in_ok-program.program c.args.texts.items loaded.texts in
+    let some = subst (λ n. 0 < n) (sym (length-map c.args.texts.items text_in)) c.requires in
+    let stands = subst (λ ts. Stands m (first_world (slice_index_or ts 0 []) limits)) same (made.stands loaded.sound loaded.first) in
+    first_run texts limits (record { machine = m; spans = c.new.result; counted = 0; failed = false }) some stands
+    (ap texts_of made.program ∙ same)
+    (ap versions_of made.program ∙ loaded.first ∙ ap (λ ts. slice_index_or ts 0 [] ∷ []) same)
+    (omega (arith, c.ranges.slots.fits)) c.new.ensures.items refl
+
+pub returns-clause-trees : goal.returns-clause-trees
+returns-clause-trees c = ap trees_of c.in_ok-start.ensures.program ∙ c.in_ok-program.ensures.texts

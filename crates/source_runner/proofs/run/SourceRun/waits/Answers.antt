@@ -1,11 +1,9 @@
 use Rattle.std.proofs.Common.{Some, sym, ap, ◌∙◌}
 use Rattle.source_model.specs.Waits.{waits_for}
-use Rattle.source_model.specs.Worlds.{is_over}
-use Rattle.source_runner.proofs.FirstTable.{some_is}
-use Rattle.source_runner.proofs.Running.{given}
+use Rattle.source_runner.proofs.Running.{given, going_on}
 use Rattle.source_runner.proofs.run.SourceRun.waits.Goals as goal
 
 pub returns : goal.returns
 returns c = λ texts limits moves h going.
-    let not_over = some_is _ _ (sym (given (λ x. is_over x.world) texts limits moves _ h) ∙ going) in
+    let not_over = going_on texts limits moves _ h going in
     given (λ x. waits_for x.world c.args.slot) texts limits moves _ h ∙ ap Some (sym (c.waits.ensures h.world h.stands not_over))

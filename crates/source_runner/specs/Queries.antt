@@ -1,0 +1,36 @@
+-- What is asked of the thread in a slot.
+use Rattle.std.specs.Prelude.{ℕ, List, [], ◌∷◌, Option, Some, None, option_map}
+use Rattle.c_tree.specs.BareExpr.{Bytes}
+use Rattle.c_semantics.specs.Threads.{Frame, Thread}
+use Rattle.source_model.specs.Worlds.{Slot, Free, Live, Over}
+use Rattle.resolved_tree.specs.Nodes.{Table, word}
+use Rattle.source_runner.specs.declared.queries.FrameAt.{FrameAt}
+
+-- where a frame is: in which function, under which version, and at which point it last stopped
+pub record Place : Type 0 where
+  pub function : Bytes
+  pub version : ℕ
+  pub point : ℕ
+
+abbrev pub place_of : Frame → Place
+place_of f = record { function = f.function; version = f.version; point = f.standing }
+
+-- the same of what is answered
+abbrev pub place_at : Table → FrameAt → Place
+place_at t f = record { function = word t f.function; version = f.version; point = f.point }
+
+-- the place of the innermost frame
+abbrev pub innermost : List Frame → Option Place
+innermost [] = None
+innermost (f ∷ fs) = Some (place_of f)
+
+abbrev pub innermost_in : Slot → Option Place
+innermost_in Free = None
+innermost_in (Live th) = innermost th.frames
+innermost_in (Over serial result) = None
+
+-- the function of the enter that is due
+abbrev pub entering_in : Slot → Option Bytes
+entering_in Free = None
+entering_in (Live th) = option_map (λ e. e.function) th.entering
+entering_in (Over serial result) = None
