@@ -1,5 +1,5 @@
 -- The outcome of a run, and the status with which it ends.
-use Rattle.std.proofs.Common.{◌≡◌, ◌⊎◌, inl, inr, Bool, ℕ, zero, suc, ◌≤◌, List, [], ◌∷◌, ◌++◌, drop, take, Option, Some, None, refl, sym, ◌∙◌, ap, subst, arith}
+use Rattle.std.proofs.Common.{◌≡◌, ◌⊎◌, inl, inr, Bool, ℕ, zero, suc, ◌≤◌, List, [], ◌∷◌, ◌++◌, drop, take, Option, Some, None, sym, ◌∙◌, ap, subst, arith}
 use Rattle.std.specs.Prelude.{length, slice_get}
 use Rattle.std.specs.Option.{option_and_then}
 use Rattle.std.proofs.lemmas.Option.{none-some, same_Some}
@@ -13,7 +13,7 @@ use Rattle.dsu_report.specs.Statuses.{status_of_ending}
 use Rattle.dsu_report.specs.declared.fault.FaultLine.TheVariants.{Memory}
 use Rattle.dsu_runs.specs.Replays.{events_of}
 use Rattle.dsu_runs.proofs.Coming.{play_parts}
-use Rattle.dsu_runs.proofs.Happening.{any_rules}
+use Rattle.dsu_runs.specs.Rows.{AreRows, RulesExist}
 use Rattle.dsu_runs.specs.declared.ran.Ran.{Ran as RanOf}
 use Rattle.dsu_commands.specs.declared.finish.Finish.{Finish}
 use Rattle.dsu_commands.specs.declared.outcome.Outcome.{Outcome}
@@ -57,7 +57,7 @@ done_by status e is = let small = ending_done e in omega (arith, is, small)
 
 -- where no event of the plan is impossible, the run is done or excused
 pub came_done : (plan : Plan) (setup : Setup) (journal : Bool) (file : List ℕ) (c : Call)
-    → ((g : Guard) (line : ℕ) → Follows plan setup c.history g → ((rules : Rules) → guard_after rules setup c.history ≡ Some g)
+    → ((g : Guard) (line : ℕ) → Follows plan setup c.history g → ((rules : Rules) → AreRows rules → guard_after rules setup c.history ≡ Some g)
     → Impossible plan setup c.history g line → ⊥)
     → Came plan setup journal file c → IsDone c.status ⊎ IsExcused c.status
 came_done plan setup journal file c possible (ran r) = inl (done_by c.status _ r.status)
@@ -89,29 +89,29 @@ illegal rules setup es rest e g before never legal =
     (sym (play_parts rules setup es (e ∷ rest) (first_guard setup) ∙ ap (option_and_then (play rules setup (e ∷ rest))) before
     ∙ ap (option_and_then (play rules setup rest)) never) ∙ legal.1)
 
-can_go_on : (setup : Setup) (lines : List (ℕ × Event)) (history : List Event) (g : Guard) (line : ℕ)
-    → history ≡ take (length history) (events_of lines) → ((rules : Rules) → guard_after rules setup history ≡ Some g)
-    → ((rules : Rules) → IsLegal rules setup (events_of lines)) → CannotGoOn setup lines history g line → ⊥
-can_go_on setup lines history g line made before legal stuck =
+can_go_on : RulesExist → (setup : Setup) (lines : List (ℕ × Event)) (history : List Event) (g : Guard) (line : ℕ)
+    → history ≡ take (length history) (events_of lines) → ((rules : Rules) → AreRows rules → guard_after rules setup history ≡ Some g)
+    → ((rules : Rules) → AreRows rules → IsLegal rules setup (events_of lines)) → CannotGoOn setup lines history g line → ⊥
+can_go_on exist setup lines history g line made before legal stuck =
     let next = from_line lines (length history) (line, stuck.event) stuck.next in
     let parts : events_of lines ≡ history ++ stuck.event ∷ next.0 =
     sym (take-append-drop (length history) (events_of lines))
     ∙ ap (λ es. es ++ drop (length history) (events_of lines)) (sym made) ∙ ap (λ es. history ++ es) next.1 in
-    illegal any_rules setup history next.0 stuck.event g (before any_rules) (stuck.never any_rules)
-    (subst {A = List Event} (IsLegal any_rules setup) parts (legal any_rules))
+    illegal exist.0 setup history next.0 stuck.event g (before exist.0 exist.1) (stuck.never exist.0 exist.1)
+    (subst {A = List Event} (IsLegal exist.0 setup) parts (legal exist.0 exist.1))
 
-pub journal_done : (lines : List (ℕ × Event)) (setup : Setup) (journal : Bool) (file : List ℕ) (c : Call)
-    → ((rules : Rules) → IsLegal rules setup (events_of lines))
+pub journal_done : RulesExist → (lines : List (ℕ × Event)) (setup : Setup) (journal : Bool) (file : List ℕ) (c : Call)
+    → ((rules : Rules) → AreRows rules → IsLegal rules setup (events_of lines))
     → Came (ByJournal lines) setup journal file c → IsDone c.status ⊎ IsExcused c.status
-journal_done lines setup journal file c legal came =
+journal_done exist lines setup journal file c legal came =
     came_done (ByJournal lines) setup journal file c
-    (λ g line follows before stuck. can_go_on setup lines c.history g line follows before legal stuck) came
+    (λ g line follows before stuck. can_go_on exist setup lines c.history g line follows before legal stuck) came
 
 -- the same where memory may have run out before
-pub replayed_done : (lines read : List (ℕ × Event)) (setup : Setup) (journal : Bool) (file : List ℕ) (c : Call) → read ≡ lines
-    → ((rules : Rules) → IsLegal rules setup (events_of lines))
+pub replayed_done : RulesExist → (lines read : List (ℕ × Event)) (setup : Setup) (journal : Bool) (file : List ℕ) (c : Call) → read ≡ lines
+    → ((rules : Rules) → AreRows rules → IsLegal rules setup (events_of lines))
     → Came (ByJournal read) setup journal file c ⊎ Stopped Memory [] c → IsDone c.status ⊎ IsExcused c.status
-replayed_done lines read setup journal file c same legal (inl came) =
-    journal_done lines setup journal file c legal
+replayed_done exist lines read setup journal file c same legal (inl came) =
+    journal_done exist lines setup journal file c legal
     (subst {A = List (ℕ × Event)} (λ ls. Came (ByJournal ls) setup journal file c) same came)
-replayed_done lines read setup journal file c same legal (inr s) = inr (inr (inr s.status))
+replayed_done exist lines read setup journal file c same legal (inr s) = inr (inr (inr s.status))

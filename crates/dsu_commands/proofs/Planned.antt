@@ -30,9 +30,9 @@ module _ {T : Type 0} (setup : Setup) (is_at : Guard → T → Type 0) (told : T
     follows = record {
       last = at.last;
       solo = at.solo;
-      prompt = λ rules.
+      prompt = λ rules are.
           subst {A = List Event} (λ es. IsTrue (is_prompt rules setup es)) (reverse-reverse ran.history.items)
-          (prompt rules setup (reverse ran.history.items) at.guard at.last (at.solo rules));
+          (prompt rules setup (reverse ran.history.items) at.guard at.last (at.solo rules are));
       most = at.most;
       begun = at.begun;
     };

@@ -2,14 +2,14 @@
 use Rattle.std.proofs.Common.{◌≡◌, inl, inr, ℕ, Bool, List, [], Option, Some, None, refl, ◌∙◌, ap, subst}
 use Rattle.std.specs.Prelude.{length, option_map}
 use Rattle.bytecode.specs.declared.run.Ending.{Ending}
-use Rattle.source_model.specs.Guards.{Guard, Rules, Setup}
+use Rattle.source_model.specs.Guards.{Guard, Setup}
 use Rattle.source_model.specs.JournalLaws.{JournalIsARun, SeatsAlwaysFit}
 use Rattle.source_model.specs.Runs.{result}
 use Rattle.dsu_report.specs.declared.fault.FaultLine.TheVariants as fault
 use Rattle.dsu_report.specs.declared.fault.LineWord.TheVariants as word
 use Rattle.dsu_report.specs.Faults.{fault_line}
 use Rattle.dsu_report.specs.Statuses.{status_of_ending}
-use Rattle.dsu_runs.proofs.Happening.{any_rules}
+use Rattle.dsu_runs.specs.Rows.{RulesExist}
 use Rattle.dsu_runs.specs.declared.ran.Ran.{Ran}
 use Rattle.dsu_runs.specs.declared.ran.StopCause.{StopCause}
 use Rattle.dsu_runs.specs.declared.ran.StopCause.TheVariants.{Ended, SinkFailed, CannotHappen, Memory}
@@ -27,14 +27,14 @@ pub record Faulted (line : List ℕ) (status : ℕ) (finish : Finish) (err : Out
   pub shown : Writes err line
 
 module _ {T : Type 0} (plan : Plan) (setup : Setup) (is_at : Guard → T → Type 0) (told : T → Option (List ℕ)) (faults : T → ℕ)
-    (engine : T) (r : Ran T) (run : JournalIsARun) (by : RanBy plan setup is_at told faults engine r) where
+    (engine : T) (r : Ran T) (exist : RulesExist) (run : JournalIsARun) (by : RanBy plan setup is_at told faults engine r) where
   abbrev made : Made plan setup r.history.items
   made = record {
     guard = by.guard;
     machine = result by.guard.world;
     legal = by.legal;
     same = refl;
-    moved = ap (option_map result) (run any_rules setup r.history.items by.guard (by.legal any_rules));
+    moved = ap (option_map result) (run exist.0 setup r.history.items by.guard (by.legal exist.0 exist.1));
     follows = by.follows;
   }
 
@@ -70,7 +70,7 @@ module _ {T : Type 0} (plan : Plan) (setup : Setup) (is_at : Guard → T → Typ
         → Came plan setup journal file (run_call finish r (output_of told faults engine r.engine) err)
     ended fit end is report =
         let s = stopped (Ended end) is in
-        reported end s (report by.guard s.there (fit any_rules setup r.history.items by.guard (by.legal any_rules)).count)
+        reported end s (report by.guard s.there (fit exist.0 setup r.history.items by.guard (by.legal exist.0 exist.1)).count)
 
     pub sink_failed : r.cause ≡ SinkFailed → Faulted (fault_line fault.Write []) 13 finish err
         → Came plan setup journal file (run_call finish r (output_of told faults engine r.engine) err)

@@ -14,6 +14,7 @@ use Rattle.dsu_cli.specs.declared.job.Job.TheVariants.{Run, Replay, Check, Effec
 use Rattle.dsu_cli.specs.declared.job.Offer.{Offer}
 use Rattle.dsu_report.specs.declared.fault.FaultLine.{FaultLine}
 use Rattle.dsu_report.specs.declared.fault.FaultLine.TheVariants.{Unread, TooLong}
+use Rattle.dsu_runs.specs.Rows.{AreRows}
 use Rattle.dsu_runs.specs.Replays.{events_of}
 use Rattle.dsu_runs.specs.Setups.{setup_of}
 use Rattle.input_files.specs.Files.{Exceeds}
@@ -91,7 +92,7 @@ IsReady (Run job) content = (program : Program) × IsKnownProgram (content job.f
 IsReady (Replay job) content =
     (program : Program) × IsKnownProgram (content job.file) program
     × (lines : List (ℕ × Event)) × IsKnownJournal (content job.journal) lines
-    × ((rules : Rules) → IsLegal rules (setup_of program job.objects) (events_of lines))
+    × ((rules : Rules) → AreRows rules → IsLegal rules (setup_of program job.objects) (events_of lines))
 IsReady (Check file) content = (program : Program) × IsKnownProgram (content file) program
 IsReady (Effects file) content = (program : Program) × IsKnownProgram (content file) program
 IsReady (Changes old new) content =

@@ -1,11 +1,13 @@
 -- In which order the events of a run are made: by the solo schedule, or those of a journal.
-use Rattle.std.specs.Prelude.{◌≡◌, ℕ, ◌≤◌, ◌<◌, IsTrue, List, [], ◌∷◌, ◌++◌, length, reverse, slice_get, take, Option, Some, None}
+use Rattle.std.specs.Prelude.{◌≡◌, ℕ, ◌≤◌, IsTrue, List, length, reverse, slice_get, take, Option, Some, None}
 use Rattle.bytecode.specs.declared.run.Event.{Event}
 use Rattle.source_model.specs.Guards.{Guard, Rules, Setup}
 use Rattle.source_model.specs.Journals.{happens}
 use Rattle.source_model.specs.Schedules.{Solo, is_prompt, move_count}
 use Rattle.source_model.specs.Endings.{ending, run_ending}
+use Rattle.dsu_runs.specs.Rows.{AreRows}
 use Rattle.dsu_runs.specs.Replays.{events_of}
+use Rattle.dsu_runs.specs.Solo.{EachBeforeTheEnd}
 
 pub data Plan : Type 0 where
   -- by the solo schedule, with so many moves at most
@@ -13,14 +15,14 @@ pub data Plan : Type 0 where
   -- the events of a journal, each with its line
   ByJournal : List (ℕ × Event) → Plan
 
--- the events so far are those of the solo schedule, each while a move might still be made; so no move was made while an
--- offer was due
+-- the events so far are those of the solo schedule, where an open offer may be withdrawn in place of its decision, and each
+-- was made where the run hadn't ended; so no move was made while an offer was due
 pub record FollowsSchedule (setup : Setup) (moves : ℕ) (history : List Event) (g : Guard) : Type 0 where
   pub last : Option ℕ
-  pub solo : (rules : Rules) → Solo rules setup (reverse history) g last
-  pub prompt : (rules : Rules) → IsTrue (is_prompt rules setup history)
+  pub solo : (rules : Rules) → AreRows rules → Solo rules setup (reverse history) g last
+  pub prompt : (rules : Rules) → AreRows rules → IsTrue (is_prompt rules setup history)
   pub most : move_count history ≤ moves
-  pub begun : (events : List Event) (e : Event) → history ≡ events ++ e ∷ [] → move_count events < moves
+  pub begun : EachBeforeTheEnd setup moves history
 
 -- the events so far are those of the plan
 abbrev pub Follows : Plan → Setup → List Event → Guard → Type 0
@@ -36,7 +38,7 @@ Ends (ByJournal lines) setup history g = history ≡ events_of lines
 pub record CannotGoOn (setup : Setup) (lines : List (ℕ × Event)) (history : List Event) (g : Guard) (line : ℕ) : Type 0 where
   pub event : Event
   pub next : slice_get lines (length history) ≡ Some (line, event)
-  pub never : (rules : Rules) → happens rules setup event g ≡ None
+  pub never : (rules : Rules) → AreRows rules → happens rules setup event g ≡ None
 
 -- the solo schedule has no event that can't happen
 abbrev pub Impossible : Plan → Setup → List Event → Guard → ℕ → Type 0

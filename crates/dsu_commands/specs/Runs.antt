@@ -10,6 +10,7 @@ use Rattle.dsu_report.specs.declared.fault.FaultLine.TheVariants.{Line, Write, M
 use Rattle.dsu_report.specs.declared.fault.LineWord.TheVariants.{CannotHappen}
 use Rattle.dsu_report.specs.Faults.{fault_line}
 use Rattle.dsu_report.specs.Statuses.{status_of_ending}
+use Rattle.dsu_runs.specs.Rows.{AreRows}
 use Rattle.dsu_runs.specs.Ran.{FailedAt}
 use Rattle.dsu_commands.specs.Calls.{Call, Shows, ShowsPrefix, Writes}
 use Rattle.dsu_commands.specs.Plans.{Plan, Follows, Ends, Impossible}
@@ -20,7 +21,7 @@ use Rattle.dsu_commands.specs.Reports.{run_text}
 pub record Made (plan : Plan) (setup : Setup) (history : List Event) : Type 0 where
   pub guard : Guard
   pub machine : Result
-  pub legal : (rules : Rules) → guard_after rules setup history ≡ Some guard
+  pub legal : (rules : Rules) → AreRows rules → guard_after rules setup history ≡ Some guard
   pub same : machine.world ≡ guard.world
   pub moved : source_run (texts_of setup) setup.limits (moves guard.answers history) ≡ Some machine
   pub follows : Follows plan setup history guard

@@ -12,7 +12,7 @@ use crate::report::write_run;
 use bytecode::Ending;
 use dsu_io::Sink;
 use dsu_report::{FaultLine, LineWord, ending_status, write_fault};
-use dsu_runs::{Engine, Ran, StopCause};
+use dsu_runs::{Engine, Ran, StopCause, rules_exist};
 use source_model::{journal_is_a_run, seats_fit_their_slots};
 
 /// What a run came to.
@@ -35,6 +35,7 @@ pub(crate) fn report_run<T: Engine, E: Sink>(
         → Came plan setup journal file.now
         (run_call result ran.now (output_of T.told T.faults engine ran.now.engine) (output_of E.told E.faults err.old err.new)) }
 {
+    rules_exist();
     journal_is_a_run();
     seats_fit_their_slots();
     match ran.cause {

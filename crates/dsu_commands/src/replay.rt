@@ -4,6 +4,7 @@ ghost use Rattle.source_model.specs.Guards.{Rules, Setup, first_guard};
 ghost use Rattle.source_model.specs.Journals.{IsLegal};
 ghost use Rattle.dsu_cli.specs.declared.job.Job.TheVariants.{Replay};
 ghost use Rattle.dsu_report.specs.declared.fault.FaultLine.{FaultLine as Line};
+ghost use Rattle.dsu_runs.specs.Rows.{AreRows};
 ghost use Rattle.dsu_runs.specs.Replays.{events_of};
 ghost use Rattle.dsu_runs.specs.Setups.{setup_of};
 ghost use Rattle.input_files.specs.Journals.{HoldsEvents};
@@ -22,7 +23,7 @@ use c_types::Typed;
 use dsu_cli::ReplayJob;
 use dsu_io::{Files, Sink};
 use dsu_report::FaultLine;
-use dsu_runs::{Engine, Ran, replay};
+use dsu_runs::{Engine, Ran, replay, rules_exist};
 use plain_engine::PlainEngine;
 use std::alloc::Global;
 
@@ -66,13 +67,14 @@ fn replay_program<F: Files, O: Sink, E: Sink>(
         × Stopped line job.now.journal
         (call_of result (output_of O.told O.faults out result.out) (output_of E.told E.faults err.old err.new))) }
     ensures complete { (lines : List (ℕ × Made)) → IsKnownJournal (F.content files.old job.now.journal) lines
-        → ((rules : Rules) → IsLegal rules (setup_of program job.now.objects) (events_of lines))
+        → ((rules : Rules) → AreRows rules → IsLegal rules (setup_of program job.now.objects) (events_of lines))
         → IsDone result.status ⊎ IsExcused result.status }
     ensures first { (line : Line) → KnownJournalFault (F.content files.old job.now.journal) line
         → IsExcused result.status ⊎ Stopped line job.now.journal
         (call_of result (output_of O.told O.faults out result.out) (output_of E.told E.faults err.old err.new)) }
     ensures later { F.faults files.old ≤ F.faults files.new }
 {
+    rules_exist();
     let file = job.journal.as_str();
     match events_of(alloc, files, file) {
         Ok(lines) => replay_events(alloc, program, &lines, job, out, err),
@@ -110,7 +112,7 @@ fn replay_engine<T: Engine, E: Sink>(
     file: &str,
     err: &mut E,
 ) -> (Ran<T>, Finish)
-    ensures { (setup : Setup) → setup.offers ≡ [] → T.is_at setup (first_guard setup) engine
+    ensures { (setup : Setup) → T.is_at setup (first_guard setup) engine
         → Came (ByJournal lines.now) setup false file.now
         (run_call result.1 result.0 (output_of T.told T.faults engine result.0.engine) (output_of E.told E.faults err.old err.new)) }
 {

@@ -72,7 +72,7 @@ fn run_engine<T: Engine, E: Sink>(
     job: &RunJob,
     err: &mut E,
 ) -> (Ran<T>, Finish)
-    ensures { (setup : Setup) → setup.offers ≡ [] → T.is_at setup (first_guard setup) engine
+    ensures { (setup : Setup) → T.is_at setup (first_guard setup) engine
         → Came (BySchedule job.now.moves) setup job.now.journal []
         (run_call result.1 result.0 (output_of T.told T.faults engine result.0.engine) (output_of E.told E.faults err.old err.new)) }
 {

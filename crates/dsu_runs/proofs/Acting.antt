@@ -14,7 +14,7 @@ use Rattle.dsu_runs.specs.declared.running.Step.{Step}
 use Rattle.dsu_runs.specs.declared.running.Step.TheVariants.{Done, CannotHappen, SinkFailed, Memory}
 use Rattle.dsu_runs.specs.declared.solo_run.SoloRun.{SoloRun}
 use Rattle.dsu_runs.specs.Turns.{GoesAt, Keeps, Steps, Turned, Waits, history_after}
-use Rattle.dsu_runs.proofs.Happening.{MoveMade, any_rules, move_made, no_move, refused}
+use Rattle.dsu_runs.proofs.Happening.{MoveMade, any_are_rows, any_rules, move_made, no_move, refused}
 use Rattle.dsu_runs.proofs.Standing.{act_going}
 use Rattle.dsu_runs.proofs.Turns.{by_second}
 
@@ -86,7 +86,7 @@ module _ {E : Type 0} (is_at : Guard → E → Type 0) (told : E → Option (Lis
       → Turned is_at told setup g (act_of g slot) old (record { running = new; first = old.first; left = old.left }) step
   no_check_in old new slot Done goes at other tried = absurd (other refl)
   no_check_in old new slot CannotHappen goes at other tried =
-      absurd (refused any_rules setup slot g goes.going at goes.none_open (tried.0.never any_rules))
+      absurd (refused any_rules setup slot g goes.going at goes.none_open (tried.0.never any_rules any_are_rows))
   no_check_in old new slot SinkFailed goes at other tried = absurd (false≢true (tried.2 refl))
   no_check_in old new slot Memory goes at other tried = record { silent = tried.0; history = tried.1 }
 
@@ -98,16 +98,18 @@ module _ {E : Type 0} (is_at : Guard → E → Type 0) (told : E → Option (Lis
       → (step ≡ CannotHappen → ⊥) → (step ≡ Memory → ⊥) → Tried old new (Move slot) step
       → Turned is_at told setup g (act_of g slot) old (record { running = new; first = slot + 1; left = old.left - 1 }) step
   moves_on old new slot Done some other memory tried = record {
+    wanted = Move slot;
     event = Move slot;
-    due = can_move_there slot tried.0.after (move_made any_rules setup slot g tried.0.after (tried.0.happens any_rules));
+    due = can_move_there slot tried.0.after (move_made any_rules setup slot g tried.0.after (tried.0.happens any_rules any_are_rows));
+    stands = inl refl;
     makes = tried.0;
     history = tried.1;
-    first = λ last. refl;
+    first = λ last is. refl;
     left = omega (arith, some);
   }
   moves_on old new slot SinkFailed some other memory tried = record {
     event = Move slot;
-    due = can_move_there slot tried.0.after (move_made any_rules setup slot g tried.0.after (tried.0.happens any_rules));
+    due = can_move_there slot tried.0.after (move_made any_rules setup slot g tried.0.after (tried.0.happens any_rules any_are_rows));
     fails = tried.0;
     moves = refl;
     history = tried.1;
@@ -123,7 +125,7 @@ module _ {E : Type 0} (is_at : Guard → E → Type 0) (told : E → Option (Lis
   stays_there old new slot Done goes at other failed tried = absurd (other refl)
   stays_there old new slot SinkFailed goes at other failed tried = absurd (failed refl)
   stays_there old new slot CannotHappen goes at other failed tried = record {
-    none = act_going g slot false at (no_move any_rules setup slot g (tried.0.never any_rules) goes.going at);
+    none = act_going g slot false at (no_move any_rules setup slot g (tried.0.never any_rules any_are_rows) goes.going at);
     stays = tried.0.stays;
     silent = tried.0.silent;
   }

@@ -9,13 +9,13 @@ use Rattle.bytecode.specs.declared.run.Event.{Event}
 use Rattle.source_model.specs.Guards.{Guard, Rules, Setup, first_guard}
 use Rattle.source_model.specs.Journals.{guard_after, happens, play}
 use Rattle.source_model.specs.Schedules.{makes_move}
+use Rattle.dsu_runs.specs.Rows.{AreRows}
 use Rattle.dsu_runs.specs.Engines.{Fails, Grew, GrewPartly, Makes}
 use Rattle.dsu_runs.specs.Ran.{FailedAt, Printed}
 use Rattle.dsu_runs.specs.Turns.{Steps, history_after}
 use Rattle.dsu_runs.specs.declared.running.Running.{Running}
 use Rattle.dsu_runs.specs.declared.running.Step.{Step}
 use Rattle.dsu_runs.specs.declared.running.Step.TheVariants.{SinkFailed}
-use Rattle.dsu_runs.proofs.Happening.{any_rules, leaves}
 
 -- events in two parts
 pub play_parts : (rules : Rules) (setup : Setup) (es fs : List Event) (g : Guard)
@@ -61,21 +61,19 @@ part_by (Some bytes) mid now setup g after grew part =
     let last = part bytes (grew bytes (told_before (Some bytes) bytes refl)) in
     (last.0, last.1, subst (λ o. Appends (Some bytes) o (take last.0 after.world.output)) (sym last.2) refl)
 
--- some events were made in a run without offers, by an engine whose sink showed some bytes before and shows some now
+-- some events were made, by an engine whose sink showed some bytes before and shows some now
 pub record Came (setup : Setup) (told : Option (List ℕ)) (history : List Event) (g : Guard) (now : Option (List ℕ)) : Type 0 where
-  pub legal : (rules : Rules) → guard_after rules setup history ≡ Some g
-  pub none_open : g.open_offer ≡ None
+  pub legal : (rules : Rules) → AreRows rules → guard_after rules setup history ≡ Some g
   pub grew : Grew (first_guard setup) g told now
 
 pub came_first : (setup : Setup) (told : Option (List ℕ)) → Came setup told [] (first_guard setup) told
-came_first setup told = record { legal = λ rules. refl; none_open = refl; grew = λ before is. is }
+came_first setup told = record { legal = λ rules rows. refl; grew = λ before is. is }
 
 pub came_more : (at : Guard → Type 0) (setup : Setup) (told now next : Option (List ℕ)) (history : List Event) (g : Guard) (e : Event)
-    → setup.offers ≡ [] → Came setup told history g now → (m : Makes at setup e g now next)
+    → Came setup told history g now → (m : Makes at setup e g now next)
     → Came setup told (history ++ e ∷ []) m.after next
-came_more at setup told now next history g e offers came m = record {
-  legal = λ rules. legal_more rules setup history e g m.after (came.legal rules) (m.happens rules);
-  none_open = (leaves any_rules setup e g m.after offers came.none_open (m.happens any_rules)).none_open;
+came_more at setup told now next history g e came m = record {
+  legal = λ rules rows. legal_more rules setup history e g m.after (came.legal rules rows) (m.happens rules rows);
   grew = λ before is. m.grew before (came.grew before is);
 }
 
@@ -110,14 +108,14 @@ failed_at setup told now next history all g e counted count came f moves rose sp
 
 pub failed_legal : (setup : Setup) (told now next : Option (List ℕ)) (history all : List Event) (g : Guard) (e : Event)
     → Came setup told history g now → (f : Fails setup e g now next) → all ≡ history ++ e ∷ []
-    → (rules : Rules) → guard_after rules setup all ≡ Some f.after
-failed_legal setup told now next history all g e came f split rules =
-    ap (guard_after rules setup) split ∙ legal_more rules setup history e g f.after (came.legal rules) (f.happens rules)
+    → (rules : Rules) → AreRows rules → guard_after rules setup all ≡ Some f.after
+failed_legal setup told now next history all g e came f split rules rows =
+    ap (guard_after rules setup) split ∙ legal_more rules setup history e g f.after (came.legal rules rows) (f.happens rules rows)
 
 -- an event tried by an engine: what the call says that makes it
 pub record Tries {E : Type 0} (setup : Setup) (is_at : Guard → E → Type 0) (told : E → Option (List ℕ)) (faults : E → ℕ)
     (now next : Running E) (e : Event) (step : Step) : Type 0 where
-  pub made : (g : Guard) → is_at g now.engine → g.open_offer ≡ None
+  pub made : (g : Guard) → is_at g now.engine
       → Steps (λ x. is_at x next.engine) setup e g (told now.engine) (told next.engine) step
   pub history : next.history.items ≡ history_after e now.history.items step
   pub later : faults now.engine ≤ faults next.engine

@@ -1,25 +1,32 @@
--- When a move, a check-in and an offer can happen, and what they leave.
-use Rattle.std.proofs.Common.{◌≡◌, ℕ, zero, suc, ◌+◌, ◌*◌, ◌≤◌, Bool, true, false, [], ◌∷◌, Option, Some, None, refl, sym, ◌∙◌, ap, subst, arith}
-use Rattle.std.specs.Prelude.{◌&&◌, ◌||◌, ◌==◌, not, option_map, nat_lt, slice_get, if◌then◌else◌}
+-- When events can happen, and what they leave.
+use Rattle.std.proofs.Common.{◌≡◌, ℕ, Bool, true, false, Option, Some, None, refl, sym, ◌∙◌, ap, arith}
+use Rattle.std.specs.Prelude.{◌&&◌, ◌||◌, ◌==◌, not, option_map, if◌then◌else◌}
 use Rattle.std.specs.Option.{is_none, is_some, option_map_or}
 use Rattle.std.proofs.lemmas.Bool.{true≢false, false≢true}
+use Rattle.std.proofs.lemmas.Bool.Decides.{nat_tests}
 use Rattle.std.proofs.lemmas.Option.{none-some, same_Some}
-use Rattle.bytecode.specs.declared.run.Event.{Event}
-use Rattle.bytecode.specs.declared.run.Event.TheVariants.{Move, CheckIn, Offer, Decide, Withdraw}
-use Rattle.con_freeness.specs.Rows.{empty_row}
-use Rattle.source_model.specs.Worlds.{World, alive_in, in_slot}
+use Rattle.bytecode.specs.declared.run.Event.TheVariants.{Move, CheckIn, Offer, Withdraw}
+use Rattle.effects.proofs.RowsExist.{each_has_a_row}
+use Rattle.source_model.specs.Worlds.{World}
 use Rattle.source_model.specs.Moves.{move}
 use Rattle.source_model.specs.Runs.{can_move}
-use Rattle.source_model.specs.Guards.{Guard, Offer as Offered, Rules, Setup, bodies_of, checked_in, decide, has_ended, is_open, is_reached, mark_of, move_leads, moved, offer_at, seat_of}
+use Rattle.source_model.specs.Answers.{Withdrawn}
+use Rattle.source_model.specs.Guards.{Guard, Rules, Setup, answered, bodies_of, checked_in, has_ended, is_open, moved, seat_of}
 use Rattle.source_model.specs.Journals.{guard_if, happens}
-use Rattle.source_model.specs.Schedules.{move_count}
-use Rattle.dsu_runs.proofs.Seats.{after_check_in, after_move, check_ins}
+use Rattle.source_model.specs.JournalLaws.{CanHappen}
+use Rattle.source_model.specs.Schedules.{due}
+use Rattle.source_model.proofs.Soloing.{due_happens, due_is}
+use Rattle.dsu_runs.specs.Rows.{AreRows}
 
--- some rules: what is asked of events without offers is the same by all
-abbrev pub any_rules : Rules
-any_rules = record { row = λ bodies mark. empty_row }
+-- some rules by the definitions of effects
+pub any_rules : Rules
+any_rules = record { row = λ bodies mark. (each_has_a_row bodies mark).0 }
 
-none_of : {A : Type 0} (a : A) → None ≡ Some a → ⊥
+pub any_are_rows : AreRows any_rules
+unfolding any_rules
+any_are_rows bodies mark = (each_has_a_row bodies mark).1
+
+pub none_of : {A : Type 0} (a : A) → None ≡ Some a → ⊥
 none_of a e = none-some a e
 
 -- a move that was made
@@ -84,68 +91,24 @@ pub refused : (rules : Rules) (setup : Setup) (t : ℕ) (g : Guard) → has_ende
 refused rules setup t g going at none never =
     none_of (checked_in (bodies_of g) g t) (sym never ∙ passes rules setup t g going at none)
 
--- without offers none can be opened
-no_offer_reached : (g : Guard) (o : Option Offered) → o ≡ None → is_reached g o ≡ false
-no_offer_reached g o e = ap (is_reached g) e
+-- a due offer can be opened
+pub opens : (rules : Rules) (setup : Setup) (g : Guard) (k : ℕ) → has_ended g ≡ false → g.open_offer ≡ None → due setup g ≡ Some k
+    → CanHappen rules setup (Offer k) g
+opens rules setup g k going none is = let next = due_is setup g k is in due_happens rules setup g k going none next.0 next.1
 
-pub none_at : (setup : Setup) (k : ℕ) → setup.offers ≡ [] → offer_at setup k ≡ None
-none_at setup zero none = refl
-none_at setup (suc k) none = ap (λ os. slice_get os k) none
-
-fails : (a b c d : Bool) (g : Guard) → d ≡ false → guard_if (not a && (b && c && d)) g ≡ None
-fails a b c d g e = ap (λ x. guard_if (not a && (b && c && x)) g) e ∙ by a b c
+-- the open offer can be withdrawn
+pub withdraws : (rules : Rules) (setup : Setup) (g : Guard) (k : ℕ) → has_ended g ≡ false → g.open_offer ≡ Some k
+    → CanHappen rules setup (Withdraw k) g
+withdraws rules setup g k going is =
+    (answered k Withdrawn g, by (has_ended g) (is_open g k) (answered k Withdrawn g) going (open_is g.open_offer is))
   where
-    by : (x y z : Bool) → guard_if (not x && (y && z && false)) g ≡ None
-    by true y z = refl
-    by false false z = refl
-    by false true false = refl
-    by false true true = refl
+    same : (n : ℕ) → (n == n) ≡ true
+    same n = grind (arith, nat_tests)
 
-pub no_offer : (rules : Rules) (setup : Setup) (k : ℕ) (g : Guard) → setup.offers ≡ [] → happens rules setup (Offer k) g ≡ None
-no_offer rules setup k g none =
-    fails (has_ended g) (is_none g.open_offer) (nat_lt g.greatest k) (is_reached g (offer_at setup k))
-    (record g { open_offer = Some k; greatest = k }) (no_offer_reached g (offer_at setup k) (none_at setup k none))
+    open_is : (o : Option ℕ) → o ≡ Some k → option_map_or (λ n. n == k) o false ≡ true
+    open_is o e = ap (λ p. option_map_or (λ n. n == k) p false) e ∙ same k
 
--- where no offer is open, none is decided or withdrawn
-not_open : (g : Guard) (k : ℕ) → g.open_offer ≡ None → is_open g k ≡ false
-not_open g k none = ap (λ o. option_map_or (λ open_number. open_number == k) o false) none
-
-pub no_decision : (rules : Rules) (setup : Setup) (k : ℕ) (g : Guard) → g.open_offer ≡ None → happens rules setup (Decide k) g ≡ None
-no_decision rules setup k g none =
-    by (has_ended g) (is_open g k) (decide rules g k (offer_at setup k)) (not_open g k none)
-  where
-    by : (a b : Bool) (o : Option Guard) → b ≡ false → (if not a && b then o else None) ≡ None
-    by true b o e = refl
-    by false b o e = ap (λ x. if x then o else None) e
-
-pub no_withdrawal : (rules : Rules) (setup : Setup) (k : ℕ) (g : Guard) → g.open_offer ≡ None → happens rules setup (Withdraw k) g ≡ None
-no_withdrawal rules setup k g none = by (has_ended g) (is_open g k) _ (not_open g k none)
-  where
-    by : (a b : Bool) (after : Guard) → b ≡ false → guard_if (not a && b) after ≡ None
-    by true b after e = refl
-    by false b after e = ap (λ x. guard_if x after) e
-
--- what an event leaves in a run without offers: no offer is open, and each check-in that stands is paid for by a move
-pub record Leaves (e : Event) (g after : Guard) : Type 0 where
-  pub none_open : after.open_offer ≡ None
-  pub paid : check_ins after.seats + 1 ≤ check_ins g.seats + 2 * move_count (e ∷ [])
-
-pub leaves : (rules : Rules) (setup : Setup) (e : Event) (g after : Guard) → setup.offers ≡ [] → g.open_offer ≡ None
-    → happens rules setup e g ≡ Some after → Leaves e g after
-leaves rules setup (Move t) g after offers none made =
-    let m = move_made rules setup t g after made in
-    subst (Leaves (Move t) g) m.is (record {
-      none_open = none;
-      paid = let count = after_move 0 t (move_leads (in_slot g.world t)) g.world m.world g.seats in omega (arith, count);
-    })
-leaves rules setup (CheckIn t) g after offers none made =
-    let m = check_in_made rules setup t g after made in
-    subst (Leaves (CheckIn t) g) m.1 (record {
-      none_open = none;
-      paid =
-          let count = after_check_in g.seats t (record (seat_of g t) { mark = mark_of (bodies_of g) (alive_in g.world t); at_check_in = false }) m.0 refl in
-          omega (arith, count);
-    })
-leaves rules setup (Offer k) g after offers none made = absurd (none_of after (sym (no_offer rules setup k g offers) ∙ made))
-leaves rules setup (Decide k) g after offers none made = absurd (none_of after (sym (no_decision rules setup k g none) ∙ made))
-leaves rules setup (Withdraw k) g after offers none made = absurd (none_of after (sym (no_withdrawal rules setup k g none) ∙ made))
+    by : (a b : Bool) (after : Guard) → a ≡ false → b ≡ true → guard_if (not a && b) after ≡ Some after
+    by true b after e f = absurd (true≢false e)
+    by false true after e f = refl
+    by false false after e f = absurd (false≢true f)

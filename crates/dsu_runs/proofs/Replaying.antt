@@ -70,20 +70,20 @@ module _ {E : Type 0} (setup : Setup) (is_at : Guard → E → Type 0) (told : E
       → Replayed setup is_at told faults engine lines (ran_of now Memory)
   no_room now same none = record {
     guard = first_guard setup;
-    legal = λ rules. ap (guard_after rules setup) none;
+    legal = λ rules rows. ap (guard_after rules setup) none;
     made = none ∙ sym (ap (λ (es : List Event). take (length es) (events_of lines)) none);
     later = let eq = ap faults same in omega (arith, eq);
     stopped = printed_still setup (told engine) (told engine) (told now.engine) [] (first_guard setup) (ap told same)
         (came_first setup (told engine));
   }
 
-  module _ (n : ℕ) (now next : Running E) (line : ℕ × Event) (step : Step) (offers : setup.offers ≡ []) (at : Made n now)
+  module _ (n : ℕ) (now next : Running E) (line : ℕ × Event) (step : Step) (at : Made n now)
       (there : slice_get lines n ≡ Some line) (tries : Tries setup is_at told faults now next line.1 step) where
     made_is : (s : Step) → step ≡ s
         → Steps (λ x. is_at x next.engine) setup line.1 at.guard (told now.engine) (told next.engine) s
     made_is s is =
         subst (λ x. Steps (λ y. is_at y next.engine) setup line.1 at.guard (told now.engine) (told next.engine) x) is
-        (tries.made at.guard at.there at.came.none_open)
+        (tries.made at.guard at.there)
 
     history_is : (s : Step) → step ≡ s → next.history.items ≡ history_after line.1 now.history.items s
     history_is s is = tries.history ∙ ap (history_after line.1 now.history.items) is
@@ -104,7 +104,7 @@ module _ {E : Type 0} (setup : Setup) (is_at : Guard → E → Type 0) (told : E
           came =
               subst (λ es. Came setup (told engine) es m.after (told next.engine)) (sym history)
               (came_more (λ x. is_at x next.engine) setup (told engine) (told now.engine) (told next.engine) now.history.items
-              at.guard line.1 offers at.came m);
+              at.guard line.1 at.came m);
           there = m.there;
           later = later;
           made = history ∙ more ∙ ap (λ k. take k (events_of lines)) one;
@@ -124,7 +124,7 @@ module _ {E : Type 0} (setup : Setup) (is_at : Guard → E → Type 0) (told : E
         let history = history_is steps.CannotHappen is in
         record {
           guard = at.guard;
-          legal = λ rules. ap (guard_after rules setup) history ∙ at.came.legal rules;
+          legal = λ rules rows. ap (guard_after rules setup) history ∙ at.came.legal rules rows;
           made = still history;
           later = later;
           stopped = record {
@@ -166,7 +166,7 @@ module _ {E : Type 0} (setup : Setup) (is_at : Guard → E → Type 0) (told : E
         let history = history_is steps.Memory is in
         record {
           guard = at.guard;
-          legal = λ rules. ap (guard_after rules setup) history ∙ at.came.legal rules;
+          legal = λ rules rows. ap (guard_after rules setup) history ∙ at.came.legal rules rows;
           made = still history;
           later = later;
           stopped =

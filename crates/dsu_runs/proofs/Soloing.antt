@@ -1,29 +1,30 @@
 -- A run by the solo schedule from event to event.
-use Rattle.std.proofs.Common.{◌≡◌, ℕ, ◌+◌, ◌*◌, ◌<◌, ◌≤◌, ◌==◌, Bool, true, false, List, [], ◌∷◌, ◌++◌, Option, Some, None, refl, sym, ◌∙◌, ap, subst, arith, eq-eqb, length-append}
-use Rattle.std.specs.Prelude.{◌&&◌, ◌||◌, length, reverse, if◌then◌else◌}
-use Rattle.std.specs.Option.{is_none, option_or}
-use Rattle.std.proofs.lemmas.Bool.{false≢true}
-use Rattle.std.proofs.lemmas.List.{reverse-append, reverse-reverse}
+use Rattle.std.proofs.Common.{◌≡◌, ◌⊎◌, inl, inr, ℕ, ◌+◌, ◌*◌, ◌≤◌, true, List, [], ◌∷◌, ◌++◌, Option, Some, None, refl, sym, ◌∙◌, ap, subst, arith, length-append}
+use Rattle.std.specs.Prelude.{cond, length, reverse, if◌then◌else◌}
+use Rattle.std.specs.Option.{option_or}
+use Rattle.std.proofs.lemmas.List.{reverse-append}
 use Rattle.std.proofs.lemmas.List.Sums.{sum_by-append}
-use Rattle.std.specs.Prelude.{cond}
+use Rattle.std.proofs.lemmas.Option.{same_Some}
 use Rattle.bytecode.specs.declared.run.Event.{Event}
-use Rattle.source_model.specs.Guards.{Guard, Rules, Setup, first_guard, has_ended}
+use Rattle.source_model.specs.Guards.{Guard, Rules, Setup, first_guard}
 use Rattle.source_model.specs.Journals.{guard_after, happens}
-use Rattle.source_model.specs.Schedules.{Solo, acted_by, due, makes_move, move_count}
-use Rattle.source_model.specs.Endings.{ending, ends, int_ending, is_stuck, no_offer_waits, run_ending}
+use Rattle.source_model.specs.Schedules.{MayStand, Solo, acted_by, makes_move, move_count}
+use Rattle.source_model.specs.Endings.{ending, ends, int_ending, run_ending}
 use Rattle.source_model.specs.ScheduleLaws.{NothingNext}
 use Rattle.dsu_runs.specs.declared.running.Running.{Running}
 use Rattle.dsu_runs.specs.declared.running.Step.{Step}
 use Rattle.dsu_runs.specs.declared.running.Step.TheVariants as steps
 use Rattle.dsu_runs.specs.declared.solo_run.SoloRun.{SoloRun}
 use Rattle.dsu_runs.specs.declared.ran.StopCause.TheVariants.{Ended, SinkFailed, Memory}
-use Rattle.dsu_runs.specs.Turns.{Keeps, Turned, first_after, ran_of, thread_next}
-use Rattle.dsu_runs.specs.Solo.{RanSolo}
+use Rattle.dsu_runs.specs.Rows.{AreRows}
+use Rattle.dsu_runs.specs.Turns.{Keeps, Turned, first_after, next_within, ran_of}
+use Rattle.dsu_runs.specs.Solo.{EachBeforeTheEnd, RanSolo}
 use Rattle.dsu_runs.proofs.Acting.{rose_since}
 use Rattle.dsu_runs.proofs.Coming.{Came, came_first, came_more, failed_at, failed_legal, printed, printed_still}
-use Rattle.dsu_runs.proofs.Happening.{any_rules, leaves}
-use Rattle.dsu_runs.proofs.Seats.{check_ins, none_at_first}
-use Rattle.dsu_runs.proofs.Turns.{next_is, none_due}
+use Rattle.dsu_runs.proofs.Ends.{has_an_end, next_is, not_ended, used_up}
+use Rattle.dsu_runs.proofs.Happening.{any_are_rows, any_rules}
+use Rattle.dsu_runs.proofs.Room.{none_wait, offers_left, pays, room_first}
+use Rattle.dsu_runs.proofs.Seats.{check_ins}
 
 trans_le : (x y z : ℕ) → x ≤ y → y ≤ z → x ≤ z
 trans_le x y z p q = omega (arith, p, q)
@@ -32,36 +33,35 @@ trans_le x y z p q = omega (arith, p, q)
 newest : (es : List Event) (e : Event) → reverse (es ++ e ∷ []) ≡ e ∷ reverse es
 newest es e = reverse-append es (e ∷ [])
 
-same_before : (es fs : List Event) (e f : Event) → es ++ e ∷ [] ≡ fs ++ f ∷ [] → es ≡ fs
-same_before es fs e f is =
-    sym (reverse-reverse es)
-    ∙ ap reverse (same_tail e f (reverse es) (reverse fs) (sym (newest es e) ∙ ap reverse is ∙ newest fs f))
-    ∙ reverse-reverse fs
-  where
-    same_tail : (x y : Event) (xs ys : List Event) → x ∷ xs ≡ y ∷ ys → xs ≡ ys
-    same_tail x y xs ys eq = cc
-
 count_more : (es : List Event) (e : Event) → move_count (es ++ e ∷ []) ≡ move_count es + move_count (e ∷ [])
 count_more es e = sum_by-append (λ x. cond (makes_move x) 1 0) es (e ∷ [])
 
-none_before : (es : List Event) (e : Event) → [] ≡ es ++ e ∷ [] → ⊥
-none_before es e is = let long = ap length is ∙ length-append es (e ∷ []) in omega (arith, long)
+none_before : (es : List Event) (e : Event) (later : List Event) → [] ≡ es ++ e ∷ later → ⊥
+none_before es e later is = let long = ap length is ∙ length-append es (e ∷ later) in omega (arith, long)
 
--- the tests by which a run ends
-ends_by : (ended stuck waits used : Bool) → waits ≡ true → (stuck ≡ false → used ≡ true)
-    → (ended || (if stuck then waits else used)) ≡ true
-ends_by true stuck waits used w u = refl
-ends_by false true waits used w u = w
-ends_by false false waits used w u = u refl
+same_head : (a b : Event) (xs ys : List Event) → a ∷ xs ≡ b ∷ ys → a ≡ b
+same_head a b xs ys eq = cc
 
-ends_next : (ended stuck waits used : Bool) → (ended || (stuck && waits)) ≡ true → (ended || (if stuck then waits else used)) ≡ true
-ends_next true stuck waits used h = refl
-ends_next false true waits used h = h
-ends_next false false waits used h = absurd (false≢true h)
+same_tail : (a b : Event) (xs ys : List Event) → a ∷ xs ≡ b ∷ ys → xs ≡ ys
+same_tail a b xs ys eq = cc
 
-no_waits : (setup : Setup) (g : Guard) → setup.offers ≡ [] → g.open_offer ≡ None → no_offer_waits setup g ≡ true
-no_waits setup g offers none =
-    ap (λ o. is_none o && is_none (due setup g)) none ∙ ap is_none (none_due setup g offers)
+-- a part of some events is a part of the earlier ones, or all of these
+split_last : (es : List Event) (e : Event) (fs : List Event) (f : Event) (later : List Event) → es ++ e ∷ [] ≡ fs ++ f ∷ later
+    → (es ≡ fs) ⊎ ((rest : List Event) × (es ≡ fs ++ f ∷ rest))
+split_last [] e [] f later is = inl refl
+split_last [] e (x ∷ fs) f later is = absurd (none_before fs f later (no_more e x (fs ++ f ∷ later) is))
+  where
+    no_more : (a b : Event) (xs : List Event) → a ∷ [] ≡ b ∷ xs → [] ≡ xs
+    no_more a b xs eq = cc
+split_last (y ∷ es) e [] f later is = inr (es, ap (λ a. a ∷ es) (same_head y f (es ++ e ∷ []) later is))
+split_last (y ∷ es) e (x ∷ fs) f later is =
+    let rest = split_last es e fs f later (same_tail y x (es ++ e ∷ []) (fs ++ f ∷ later) is) in
+    by (same_head y x (es ++ e ∷ []) (fs ++ f ∷ later) is) rest
+  where
+    by : y ≡ x → (es ≡ fs) ⊎ ((rest : List Event) × (es ≡ fs ++ f ∷ rest))
+        → (y ∷ es ≡ x ∷ fs) ⊎ ((rest : List Event) × (y ∷ es ≡ (x ∷ fs) ++ f ∷ rest))
+    by head (inl same) = inl (ap (λ a. a ∷ es) head ∙ ap (λ l. x ∷ l) same)
+    by head (inr (rest, same)) = inr (rest, ap (λ a. a ∷ es) head ∙ ap (λ l. x ∷ l) same)
 
 ending_here : (setup : Setup) (moves : ℕ) (es : List Event) (g : Guard) → ends setup moves es g ≡ true
     → run_ending setup moves es g ≡ Some (ending g)
@@ -69,22 +69,35 @@ ending_here setup moves es g is = ap (λ b. if b then Some (ending g) else None)
 
 module _ {E : Type 0} (setup : Setup) (is_at : Guard → E → Type 0) (told : E → Option (List ℕ)) (faults : E → ℕ)
     (engine : E) (moves : ℕ) where
-  -- the events so far are those of the solo schedule; the check-ins that stand and the moves that are left have room
+  -- the events so far are those of the solo schedule; the check-ins that stand, the offers that aren't closed and the moves
+  -- that are left have room
   pub record Going (s : SoloRun E) : Type 0 where
     pub guard : Guard
     pub last : Option ℕ
     pub came : Came setup (told engine) s.running.history.items guard (told s.running.engine)
     pub there : is_at guard s.running.engine
     pub later : faults engine ≤ faults s.running.engine
-    pub solo : (rules : Rules) → Solo rules setup (reverse s.running.history.items) guard last
-    pub begun : (events : List Event) (e : Event) → s.running.history.items ≡ events ++ e ∷ [] → move_count events < moves
+    pub solo : (rules : Rules) → AreRows rules → Solo rules setup (reverse s.running.history.items) guard last
+    pub begun : EachBeforeTheEnd setup moves s.running.history.items
     pub first : s.first ≡ first_after last
     pub left : s.left + move_count s.running.history.items ≡ moves
-    pub room : length s.running.history.items + check_ins guard.seats + 2 * s.left ≤ 2 * moves
+    pub room : length s.running.history.items + (check_ins guard.seats + offers_left setup guard) + 2 * s.left
+        ≤ 2 * moves + 2 * length setup.offers
 
-  -- no move is left where all the room is taken
-  pub none_left : (s : SoloRun E) → Going s → 2 * moves ≤ length s.running.history.items → s.left ≤ 0
-  none_left s at full = omega (arith, at.room, full)
+  -- the run has ended where all the room is taken
+  pub room_taken : (s : SoloRun E) → (at : Going s) → 2 * moves + 2 * length setup.offers ≤ length s.running.history.items
+      → ends setup moves s.running.history.items at.guard ≡ true
+  room_taken s at full =
+      used_up setup at.guard moves s.running.history.items
+      (none_wait setup at.guard (no_offer (offers_left setup at.guard) at.room))
+      (no_move (offers_left setup at.guard) at.room)
+    where
+      no_offer : (n : ℕ) → length s.running.history.items + (check_ins at.guard.seats + n) + 2 * s.left ≤ 2 * moves + 2 * length setup.offers → n ≤ 0
+      no_offer n room = omega (arith, room, full)
+
+      no_move : (n : ℕ) → length s.running.history.items + (check_ins at.guard.seats + n) + 2 * s.left ≤ 2 * moves + 2 * length setup.offers
+          → move_count s.running.history.items ≡ moves
+      no_move n room = omega (arith, room, full, at.left)
 
   pub starts : (s : SoloRun E) → s.running.engine ≡ engine → s.running.history.items ≡ [] → s.first ≡ 0 → s.left ≡ moves
       → is_at (first_guard setup) engine → Going s
@@ -97,14 +110,14 @@ module _ {E : Type 0} (setup : Setup) (is_at : Guard → E → Type 0) (told : E
         (came_first setup (told engine)));
     there = subst (λ x. is_at (first_guard setup) x) (sym same) at;
     later = let eq = ap faults same in omega (arith, eq);
-    solo = λ rules.
+    solo = λ rules rows.
         subst (λ es. Solo rules setup (reverse es) (first_guard setup) None) (sym none) (refl, refl);
-    begun = λ events e is. absurd (none_before events e (sym none ∙ is));
+    begun = λ rules events more e before rows is legal. absurd (none_before events e more (sym none ∙ is));
     first = first;
     left = let count = ap move_count none in omega (arith, left, count);
     room =
         let long = ap length none in
-        let seats = none_at_first setup in
+        let seats = room_first setup in
         omega (arith, long, seats, left);
   }
 
@@ -114,21 +127,20 @@ module _ {E : Type 0} (setup : Setup) (is_at : Guard → E → Type 0) (told : E
   no_room running same none = record {
     guard = first_guard setup;
     last = None;
-    legal = λ rules. ap (guard_after rules setup) none;
-    solo = λ rules.
+    legal = λ rules rows. ap (guard_after rules setup) none;
+    solo = λ rules rows.
         subst (λ es. Solo rules setup (reverse es) (first_guard setup) None) (sym none) (refl, refl);
     most = let count = ap move_count none in omega (arith, count);
-    begun = λ events e is. absurd (none_before events e (sym none ∙ is));
+    begun = λ rules events more e before rows is legal. absurd (none_before events e more (sym none ∙ is));
     later = let eq = ap faults same in omega (arith, eq);
     stopped = printed_still setup (told engine) (told engine) (told running.engine) [] (first_guard setup) (ap told same)
         (came_first setup (told engine));
   }
 
   -- a run that has ended here
-  pub finished : (s : SoloRun E) → setup.offers ≡ [] → (at : Going s)
-      → ends setup moves s.running.history.items at.guard ≡ true
+  pub finished : (s : SoloRun E) → (at : Going s) → ends setup moves s.running.history.items at.guard ≡ true
       → RanSolo setup is_at told faults engine moves (ran_of s.running (Ended (int_ending (ending at.guard))))
-  finished s offers at over = record {
+  finished s at over = record {
     guard = at.guard;
     last = at.last;
     legal = at.came.legal;
@@ -144,51 +156,53 @@ module _ {E : Type 0} (setup : Setup) (is_at : Guard → E → Type 0) (told : E
     };
   }
 
-  -- it has where no move is left
-  pub used_up : (s : SoloRun E) → setup.offers ≡ [] → (at : Going s) → s.left ≤ 0
+  -- it has where nothing is next
+  pub none_next : (s : SoloRun E) → (at : Going s) → NothingNext → next_within setup at.guard at.last s.left ≡ None
       → ends setup moves s.running.history.items at.guard ≡ true
-  used_up s offers at none =
-      ends_by (has_ended at.guard) (is_stuck at.guard) (no_offer_waits setup at.guard)
-      (move_count s.running.history.items == moves)
-      (no_waits setup at.guard offers at.came.none_open)
-      (λ goes. eq-eqb (move_count s.running.history.items) moves (omega (arith, none, at.left)))
+  none_next s at law none =
+      has_an_end setup at.guard at.last s.left moves s.running.history.items
+      (law any_rules setup s.running.history.items at.guard at.last (at.came.legal any_rules any_are_rows)) none at.left
 
-  -- and where nothing is next
-  pub none_next : (s : SoloRun E) → setup.offers ≡ [] → (at : Going s) → NothingNext → thread_next at.guard at.last ≡ None
-      → ends setup moves s.running.history.items at.guard ≡ true
-  none_next s offers at law none =
-      ends_next (has_ended at.guard) (is_stuck at.guard) (no_offer_waits setup at.guard)
-      (move_count s.running.history.items == moves)
-      (law any_rules setup s.running.history.items at.guard at.last (at.came.legal any_rules)
-      (next_is setup at.guard at.last offers at.came.none_open ∙ none))
-
-  module _ (old new : SoloRun E) (step : Step) (offers : setup.offers ≡ []) (at : Going old) (some : 0 < old.left)
-      (keeps : Keeps faults old new step)
-      (turned : Turned is_at told setup at.guard (thread_next at.guard at.last) old new step) where
-    came_of : (s : Step) → step ≡ s → Turned is_at told setup at.guard (thread_next at.guard at.last) old new s
+  module _ (old new : SoloRun E) (step : Step) (at : Going old) (keeps : Keeps faults old new step)
+      (turned : Turned is_at told setup at.guard (next_within setup at.guard at.last old.left) old new step) where
+    came_of : (s : Step) → step ≡ s → Turned is_at told setup at.guard (next_within setup at.guard at.last old.left) old new s
     came_of s is =
-        subst (λ x. Turned is_at told setup at.guard (thread_next at.guard at.last) old new x) is turned
+        subst (λ x. Turned is_at told setup at.guard (next_within setup at.guard at.last old.left) old new x) is turned
 
-    solo_more : (e : Event) (after : Guard) → thread_next at.guard at.last ≡ Some e
-        → ((rules : Rules) → happens rules setup e at.guard ≡ Some after)
+    solo_more : (wanted e : Event) (after : Guard) → next_within setup at.guard at.last old.left ≡ Some wanted → MayStand wanted e
+        → ((rules : Rules) → AreRows rules → happens rules setup e at.guard ≡ Some after)
         → new.running.history.items ≡ old.running.history.items ++ e ∷ []
-        → (rules : Rules) → Solo rules setup (reverse new.running.history.items) after (option_or (acted_by e) at.last)
-    solo_more e after next made history rules =
+        → (rules : Rules) → AreRows rules
+        → Solo rules setup (reverse new.running.history.items) after (option_or (acted_by e) at.last)
+    solo_more wanted e after next stands made history rules rows =
         subst (λ es. Solo rules setup es after (option_or (acted_by e) at.last))
         (sym (ap reverse history ∙ newest old.running.history.items e)) (
           at.guard,
           at.last,
-          at.solo rules,
-          next_is setup at.guard at.last offers at.came.none_open ∙ next,
-          made rules,
+          wanted,
+          at.solo rules rows,
+          next_is setup at.guard at.last old.left wanted next,
+          stands,
+          made rules rows,
           refl,
         )
 
-    begun_more : (e : Event) → new.running.history.items ≡ old.running.history.items ++ e ∷ [] → (events : List Event) (x : Event)
-        → new.running.history.items ≡ events ++ x ∷ [] → move_count events < moves
-    begun_more e history events x is =
-        let count = ap move_count (same_before old.running.history.items events e x (sym history ∙ is)) in
-        omega (arith, count, at.left, some)
+    begun_more : (wanted e : Event) → next_within setup at.guard at.last old.left ≡ Some wanted
+        → new.running.history.items ≡ old.running.history.items ++ e ∷ [] → EachBeforeTheEnd setup moves new.running.history.items
+    begun_more wanted e next history rules events more x before rows is legal =
+        by (split_last old.running.history.items e events x more (sym history ∙ is))
+      where
+        here : old.running.history.items ≡ events → at.guard ≡ before
+        here same =
+            same_Some at.guard before (sym (at.came.legal rules rows) ∙ ap (guard_after rules setup) same ∙ legal)
+
+        by : (old.running.history.items ≡ events) ⊎ ((rest : List Event) × (old.running.history.items ≡ events ++ x ∷ rest))
+            → run_ending setup moves events before ≡ None
+        by (inl same) =
+            ap (λ g. run_ending setup moves events g) (sym (here same))
+            ∙ ap (λ es. run_ending setup moves es at.guard) (sym same)
+            ∙ not_ended setup at.guard at.last old.left moves old.running.history.items wanted next at.left
+        by (inr (rest, same)) = at.begun rules events rest x before rows same legal
 
     counted : (e : Event) → new.running.history.items ≡ old.running.history.items ++ e ∷ []
         → move_count new.running.history.items ≡ move_count old.running.history.items + move_count (e ∷ [])
@@ -202,7 +216,7 @@ module _ {E : Type 0} (setup : Setup) (is_at : Guard → E → Type 0) (told : E
     one_more is =
         let a = came_of steps.Done is in
         let m = a.makes in
-        let paid = (leaves any_rules setup a.event at.guard m.after offers at.came.none_open (m.happens any_rules)).paid in
+        let paid = (pays any_rules setup a.event at.guard m.after (m.happens any_rules any_are_rows)).paid in
         let count = counted a.event a.history in
         let long = ap length a.history ∙ length-append old.running.history.items (a.event ∷ []) in
         record {
@@ -211,15 +225,26 @@ module _ {E : Type 0} (setup : Setup) (is_at : Guard → E → Type 0) (told : E
           came =
               subst (λ es. Came setup (told engine) es m.after (told new.running.engine)) (sym a.history)
               (came_more (λ x. is_at x new.running.engine) setup (told engine) (told old.running.engine)
-              (told new.running.engine) old.running.history.items at.guard a.event offers at.came m);
+              (told new.running.engine) old.running.history.items at.guard a.event at.came m);
           there = m.there;
           later = later;
-          solo = solo_more a.event m.after a.due m.happens a.history;
-          begun = begun_more a.event a.history;
-          first = a.first at.last;
+          solo = solo_more a.wanted a.event m.after a.due a.stands m.happens a.history;
+          begun = begun_more a.wanted a.event a.due a.history;
+          first = a.first at.last at.first;
           left = omega (arith, at.left, a.left, count);
-          room = omega (arith, at.room, a.left, paid, long);
+          room =
+              room_more (length old.running.history.items) (length new.running.history.items) (check_ins at.guard.seats)
+              (check_ins m.after.seats) (offers_left setup at.guard) (offers_left setup m.after) (move_count (a.event ∷ [])) at.room paid long
+              a.left;
         }
+      where
+        room_more : (old_length new_length old_check_ins new_check_ins old_offers new_offers n : ℕ)
+            → old_length + (old_check_ins + old_offers) + 2 * old.left ≤ 2 * moves + 2 * length setup.offers
+            → new_check_ins + new_offers + 1 ≤ old_check_ins + old_offers + 2 * n → new_length ≡ old_length + 1
+            → new.left + n ≡ old.left
+            → new_length + (new_check_ins + new_offers) + 2 * new.left ≤ 2 * moves + 2 * length setup.offers
+        room_more old_length new_length old_check_ins new_check_ins old_offers new_offers n room paid long left =
+            omega (arith, room, paid, long, left)
 
     pub failed : step ≡ steps.SinkFailed → RanSolo setup is_at told faults engine moves (ran_of new.running SinkFailed)
     failed is =
@@ -232,15 +257,23 @@ module _ {E : Type 0} (setup : Setup) (is_at : Guard → E → Type 0) (told : E
           legal =
               failed_legal setup (told engine) (told old.running.engine) (told new.running.engine)
               old.running.history.items new.running.history.items at.guard a.event at.came f a.history;
-          solo = solo_more a.event f.after a.due f.happens a.history;
+          solo = solo_more a.event a.event f.after a.due (inl refl) f.happens a.history;
           most = omega (arith, at.left, a.left, count);
-          begun = begun_more a.event a.history;
+          begun = begun_more a.event a.event a.due a.history;
           later = later;
           stopped =
               failed_at setup (told engine) (told old.running.engine) (told new.running.engine)
               old.running.history.items new.running.history.items at.guard a.event (faults engine) (faults new.running.engine) at.came f a.moves
               (rose_since (faults engine) (faults old.running.engine) (faults new.running.engine) at.later (keeps.rose is)) a.history;
         }
+
+    -- the events are those from before where none was made
+    same_begun : new.running.history.items ≡ old.running.history.items → EachBeforeTheEnd setup moves new.running.history.items
+    same_begun same rules events more e before rows is legal = at.begun rules events more e before rows (sym same ∙ is) legal
+
+    same_solo : new.running.history.items ≡ old.running.history.items
+        → (rules : Rules) → AreRows rules → Solo rules setup (reverse new.running.history.items) at.guard at.last
+    same_solo same rules rows = subst (λ es. Solo rules setup (reverse es) at.guard at.last) (sym same) (at.solo rules rows)
 
     pub lacks : step ≡ steps.Memory → RanSolo setup is_at told faults engine moves (ran_of new.running Memory)
     lacks is =
@@ -249,11 +282,10 @@ module _ {E : Type 0} (setup : Setup) (is_at : Guard → E → Type 0) (told : E
         record {
           guard = at.guard;
           last = at.last;
-          legal = λ rules. ap (guard_after rules setup) a.history ∙ at.came.legal rules;
-          solo = λ rules.
-              subst (λ es. Solo rules setup (reverse es) at.guard at.last) (sym a.history) (at.solo rules);
+          legal = λ rules rows. ap (guard_after rules setup) a.history ∙ at.came.legal rules rows;
+          solo = same_solo a.history;
           most = omega (arith, at.left, count);
-          begun = λ events e last. at.begun events e (sym a.history ∙ last);
+          begun = same_begun a.history;
           later = later;
           stopped =
               printed_still setup (told engine) (told old.running.engine) (told new.running.engine) old.running.history.items
@@ -261,7 +293,7 @@ module _ {E : Type 0} (setup : Setup) (is_at : Guard → E → Type 0) (told : E
         }
 
     -- nothing was next, and the run is as it was
-    pub waits : (is : step ≡ steps.CannotHappen) → (now : Going new) × (thread_next now.guard now.last ≡ None)
+    pub waits : (is : step ≡ steps.CannotHappen) → (now : Going new) × (next_within setup now.guard now.last new.left ≡ None)
     waits is =
         let a = came_of steps.CannotHappen is in
         let still = keeps.still is in
@@ -275,12 +307,17 @@ module _ {E : Type 0} (setup : Setup) (is_at : Guard → E → Type 0) (told : E
                 (subst (λ t. Came setup (told engine) old.running.history.items at.guard t) (sym a.silent) at.came);
             there = a.stays;
             later = later;
-            solo = λ rules.
-                subst (λ es. Solo rules setup (reverse es) at.guard at.last) (sym still.history) (at.solo rules);
-            begun = λ events e last. at.begun events e (sym still.history ∙ last);
+            solo = same_solo still.history;
+            begun = same_begun still.history;
             first = still.first ∙ at.first;
             left = omega (arith, at.left, still.left, count);
-            room = omega (arith, at.room, still.left, long);
+            room = room_still (length old.running.history.items) (length new.running.history.items) (offers_left setup at.guard) at.room long still.left;
           },
-          a.none,
+          ap (λ n. next_within setup at.guard at.last n) still.left ∙ a.none,
         )
+      where
+        room_still : (old_length new_length offers : ℕ)
+            → old_length + (check_ins at.guard.seats + offers) + 2 * old.left ≤ 2 * moves + 2 * length setup.offers
+            → new_length ≡ old_length → new.left ≡ old.left
+            → new_length + (check_ins at.guard.seats + offers) + 2 * new.left ≤ 2 * moves + 2 * length setup.offers
+        room_still old_length new_length offers room long left = omega (arith, room, long, left)

@@ -1,19 +1,20 @@
 -- How a run stands: whether it is stuck, and how it ends.
-use Rattle.std.proofs.Common.{◌≡◌, ℕ, zero, suc, ◌+◌, ◌<◌, Bool, true, false, List, [], ◌∷◌, slice_index_or, Option, Some, None, refl, sym, ◌∙◌, ap, arith}
-use Rattle.std.specs.Prelude.{◌&&◌, ◌||◌, ◌==◌, not, length, if◌then◌else◌}
-use Rattle.std.specs.Option.{is_some}
+use Rattle.std.proofs.Common.{◌≡◌, ℕ, zero, suc, ◌+◌, ◌<◌, ◌≤◌, Bool, true, false, List, [], ◌∷◌, slice_index_or, Option, Some, None, refl, sym, ◌∙◌, ap, arith}
+use Rattle.std.specs.Prelude.{◌&&◌, ◌||◌, ◌==◌, not, length, nat_lt, if◌then◌else◌}
+use Rattle.std.specs.Option.{is_some, option_or}
 use Rattle.std.specs.List.{list_any, range_with_len}
 use Rattle.std.proofs.lemmas.Bool.{true≢false, false≢true}
 use Rattle.std.proofs.lemmas.Bool.Decides.{nat_tests}
 use Rattle.bytecode.specs.declared.run.Event.TheVariants.{Move, CheckIn}
 use Rattle.bytecode.specs.declared.run.Ending.{Ending}
-use Rattle.source_model.specs.Worlds.{World, Finish}
+use Rattle.source_model.specs.Worlds.{Finish, Free, Slot, World, is_over}
 use Rattle.source_model.specs.Worlds as world
 use Rattle.source_model.specs.Runs.{can_move, some_can_move}
-use Rattle.source_model.specs.Worlds.{Free, alive_in, in_slot, is_finished}
+use Rattle.source_model.specs.Moves.{move_of}
+use Rattle.source_model.specs.Waits.{must_wait}
 use Rattle.source_model.specs.Guards.{Guard, Seat, empty_seat, has_ended, seat_of}
-use Rattle.source_model.specs.Schedules.{act_of}
-use Rattle.source_model.specs.Endings.{seats_wait}
+use Rattle.source_model.specs.Schedules.{act_of, first_act}
+use Rattle.source_model.specs.Endings.{is_stuck, seats_wait}
 use Rattle.dsu_runs.specs.Engines.{finish_of}
 
 -- whether the thread in a slot is at a check-in or can move
@@ -154,3 +155,57 @@ still_going g o is none = by g.world.finish (sym (ap is_some is) ∙ none)
     by None e = refl
     by (Some (world.Finished r)) e = e
     by (Some (world.Trapped kind t)) e = e
+
+-- no thread of a stuck run acts
+beyond : (slots : List Slot) (t : ℕ) → length slots ≤ t → slice_index_or slots t Free ≡ Free
+beyond [] t past = refl
+beyond (s ∷ slots) zero past = absurd (none (length slots) past)
+  where
+    none : (n : ℕ) → suc n ≤ 0 → ⊥
+    none n le = omega (arith, le)
+beyond (s ∷ slots) (suc t) past = beyond slots t (omega (arith, past))
+
+cannot_beyond : (w : World) (t : ℕ) → length w.slots ≤ t → can_move w t ≡ false
+cannot_beyond w t past =
+    ap (λ s. is_some (if is_over w || must_wait w t then None else move_of w t s)) (beyond w.slots t past)
+    ∙ by (is_over w || must_wait w t)
+  where
+    by : (b : Bool) → is_some (if b then None else move_of w t Free) ≡ false
+    by true = refl
+    by false = refl
+
+cannot_move : (w : World) → some_can_move w ≡ false → (t : ℕ) → can_move w t ≡ false
+cannot_move w none t = by (nat_lt t (length w.slots)) (can_move w t) refl refl
+  where
+    less : (a b : ℕ) → nat_lt a b ≡ true → a < b
+    less a b e = grind (arith, nat_tests, e)
+
+    not_less : (a b : ℕ) → nat_lt a b ≡ false → b ≤ a
+    not_less a b e = grind (arith, nat_tests, e)
+
+    by : (a b : Bool) → nat_lt t (length w.slots) ≡ a → can_move w t ≡ b → can_move w t ≡ false
+    by false b past is = cannot_beyond w t (not_less t (length w.slots) past)
+    by true false within is = is
+    by true true within is =
+        absurd
+        (true≢false (sym (moves_one w 0 (length w.slots) t (less t (length w.slots) within) (ap (can_move w) (from_first t) ∙ is)) ∙ none))
+
+at_no_check_in : (ss : List Seat) → list_any (λ s. s.at_check_in) ss ≡ false → (t : ℕ) → (slice_index_or ss t empty_seat).at_check_in ≡ false
+at_no_check_in ss none t = by (slice_index_or ss t empty_seat).at_check_in refl
+  where
+    by : (b : Bool) → (slice_index_or ss t empty_seat).at_check_in ≡ b → (slice_index_or ss t empty_seat).at_check_in ≡ false
+    by false is = is
+    by true is = absurd (true≢false (sym (at_one ss t is) ∙ none))
+
+all_of : (a b c : Bool) → (not a && (not b && not c)) ≡ true → (b ≡ false) × (c ≡ false)
+all_of false false false e = (refl, refl)
+all_of true b c e = absurd (false≢true e)
+all_of false true c e = absurd (false≢true e)
+all_of false false true e = absurd (false≢true e)
+
+pub stuck_acts_none : (g : Guard) → is_stuck g ≡ true → (slots : List ℕ) → first_act g slots ≡ None
+stuck_acts_none g is [] = refl
+stuck_acts_none g is (t ∷ slots) =
+    let none = all_of (has_ended g) (list_any (λ s. s.at_check_in) g.seats) (some_can_move g.world) is in
+    ap (λ o. option_or o (first_act g slots)) (act_going g t false (at_no_check_in g.seats none.0 t) (cannot_move g.world none.1 t))
+    ∙ stuck_acts_none g is slots

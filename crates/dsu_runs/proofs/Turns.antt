@@ -1,17 +1,14 @@
 -- The slots in turn.
-use Rattle.std.proofs.Common.{◌≡◌, ℕ, suc, ◌+◌, ◌-◌, ◌<◌, Bool, true, false, List, [], ◌∷◌, ◌++◌, Option, Some, None, refl, sym, ◌∙◌, ap, subst, arith}
-use Rattle.std.specs.Prelude.{◌&&◌, ◌==◌, length, option_map, if◌then◌else◌}
+use Rattle.std.proofs.Common.{◌≡◌, ℕ, suc, ◌+◌, ◌-◌, ◌<◌, List, [], ◌∷◌, ◌++◌, Option, Some, None, refl, sym, ◌∙◌, ap, subst, arith}
 use Rattle.std.specs.Option.{option_or}
 use Rattle.std.specs.List.{range_with_len}
 use Rattle.bytecode.specs.declared.run.Event.{Event}
-use Rattle.bytecode.specs.declared.run.Event.TheVariants.{Decide, Offer}
-use Rattle.source_model.specs.Guards.{Guard, Offer as Offered, Setup, has_ended, is_reached, offer_at}
-use Rattle.source_model.specs.Schedules.{act_of, due, first_act, slots_after, solo_next}
+use Rattle.source_model.specs.Guards.{Guard, Setup}
+use Rattle.source_model.specs.Schedules.{act_of, first_act, slots_after}
 use Rattle.dsu_runs.specs.declared.running.Step.{Step}
 use Rattle.dsu_runs.specs.declared.running.Step.TheVariants.{Done, CannotHappen, SinkFailed, Memory}
 use Rattle.dsu_runs.specs.declared.solo_run.SoloRun.{SoloRun}
-use Rattle.dsu_runs.specs.Turns.{SameBut, Turned, Waits, first_after, thread_next}
-use Rattle.dsu_runs.proofs.Happening.{none_at}
+use Rattle.dsu_runs.specs.Turns.{SameBut, Turned, Waits, first_after}
 
 -- the slots from one to another: that one, and those after it
 pub turn : (g : Guard) (slot to : ℕ) → slot < to
@@ -63,30 +60,6 @@ turns g count first (Some slot) is =
     same : suc slot ≡ first
     same = omega (arith, is)
 
--- no offer is due where there is none
-pub none_due : (setup : Setup) (g : Guard) → setup.offers ≡ [] → due setup g ≡ None
-none_due setup g none = by (g.closed == g.greatest) (offer_at setup (suc g.greatest)) (none_at setup (suc g.greatest) none)
-  where
-    by : (b : Bool) (o : Option Offered) → o ≡ None → (if b && is_reached g o then Some (suc g.greatest) else None) ≡ None
-    by true o e = ap (λ x. if is_reached g x then Some (suc g.greatest) else None) e
-    by false o e = refl
-
--- the solo schedule's next event, by whether the run has ended, the open offer, one that is due and what a thread can do
-abbrev next_by : Bool → Option ℕ → Option ℕ → Option Event → Option Event
-next_by over open_offer to_open act =
-    if over then None else option_or (option_map Decide open_offer) (option_or (option_map Offer to_open) act)
-
--- without offers it is what the first of the slots in turn can do
-pub next_is : (setup : Setup) (g : Guard) (last : Option ℕ) → setup.offers ≡ [] → g.open_offer ≡ None
-    → solo_next setup g last ≡ thread_next g last
-next_is setup g last none none_open =
-    ap (λ o. next_by (has_ended g) o (due setup g) (first_act g (slots_after (length g.seats) last))) none_open
-    ∙ ap (λ o. next_by (has_ended g) None o (first_act g (slots_after (length g.seats) last))) (none_due setup g none)
-
-pub next_going : (g : Guard) (last : Option ℕ) → has_ended g ≡ false
-    → thread_next g last ≡ first_act g (slots_after (length g.seats) last)
-next_going g last going = ap (λ b. if b then None else first_act g (slots_after (length g.seats) last)) going
-
 module _ {E : Type 0} (is_at : Guard → E → Type 0) (told : E → Option (List ℕ)) (setup : Setup) (g : Guard) where
   -- what comes of a turn is what comes of the same with its event named otherwise
   pub turned_by : (a b : Option Event) (old new : SoloRun E) (step : Step) → a ≡ b → Turned is_at told setup g a old new step
@@ -97,8 +70,10 @@ module _ {E : Type 0} (is_at : Guard → E → Type 0) (told : E → Option (Lis
   pub by_first : (a b : Option Event) (old new : SoloRun E) (step : Step) → (step ≡ CannotHappen → ⊥)
       → Turned is_at told setup g a old new step → Turned is_at told setup g (option_or a b) old new step
   by_first a b old new Done done acts = record {
+    wanted = acts.wanted;
     event = acts.event;
     due = ap (λ x. option_or x b) acts.due;
+    stands = acts.stands;
     makes = acts.makes;
     history = acts.history;
     first = acts.first;
@@ -119,8 +94,10 @@ module _ {E : Type 0} (is_at : Guard → E → Type 0) (told : E → Option (Lis
   pub by_second : (a b : Option Event) (old mid new : SoloRun E) (step : Step) → Waits is_at told g a old mid → SameBut old mid
       → Turned is_at told setup g b mid new step → Turned is_at told setup g (option_or a b) old new step
   by_second a b old mid new Done waits same acts = record {
+    wanted = acts.wanted;
     event = acts.event;
     due = ap (λ x. option_or x b) waits.none ∙ acts.due;
+    stands = acts.stands;
     makes = record {
       after = acts.makes.after;
       happens = acts.makes.happens;
@@ -128,7 +105,7 @@ module _ {E : Type 0} (is_at : Guard → E → Type 0) (told : E → Option (Lis
       grew = λ before is. acts.makes.grew before (waits.silent ∙ is);
     };
     history = acts.history ∙ ap (λ es. es ++ acts.event ∷ []) same.history;
-    first = acts.first;
+    first = λ last is. acts.first last (same.first ∙ is);
     left = acts.left ∙ same.left;
   }
   by_second a b old mid new CannotHappen waits same next = record {

@@ -11,6 +11,7 @@ use Rattle.source_model.specs.Runs.{lives}
 use Rattle.source_model.specs.Guards.{Guard, Rules, Setup, seat_of}
 use Rattle.source_model.specs.Journals as journal
 use Rattle.source_model.specs.Endings.{int_ending}
+use Rattle.dsu_runs.specs.Rows.{AreRows}
 use Rattle.dsu_runs.specs.declared.engine.Made.{Made}
 use Rattle.dsu_runs.specs.declared.engine.Made.TheVariants.{Done, CannotHappen, SinkFailed}
 use Rattle.dsu_runs.specs.declared.engine.Stands.{Stands}
@@ -54,20 +55,20 @@ GrewPartly g after told now =
 -- an event was made: the guard after it, at which the engine is
 pub record Makes (at : Guard → Type 0) (setup : Setup) (e : Event) (g : Guard) (told now : Option (List ℕ)) : Type 0 where
   pub after : Guard
-  pub happens : (rules : Rules) → journal.happens rules setup e g ≡ Some after
+  pub happens : (rules : Rules) → AreRows rules → journal.happens rules setup e g ≡ Some after
   pub there : at after
   pub grew : Grew g after told now
 
 -- an event can't happen, and the engine stays
 pub record Refuses (at : Guard → Type 0) (setup : Setup) (e : Event) (g : Guard) (told now : Option (List ℕ)) : Type 0 where
-  pub never : (rules : Rules) → journal.happens rules setup e g ≡ None
+  pub never : (rules : Rules) → AreRows rules → journal.happens rules setup e g ≡ None
   pub stays : at g
   pub silent : now ≡ told
 
 -- an event was made, and only a prefix of what it printed could be written
 pub record Fails (setup : Setup) (e : Event) (g : Guard) (told now : Option (List ℕ)) : Type 0 where
   pub after : Guard
-  pub happens : (rules : Rules) → journal.happens rules setup e g ≡ Some after
+  pub happens : (rules : Rules) → AreRows rules → journal.happens rules setup e g ≡ Some after
   pub grew : GrewPartly g after told now
 
 -- what came of an event at a guard

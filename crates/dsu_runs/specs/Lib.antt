@@ -1,5 +1,7 @@
 pub mod Setups
+pub mod Rows
 pub mod Engines
+pub mod Books
 pub mod Turns
 pub mod Ran
 pub mod Solo

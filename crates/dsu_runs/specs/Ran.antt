@@ -6,6 +6,7 @@ use Rattle.bytecode.specs.declared.run.Event.{Event}
 use Rattle.source_model.specs.Guards.{Guard, Rules, Setup}
 use Rattle.source_model.specs.Journals.{guard_after}
 use Rattle.source_model.specs.Schedules.{makes_move}
+use Rattle.dsu_runs.specs.Rows.{AreRows}
 
 -- what a sink shows grew by all that was printed up to a guard
 abbrev pub Printed : Option (List ℕ) → Option (List ℕ) → Guard → Type 0
@@ -19,7 +20,7 @@ pub record FailedAt (setup : Setup) (history : List Event) (g : Guard) (told now
   pub before : Guard
   pub split : history ≡ earlier ++ event ∷ []
   pub moves : makes_move event ≡ true
-  pub legal : (rules : Rules) → guard_after rules setup earlier ≡ Some before
+  pub legal : (rules : Rules) → AreRows rules → guard_after rules setup earlier ≡ Some before
   pub written : ℕ
   pub least : length before.world.output ≤ written
   pub printed : Appends told now (take written g.world.output)

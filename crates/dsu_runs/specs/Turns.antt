@@ -1,12 +1,14 @@
 -- What comes of one event, and of one turn of the solo schedule.
-use Rattle.std.specs.Prelude.{◌≡◌, ℕ, ◌+◌, ◌≤◌, List, [], ◌∷◌, ◌++◌, length, true, false, Option, Some, None, Result, Ok, Err, if◌then◌else◌}
+use Rattle.std.specs.Prelude.{◌≡◌, ℕ, ◌+◌, ◌≤◌, ◌==◌, ◌&&◌, ◌||◌, not, List, [], ◌∷◌, ◌++◌, length, true, false, Option, Some, None, option_map, Result, Ok, Err, if◌then◌else◌}
 use Rattle.std.specs.declared.alloc.AllocError.{AllocError}
 use Rattle.std.specs.Option.{option_or}
 use Rattle.std.specs.Vec.{vec_capacity}
 use Rattle.dsu_io.specs.Causes.{Rose}
 use Rattle.bytecode.specs.declared.run.Event.{Event}
+use Rattle.bytecode.specs.declared.run.Event.TheVariants.{Decide, Offer}
 use Rattle.source_model.specs.Guards.{Guard, Setup, has_ended}
-use Rattle.source_model.specs.Schedules.{acted_by, first_act, makes_move, move_count, slots_after}
+use Rattle.source_model.specs.Schedules.{MayStand, acted_by, due, first_act, makes_move, move_count, slots_after}
+use Rattle.source_model.specs.Endings.{is_stuck}
 use Rattle.dsu_runs.specs.Engines.{Fails, Makes, Refuses}
 use Rattle.dsu_runs.specs.declared.engine.Made.{Made}
 use Rattle.dsu_runs.specs.declared.engine.Made.TheVariants as made
@@ -47,9 +49,17 @@ abbrev pub first_after : Option ℕ → ℕ
 first_after None = 0
 first_after (Some slot) = slot + 1
 
--- what the solo schedule has next where no offer is open or due
-abbrev pub thread_next : Guard → Option ℕ → Option Event
-thread_next g last = if has_ended g then None else first_act g (slots_after (length g.seats) last)
+-- what the solo schedule has next where no offer is open and so many moves are left
+abbrev pub offer_or_act : Setup → Guard → Option ℕ → ℕ → Option Event
+offer_or_act setup g last left =
+    option_or (option_map Offer (due setup g)) (if left == 0 then None else first_act g (slots_after (length g.seats) last))
+
+-- what it has next in a run with so many moves left; a run without one goes on only where it is stuck
+abbrev pub next_within : Setup → Guard → Option ℕ → ℕ → Option Event
+next_within setup g last left =
+    if has_ended g || (left == 0 && not (is_stuck g))
+    then None
+    else option_or (option_map Decide g.open_offer) (offer_or_act setup g last left)
 
 -- an engine is at a guard of a run that goes on, and no offer is open
 pub record GoesAt {E : Type 0} (is_at : Guard → E → Type 0) (g : Guard) (engine : E) : Type 0 where
@@ -57,14 +67,16 @@ pub record GoesAt {E : Type 0} (is_at : Guard → E → Type 0) (g : Guard) (eng
   pub going : has_ended g ≡ false
   pub none_open : g.open_offer ≡ None
 
--- the event that was next was made
+-- the event that was next was made, or one that may stand for it
 pub record Acts {E : Type 0} (is_at : Guard → E → Type 0) (told : E → Option (List ℕ)) (setup : Setup) (g : Guard)
     (next : Option Event) (old new : SoloRun E) : Type 0 where
+  pub wanted : Event
   pub event : Event
-  pub due : next ≡ Some event
+  pub due : next ≡ Some wanted
+  pub stands : MayStand wanted event
   pub makes : Makes (λ x. is_at x new.running.engine) setup event g (told old.running.engine) (told new.running.engine)
   pub history : new.running.history.items ≡ old.running.history.items ++ event ∷ []
-  pub first : (last : Option ℕ) → new.first ≡ first_after (option_or (acted_by event) last)
+  pub first : (last : Option ℕ) → old.first ≡ first_after last → new.first ≡ first_after (option_or (acted_by event) last)
   pub left : new.left + move_count (event ∷ []) ≡ old.left
 
 -- none was next

@@ -23,7 +23,7 @@ pub(crate) fn ending<E: Engine>(engine: &E) -> Ending
 }
 
 /// Whether no thread of a run that goes on is at a check-in or can move.
-fn is_stuck<E: Engine>(engine: &E) -> bool
+pub(crate) fn is_stuck<E: Engine>(engine: &E) -> bool
     ensures { (setup : Setup) (g : Guard) → E.is_at setup g engine.now → has_ended g ≡ false → length g.seats ≡ length g.world.slots
         → result ≡ (seats_wait g.seats && not (some_can_move g.world)) }
 {

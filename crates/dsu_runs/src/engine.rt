@@ -1,11 +1,16 @@
-ghost use Rattle.std.specs.Prelude.{◌≡◌, ◌≢◌, ◌≤◌, List, Option, option_map, ℕ, false, length, IfOk, Ok, OnErr};
+ghost use Rattle.std.specs.Prelude.{◌≡◌, ◌≢◌, ◌≤◌, ◌&&◌, not, List, Option, option_map, ℕ, false, length, map, IfOk, Ok, OnErr};
 ghost use Rattle.dsu_io.specs.Causes.{Rose};
-ghost use Rattle.bytecode.specs.declared.run.Event.TheVariants.{Move, CheckIn};
+ghost use Rattle.bytecode.specs.declared.run.Event.TheVariants.{Move, CheckIn, Offer, Decide, Withdraw};
+ghost use Rattle.source_model.specs.Answers.{answer_seen};
 ghost use Rattle.source_model.specs.Runs.{can_move};
-ghost use Rattle.source_model.specs.Guards.{Guard, Setup, has_ended};
+ghost use Rattle.source_model.specs.Guards.{Guard, Setup, can_open, has_ended};
+ghost use Rattle.source_model.specs.Journals.{answers};
+ghost use Rattle.source_model.specs.Schedules.{due};
 ghost use Rattle.dsu_runs.specs.Engines.{MakesAt, finish_of, standing_of, waiting_of, waits_in};
 
 use bytecode::Ending;
+use name_sets::Names;
+use source_model::OfferAnswer;
 use std::alloc::AllocError;
 
 /// What came of an event that an engine was asked to make.
@@ -48,6 +53,9 @@ pub trait Engine {
     /// How many faults its sink has counted.
     ghost faults: { Self → ℕ };
 
+    /// The texts for which the ids in its answers stand.
+    ghost table: { Self → List (List ℕ) };
+
     /// How many slots there are.
     fn slots(&self) -> u8
         ensures { (setup : Setup) (g : Guard) → is_at setup g self.now → result ≡ length g.seats };
@@ -82,4 +90,53 @@ pub trait Engine {
             → MakesAt (λ x. is_at setup x self.new) setup (CheckIn slot) g (told self.old) (told self.new) result }
         ensures later { faults self.old ≤ faults self.new }
         ensures written { result ≢ Made.SinkFailed };
+
+    /// How many offers there are. Offers are numbered from 1.
+    fn offers(&self) -> u8
+        ensures { (setup : Setup) (g : Guard) → is_at setup g self.now → result ≡ length setup.offers };
+
+    /// The offer that is due.
+    fn due(&self) -> Option<u8>
+        ensures { (setup : Setup) (g : Guard) → is_at setup g self.now → result ≡ due setup g };
+
+    /// The open offer.
+    fn open(&self) -> Option<u8>
+        ensures { (setup : Setup) (g : Guard) → is_at setup g self.now → result ≡ g.open_offer };
+
+    /// Whether an offer can be opened.
+    fn may_offer(&self, k: u8) -> bool
+        ensures { (setup : Setup) (g : Guard) → is_at setup g self.now → result ≡ (not (has_ended g) && can_open setup g k) };
+
+    /// Opens an offer. Nothing is printed.
+    fn offer(&mut self, k: u8) -> Made
+        ensures made { (setup : Setup) (g : Guard) → is_at setup g self.old
+            → MakesAt (λ x. is_at setup x self.new) setup (Offer k) g (told self.old) (told self.new) result }
+        ensures later { faults self.old ≤ faults self.new }
+        ensures written { result ≢ Made.SinkFailed };
+
+    /// Decides the open offer: it is installed, refused, or no patch. Nothing is printed. Out of memory: nothing changed,
+    /// and the offer is still open.
+    fn decide(&mut self, k: u8) -> Result<Made, AllocError>
+        ensures made { (setup : Setup) (g : Guard) → is_at setup g self.old → IfOk result
+            (MakesAt (λ x. is_at setup x self.new) setup (Decide k) g (told self.old) (told self.new)) }
+        ensures stays { OnErr result ((setup : Setup) (g : Guard) → is_at setup g self.old → is_at setup g self.new) }
+        ensures silent { OnErr result (told self.new ≡ told self.old) }
+        ensures later { faults self.old ≤ faults self.new }
+        ensures written { result ≢ Ok Made.SinkFailed };
+
+    /// Closes the open offer with nothing changed. Nothing is printed.
+    fn withdraw(&mut self, k: u8) -> Made
+        ensures made { (setup : Setup) (g : Guard) → is_at setup g self.old
+            → MakesAt (λ x. is_at setup x self.new) setup (Withdraw k) g (told self.old) (told self.new) result }
+        ensures later { faults self.old ≤ faults self.new }
+        ensures written { result ≢ Made.SinkFailed };
+
+    /// The answers to the offers, in the order of the offers. Their ids stand for the texts of `names`.
+    fn answers(&self) -> &[OfferAnswer]
+        ensures { (setup : Setup) (g : Guard) → is_at setup g self.now
+            → map (answer_seen (table self.now)) result.now ≡ answers setup g };
+
+    /// The texts for which the ids in the answers stand.
+    fn names(&self) -> &Names
+        ensures { result.now ≡ table self.now };
 }

@@ -1,4 +1,3 @@
-ghost use Rattle.std.specs.Prelude.{◌≡◌, []};
 ghost use Rattle.source_model.specs.Guards.{Setup, first_guard};
 ghost use Rattle.dsu_runs.specs.Replays.{Replayed};
 
@@ -10,7 +9,7 @@ use std::alloc::Global;
 
 /// Makes the events of a journal, each with its line, up to the first that can't happen.
 pub fn replay<E: Engine>(alloc: Global, engine: E, events: &[(u32, Event)]) -> Ran<E>
-    ensures { (setup : Setup) → setup.offers ≡ [] → E.is_at setup (first_guard setup) engine
+    ensures { (setup : Setup) → E.is_at setup (first_guard setup) engine
         → Replayed setup (E.is_at setup) E.told E.faults engine events.now result }
 {
     seats_fit_their_slots();

@@ -1,4 +1,4 @@
-ghost use Rattle.std.specs.Prelude.{◌≡◌, ◌≤◌, ◌<◌, length, [], ◌∷◌, ◌++◌, true, IfOk, OnErr, Ok, None};
+ghost use Rattle.std.specs.Prelude.{◌≡◌, ◌≤◌, ◌<◌, length, [], ◌∷◌, ◌++◌, true, false, IfOk, OnErr, Ok};
 ghost use Rattle.std.specs.Vec.{vec_capacity};
 ghost use Rattle.dsu_io.specs.Causes.{Rose};
 ghost use Rattle.source_model.specs.Guards.{Guard, Setup};
@@ -33,7 +33,7 @@ impl<E: Engine> Running<E> {
     /// Makes an event, and keeps it.
     pub fn make(&mut self, event: Event) -> Step
         requires { length self.old.history.items < vec_capacity self.old.history }
-        ensures made { (setup : Setup) (g : Guard) → E.is_at setup g self.old.engine → setup.offers ≡ [] → g.open_offer ≡ None
+        ensures made { (setup : Setup) (g : Guard) → E.is_at setup g self.old.engine
             → Steps (λ x. E.is_at setup x self.new.engine) setup event g
             (E.told self.old.engine) (E.told self.new.engine) result }
         ensures history { self.new.history.items ≡ history_after event self.old.history.items result }
@@ -41,6 +41,8 @@ impl<E: Engine> Running<E> {
         ensures later { E.faults self.old.engine ≤ E.faults self.new.engine }
         ensures cause { result ≡ Step.SinkFailed → Rose (E.faults self.old.engine) (E.faults self.new.engine) }
         ensures moves { result ≡ Step.SinkFailed → makes_move event ≡ true }
+        ensures stays { result ≡ Step.Memory → makes_move event ≡ false → (setup : Setup) (g : Guard)
+            → E.is_at setup g self.old.engine → E.is_at setup g self.new.engine }
     {
         let step = step_of(make(&mut self.engine, event));
         match step {
@@ -84,20 +86,23 @@ fn step_of(made: Result<Made, AllocError>) -> Step
     }
 }
 
-/// Has an engine make an event. In a run without offers none can be opened, decided or withdrawn.
+/// Has an engine make an event. Only a move that wants memory leaves the engine as it can't be used any more.
 fn make<E: Engine>(engine: &mut E, event: Event) -> Result<Made, AllocError>
-    ensures made { (setup : Setup) (g : Guard) → E.is_at setup g engine.old → setup.offers ≡ [] → g.open_offer ≡ None
-        → IfOk result
+    ensures made { (setup : Setup) (g : Guard) → E.is_at setup g engine.old → IfOk result
         (MakesAt (λ x. E.is_at setup x engine.new) setup event g (E.told engine.old) (E.told engine.new)) }
     ensures silent { OnErr result (E.told engine.new ≡ E.told engine.old) }
     ensures later { E.faults engine.old ≤ E.faults engine.new }
     ensures cause { result ≡ Ok Made.SinkFailed → Rose (E.faults engine.old) (E.faults engine.new) }
     ensures moves { result ≡ Ok Made.SinkFailed → makes_move event ≡ true }
+    ensures stays { OnErr result (makes_move event ≡ false → (setup : Setup) (g : Guard)
+        → E.is_at setup g engine.old → E.is_at setup g engine.new) }
 {
     match event {
         Event::Move(slot) => engine.act(slot),
         Event::CheckIn(slot) => Ok(engine.check_in(slot)),
-        Event::Offer(_) | Event::Decide(_) | Event::Withdraw(_) => Ok(Made::CannotHappen),
+        Event::Offer(k) => Ok(engine.offer(k)),
+        Event::Decide(k) => engine.decide(k),
+        Event::Withdraw(k) => Ok(engine.withdraw(k)),
     }
 }
 

@@ -1,11 +1,14 @@
-ghost use Rattle.std.specs.Prelude.{◌≡◌, ◌-◌, length, ◌<◌, [], ℕ, true, false, None, Option};
+ghost use Rattle.std.specs.Prelude.{◌≡◌, ◌-◌, ◌==◌, ◌&&◌, not, length, ◌<◌, ℕ, true, false, Option, Some};
 ghost use Rattle.std.specs.List.{range_with_len};
 ghost use Rattle.std.specs.Vec.{vec_capacity};
-ghost use Rattle.source_model.specs.Guards.{Guard, Setup, first_guard, seat_of};
+ghost use Rattle.bytecode.specs.declared.run.Event.TheVariants.{Decide};
+ghost use Rattle.source_model.specs.Guards.{Guard, Setup, first_guard, has_ended, seat_of};
 ghost use Rattle.source_model.specs.Schedules.{act_of, first_act, slots_after};
-ghost use Rattle.dsu_runs.specs.Turns.{GoesAt, Keeps, Turned, first_after, thread_next};
+ghost use Rattle.source_model.specs.Endings.{is_stuck as stuck_at};
+ghost use Rattle.dsu_runs.specs.Turns.{GoesAt, Keeps, Turned, first_after, next_within, offer_or_act};
 ghost use Rattle.dsu_runs.specs.Solo.{RanSolo};
 
+use crate::ending::is_stuck;
 use crate::running::{Running, Step};
 use crate::{Engine, Ran, Stands, StopCause};
 use bytecode::Event;
@@ -22,15 +25,17 @@ pub(crate) struct SoloRun<E> {
     left: u32,
 }
 
-/// Makes the events of the solo schedule until the run has ended, no thread can act, or so many moves were made.
+/// Makes the events of the solo schedule until the run has ended: it finished or trapped; it is stuck, and no offer is open
+/// or due; or it isn't stuck, and so many moves were made. An offer that can't be decided is withdrawn.
 pub fn solo<E: Engine>(alloc: Global, engine: E, moves: u32) -> Ran<E>
-    ensures { (setup : Setup) → setup.offers ≡ [] → E.is_at setup (first_guard setup) engine
+    ensures { (setup : Setup) → E.is_at setup (first_guard setup) engine
         → RanSolo setup (E.is_at setup) E.told E.faults engine moves result }
 {
     seats_fit_their_slots();
     solo_schedule_goes_to_the_end();
-    // A check-in comes only after a move that led to it, so there are at most as many.
-    let Ok(history) = Vec::with_capacity(alloc, 2 * moves as usize) else {
+    // A check-in comes only after a move that led to it, so there are at most as many; an offer is opened and closed once.
+    let most = 2 * moves as usize + 2 * engine.offers() as usize;
+    let Ok(history) = Vec::with_capacity(alloc, most) else {
         return Ran {
             engine,
             history: Vec::new(alloc),
@@ -42,10 +47,7 @@ pub fn solo<E: Engine>(alloc: Global, engine: E, moves: u32) -> Ran<E>
         first: 0,
         left: moves,
     };
-    for _turn in 0..2 * moves as usize {
-        if solo.left == 0 {
-            return solo.running.end();
-        }
+    for _turn in 0..most {
         match solo.act() {
             Step::Done => {}
             Step::CannotHappen => return solo.running.end(),
@@ -57,19 +59,68 @@ pub fn solo<E: Engine>(alloc: Global, engine: E, moves: u32) -> Ran<E>
 }
 
 impl<E: Engine> SoloRun<E> {
-    /// The next event, if there is one.
+    /// The next event of a run that hasn't ended. Without a move left a run goes on only where it is stuck: its offers are
+    /// still answered.
     fn act(&mut self) -> Step
-        requires left { 0 < self.old.left }
         requires room { length self.old.running.history.items < vec_capacity self.old.running.history }
-        ensures turned { (setup : Setup) (g : Guard) (last : Option ℕ) → E.is_at setup g self.old.running.engine → g.open_offer ≡ None
-            → setup.offers ≡ [] → self.old.first ≡ first_after last
-            → Turned (E.is_at setup) E.told setup g (thread_next g last) self.old self.new result }
+        ensures turned { (setup : Setup) (g : Guard) (last : Option ℕ) → E.is_at setup g self.old.running.engine
+            → length g.seats ≡ length g.world.slots → self.old.first ≡ first_after last
+            → Turned (E.is_at setup) E.told setup g (next_within setup g last self.old.left) self.old self.new result }
         ensures kept { Keeps E.faults self.old self.new result }
     {
         if self.running.engine.finish().is_some() {
             return Step::CannotHappen;
         }
-        self.act_in_turn()
+        if self.is_used_up() {
+            return Step::CannotHappen;
+        }
+        match self.running.engine.open() {
+            Some(k) => self.close(k),
+            None => self.open_or_act(),
+        }
+    }
+
+    /// Whether no move is left in a run that isn't stuck.
+    fn is_used_up(&self) -> bool
+        ensures { (setup : Setup) (g : Guard) → E.is_at setup g self.now.running.engine → has_ended g ≡ false
+            → length g.seats ≡ length g.world.slots → result ≡ (self.now.left == 0 && not (stuck_at g)) }
+    {
+        if self.left != 0 {
+            return false;
+        }
+        !is_stuck(&self.running.engine)
+    }
+
+    /// Decides the open offer. Where the decision can't be made, or there is no memory for it, it withdraws the offer.
+    fn close(&mut self, k: u8) -> Step
+        requires room { length self.old.running.history.items < vec_capacity self.old.running.history }
+        ensures turned { (setup : Setup) (g : Guard) → E.is_at setup g self.old.running.engine → has_ended g ≡ false
+            → g.open_offer ≡ Some k → Turned (E.is_at setup) E.told setup g (Some (Decide k)) self.old self.new result }
+        ensures kept { Keeps E.faults self.old self.new result }
+    {
+        match self.running.make(Event::Decide(k)) {
+            Step::CannotHappen | Step::Memory => self.running.make(Event::Withdraw(k)),
+            step => step,
+        }
+    }
+
+    /// Opens the offer that is due, if one is; else a thread acts, if a move is left and one can.
+    fn open_or_act(&mut self) -> Step
+        requires room { length self.old.running.history.items < vec_capacity self.old.running.history }
+        ensures turned { (setup : Setup) (g : Guard) (last : Option ℕ) → GoesAt (E.is_at setup) g self.old.running.engine
+            → self.old.first ≡ first_after last
+            → Turned (E.is_at setup) E.told setup g (offer_or_act setup g last self.old.left) self.old self.new result }
+        ensures kept { Keeps E.faults self.old self.new result }
+    {
+        match self.running.engine.due() {
+            Some(k) => self.running.make(Event::Offer(k)),
+            None => {
+                if self.left == 0 {
+                    return Step::CannotHappen;
+                }
+                self.act_in_turn()
+            }
+        }
     }
 
     /// The first of the slots in order after the one that acted last acts, if one can.
@@ -77,7 +128,7 @@ impl<E: Engine> SoloRun<E> {
         requires left { 0 < self.old.left }
         requires room { length self.old.running.history.items < vec_capacity self.old.running.history }
         ensures turned { (setup : Setup) (g : Guard) (last : Option ℕ) → GoesAt (E.is_at setup) g self.old.running.engine
-            → setup.offers ≡ [] → self.old.first ≡ first_after last
+            → self.old.first ≡ first_after last
             → Turned (E.is_at setup) E.told setup g (first_act g (slots_after (length g.seats) last))
             self.old self.new result }
         ensures kept { Keeps E.faults self.old self.new result }
@@ -95,7 +146,6 @@ impl<E: Engine> SoloRun<E> {
         requires left { 0 < self.old.left }
         requires room { length self.old.running.history.items < vec_capacity self.old.running.history }
         ensures turned { (setup : Setup) (g : Guard) → GoesAt (E.is_at setup) g self.old.running.engine
-            → setup.offers ≡ []
             → Turned (E.is_at setup) E.told setup g (first_act g (range_with_len from (to - from)))
             self.old self.new result }
         ensures kept { Keeps E.faults self.old self.new result }
@@ -115,7 +165,6 @@ impl<E: Engine> SoloRun<E> {
         requires room { length self.old.running.history.items < vec_capacity self.old.running.history }
         requires within { slot < 255 }
         ensures turned { (setup : Setup) (g : Guard) → GoesAt (E.is_at setup) g self.old.running.engine
-            → setup.offers ≡ []
             → Turned (E.is_at setup) E.told setup g (act_of g slot) self.old self.new result }
         ensures kept { Keeps E.faults self.old self.new result }
     {
@@ -131,7 +180,7 @@ impl<E: Engine> SoloRun<E> {
         requires room { length self.old.running.history.items < vec_capacity self.old.running.history }
         requires within { slot < 255 }
         ensures turned { (setup : Setup) (g : Guard) → GoesAt (E.is_at setup) g self.old.running.engine
-            → setup.offers ≡ [] → (seat_of g slot).at_check_in ≡ true
+            → (seat_of g slot).at_check_in ≡ true
             → Turned (E.is_at setup) E.told setup g (act_of g slot) self.old self.new result }
         ensures kept { Keeps E.faults self.old self.new result }
     {
@@ -149,7 +198,7 @@ impl<E: Engine> SoloRun<E> {
         requires room { length self.old.running.history.items < vec_capacity self.old.running.history }
         requires within { slot < 255 }
         ensures turned { (setup : Setup) (g : Guard) → GoesAt (E.is_at setup) g self.old.running.engine
-            → setup.offers ≡ [] → (seat_of g slot).at_check_in ≡ false
+            → (seat_of g slot).at_check_in ≡ false
             → Turned (E.is_at setup) E.told setup g (act_of g slot) self.old self.new result }
         ensures kept { Keeps E.faults self.old self.new result }
     {

@@ -1,13 +1,11 @@
-use crate::tiny::{Stage, Tiny};
+use crate::tiny::Tiny;
 use bytecode::{Ending, Event};
 use dsu_runs::{StopCause, replay, solo};
 use std::test::Fail;
 
 #[test]
 fn solo_ends_where_nothing_can_act(rt: HostRuntime) -> Result<(), Fail> {
-    let start = Tiny {
-        stage: Stage::Start,
-    };
+    let start = Tiny::new(rt.alloc());
     let ran = solo(rt.alloc(), start, 5);
     assert!(rt; ran.cause == StopCause::Ended(Ending::Deadlock));
     assert!(rt; ran.history.as_slice() == [Event::Move(0), Event::CheckIn(0)].as_slice());
@@ -16,9 +14,7 @@ fn solo_ends_where_nothing_can_act(rt: HostRuntime) -> Result<(), Fail> {
 
 #[test]
 fn solo_is_cut_where_the_moves_are_made(rt: HostRuntime) -> Result<(), Fail> {
-    let start = Tiny {
-        stage: Stage::Start,
-    };
+    let start = Tiny::new(rt.alloc());
     let ran = solo(rt.alloc(), start, 1);
     assert!(rt; ran.cause == StopCause::Ended(Ending::Cut));
     assert!(rt; ran.history.as_slice() == [Event::Move(0)].as_slice());
@@ -27,9 +23,7 @@ fn solo_is_cut_where_the_moves_are_made(rt: HostRuntime) -> Result<(), Fail> {
 
 #[test]
 fn replay_makes_the_events_of_its_journal(rt: HostRuntime) -> Result<(), Fail> {
-    let start = Tiny {
-        stage: Stage::Start,
-    };
+    let start = Tiny::new(rt.alloc());
     let ran = replay(
         rt.alloc(),
         start,
@@ -42,9 +36,7 @@ fn replay_makes_the_events_of_its_journal(rt: HostRuntime) -> Result<(), Fail> {
 
 #[test]
 fn replay_stops_at_an_event_that_cannot_happen(rt: HostRuntime) -> Result<(), Fail> {
-    let start = Tiny {
-        stage: Stage::Start,
-    };
+    let start = Tiny::new(rt.alloc());
     let ran = replay(
         rt.alloc(),
         start,

@@ -1,6 +1,11 @@
+ghost use Rattle.std.specs.Prelude.{◌≡◌};
+ghost use Rattle.dsu_runs_tests.specs.declared.tiny.Stage.TheVariants.{Start};
+
 use bytecode::Ending;
 use dsu_runs::{Engine, Made, Stands, Waiting};
-use std::alloc::AllocError;
+use name_sets::Names;
+use source_model::OfferAnswer;
+use std::alloc::{AllocError, Global};
 
 /// How far the run of a text without definitions has come.
 #[derive(Clone, Copy)]
@@ -13,10 +18,23 @@ pub enum Stage {
     Passed,
 }
 
-/// The engine of that run alone.
+/// The engine of that run alone. It has no offers.
 #[derive(Drop)]
 pub struct Tiny {
-    pub stage: Stage,
+    stage: Stage,
+    names: Names,
+}
+
+impl Tiny {
+    /// The start of the run.
+    pub fn new(alloc: Global) -> Tiny
+        ensures { result.stage ≡ Start }
+    {
+        Tiny {
+            stage: Stage::Start,
+            names: Names::new(alloc),
+        }
+    }
 }
 
 impl Engine for Tiny {
@@ -28,6 +46,8 @@ impl Engine for Tiny {
     ghost told = { λ engine. Some [] };
 
     ghost faults = { λ engine. 0 };
+
+    ghost table = { λ engine. engine.names };
 
     fn slots(&self) -> u8 {
         1
@@ -89,5 +109,41 @@ impl Engine for Tiny {
             }
             Stage::Passed => Made::CannotHappen,
         }
+    }
+
+    fn offers(&self) -> u8 {
+        0
+    }
+
+    fn due(&self) -> Option<u8> {
+        None
+    }
+
+    fn open(&self) -> Option<u8> {
+        None
+    }
+
+    fn may_offer(&self, _k: u8) -> bool {
+        false
+    }
+
+    fn offer(&mut self, _k: u8) -> Made {
+        Made::CannotHappen
+    }
+
+    fn decide(&mut self, _k: u8) -> Result<Made, AllocError> {
+        Ok(Made::CannotHappen)
+    }
+
+    fn withdraw(&mut self, _k: u8) -> Made {
+        Made::CannotHappen
+    }
+
+    fn answers(&self) -> &[OfferAnswer] {
+        &[]
+    }
+
+    fn names(&self) -> &Names {
+        &self.names
     }
 }

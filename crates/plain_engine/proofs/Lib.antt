@@ -1,3 +1,4 @@
+mod NoOffers
 mod Printing
 mod Seats
 mod Standing

@@ -20,8 +20,9 @@ use Rattle.source_model.proofs.Moved.{Keeps, move_keeps, of_outcome}
 use Rattle.source_runner.specs.declared.run.SourceRun.{SourceRun}
 use Rattle.source_runner.specs.declared.run.SourceMove.{SourceMove as Code}
 use Rattle.source_runner.specs.declared.run.Stepped.{Stepped}
-use Rattle.source_runner.specs.SourceRuns.{Came, IsRun, Steps, world_after}
+use Rattle.source_runner.specs.SourceRuns.{CameBy, IsRun, Steps, move_of, world_after}
 use Rattle.source_runner.proofs.AfterMoves.{then_move}
+use Rattle.dsu_runs.specs.Rows.{AreRows}
 use Rattle.dsu_runs.specs.Engines.{Makes, MakesAt, Refuses}
 use Rattle.dsu_runs.specs.declared.engine.Made.{Made}
 use Rattle.dsu_runs.specs.declared.engine.Made.TheVariants.{Done, CannotHappen, SinkFailed}
@@ -67,8 +68,8 @@ no_check_in false true c g at = absurd (true≢false (at refl))
 
 -- what a step came to
 pub stepped : (texts : List (List BareDef)) (limits : Limits) (moves : List SourceMove) (m : Code) (new : SourceRun)
-    (r : Outcome Stepped AllocError) (s : Stepped) → r ≡ Ok s → Steps texts limits moves m new r → Came texts limits moves m new s
-stepped texts limits moves m new r s is steps = subst (λ x. IfOk x (Came texts limits moves m new)) is steps.came
+    (r : Outcome Stepped AllocError) (s : Stepped) → r ≡ Ok s → Steps texts limits moves m new r → CameBy texts limits moves (move_of m) new s
+stepped texts limits moves m new r s is steps = subst (λ x. IfOk x (CameBy texts limits moves (move_of m) new)) is steps.came
 
 -- an engine whose run and seats are the same
 pub same_at : (setup : Setup) (g : Guard) (run run2 : SourceRun) (seats seats2 : List Bool) (printed : ℕ) → run2 ≡ run → seats2 ≡ seats
@@ -79,7 +80,7 @@ same_at setup g run run2 seats seats2 printed same stay at =
 -- a move was made: the guard after it, at which the engine is once the sink has all that was printed
 pub record Moved (setup : Setup) (g : Guard) (slot : ℕ) (new : SourceRun) (seats : List Bool) : Type 0 where
   pub after : Guard
-  pub happens : (rules : Rules) → happens rules setup (Move slot) g ≡ Some after
+  pub happens : (rules : Rules) → AreRows rules → happens rules setup (Move slot) g ≡ Some after
   pub there : (printed : ℕ) → printed ≡ length after.world.output → IsAt setup after new seats printed
   pub more : List ℕ
   pub grew : after.world.output ≡ g.world.output ++ more
@@ -89,7 +90,7 @@ module _ (setup : Setup) (g : Guard) (run : SourceRun) (seats : List Bool) (prin
   pub refused_at : (slot : ℕ) (told : Option (List ℕ)) → slice_index_or seats slot false ≡ true
       → Refuses (λ x. IsAt setup x run seats printed) setup (Move slot) g told told
   refused_at slot told e = record {
-    never = λ rules.
+    never = λ rules rows.
         stays_at (has_ended g) (seat_of g slot).at_check_in (option_map (moved g slot) (move g.world slot))
         (λ going. seat_is setup g run seats printed at slot true going e);
     stays = at;
@@ -101,7 +102,7 @@ module _ (setup : Setup) (g : Guard) (run : SourceRun) (seats : List Bool) (prin
       → world_after (texts_of setup) setup.limits (at.moves ++ source.Move slot ∷ []) ≡ None
       → Refuses (λ x. IsAt setup x new seats printed) setup (Move slot) g told told
   refused new slot told r none = record {
-    never = λ rules.
+    never = λ rules rows.
         no_move (has_ended g || (seat_of g slot).at_check_in) (move g.world slot) g slot
         (sym (then_move (texts_of setup) setup.limits at.moves slot g.world at.world) ∙ none);
     stays = record {
@@ -111,6 +112,7 @@ module _ (setup : Setup) (g : Guard) (run : SourceRun) (seats : List Bool) (prin
       count = at.count;
       seats = at.seats;
       empty = at.empty;
+      offers = at.offers;
       none_open = at.none_open;
       printed = at.printed;
     };
@@ -157,7 +159,7 @@ module _ (setup : Setup) (g : Guard) (run : SourceRun) (seats : List Bool) (prin
     pub made : Moved setup g slot new (slice_set seats slot b)
     made = record {
       after = moved g slot r.world;
-      happens = λ rules.
+      happens = λ rules rows.
           goes (has_ended g) (seat_of g slot).at_check_in g slot (move g.world slot) r.world going
           (seat_is setup g run seats printed at slot false going none_at) to;
       there = λ all whole. record {
@@ -172,6 +174,7 @@ module _ (setup : Setup) (g : Guard) (run : SourceRun) (seats : List Bool) (prin
             ∙ ap (slice_set seats slot) (ap (λ x. move_leads (in_slot g.world slot) && is_live x) (alive_is r.world slot still) ∙ own);
         empty = λ n none.
             empty_after 0 slot (move_leads (in_slot g.world slot)) g.world r.world g.seats n n (omega arith) (none_alive r.world n none);
+        offers = at.offers;
         none_open = at.none_open;
         printed = whole;
       };
@@ -207,7 +210,7 @@ module _ (setup : Setup) (g : Guard) (run : SourceRun) (seats : List Bool) (prin
   pub stays_put : (slot : ℕ) (told : Option (List ℕ)) → (has_ended g ≡ false → slice_index_or seats slot false ≡ false)
       → Refuses (λ x. IsAt setup x run seats printed) setup (CheckIn slot) g told told
   stays_put slot told none = record {
-    never = λ rules.
+    never = λ rules rows.
         no_check_in (has_ended g) (seat_of g slot).at_check_in (is_none g.open_offer) (checked_in (store g.versions) g slot)
         (λ going. seat_is setup g run seats printed at slot false going (none going));
     stays = at;
@@ -225,7 +228,7 @@ module _ (setup : Setup) (g : Guard) (run : SourceRun) (seats : List Bool) (prin
         → Makes (λ x. IsAt setup x run (slice_set seats slot false) printed) setup (CheckIn slot) g told told
     passed told = record {
       after = checked_in (store g.versions) g slot;
-      happens = λ rules.
+      happens = λ rules rows.
           passes (has_ended g) (seat_of g slot).at_check_in (is_none g.open_offer) (checked_in (store g.versions) g slot) going
           (seat_is setup g run seats printed at slot true going at_one) (ap is_none at.none_open);
       there = record {
@@ -238,6 +241,7 @@ module _ (setup : Setup) (g : Guard) (run : SourceRun) (seats : List Bool) (prin
             seat_at (slice_set g.seats slot seat) n ∙ ap (λ bs. slice_index_or bs n false) set
             ∙ still_false seats slot n
             (ap (λ bs. slice_index_or bs n false) (sym (at.seats going)) ∙ sym (seat_at g.seats n) ∙ at.empty n none);
+        offers = at.offers;
         none_open = at.none_open;
         printed = at.printed;
       };
@@ -260,6 +264,7 @@ begins text objects run is = record {
   count = refl;
   seats = λ going. refl;
   empty = λ n none. seat_at (first_guard (setup_of text objects)).seats n ∙ all_false 16 n;
+  offers = refl;
   none_open = refl;
   printed = refl;
 }

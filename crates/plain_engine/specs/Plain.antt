@@ -23,6 +23,8 @@ pub record IsAt (setup : Setup) (g : Guard) (r : SourceRun) (at : List Bool) (se
   pub count : length g.seats ≡ 16
   pub seats : has_ended g ≡ false → map (λ s. s.at_check_in) g.seats ≡ at
   pub empty : (n : ℕ) → is_live (in_slot g.world n) ≡ false → (seat_of g n).at_check_in ≡ false
+  -- it takes no offers
+  pub offers : setup.offers ≡ []
   pub none_open : g.open_offer ≡ None
   pub printed : sent ≡ length g.world.output
 

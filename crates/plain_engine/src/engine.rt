@@ -6,6 +6,7 @@ ghost use Rattle.plain_engine.specs.Plain.{IsAt, texts_of};
 
 use c_types::Typed;
 use dsu_io::Sink;
+use name_sets::Names;
 use source_runner::SourceRun;
 use std::alloc::{AllocError, Global};
 
@@ -21,6 +22,8 @@ pub struct PlainEngine<S> {
     pub(crate) sink: S,
     /// How many bytes of the output the sink has.
     pub(crate) printed: usize,
+    /// The names for answers to offers, of which there are none.
+    pub(crate) names: Names,
 }
 
 impl<S: Sink> PlainEngine<S> {
@@ -37,6 +40,7 @@ impl<S: Sink> PlainEngine<S> {
                 seats: [false; 16],
                 sink,
                 printed: 0,
+                names: Names::new(alloc),
             }),
             Err(_) => Err(sink),
         }

@@ -14,6 +14,8 @@ use crate::engine::{SLOTS, set_seat};
 use bytecode::Ending;
 use dsu_io::{Sink, put};
 use dsu_runs::{Engine, Made, Stands, Waiting};
+use name_sets::Names;
+use source_model::OfferAnswer;
 use source_runner::{SourceMove, SourceWait, Stepped};
 use std::alloc::AllocError;
 
@@ -25,6 +27,8 @@ impl<S: Sink> Engine for PlainEngine<S> {
     ghost told = { λ engine. S.told engine.sink };
 
     ghost faults = { λ engine. S.faults engine.sink };
+
+    ghost table = { λ engine. engine.names };
 
     fn slots(&self) -> u8 {
         SLOTS
@@ -81,6 +85,42 @@ impl<S: Sink> Engine for PlainEngine<S> {
         }
         self.seats[slot as usize] = false;
         Made::Done
+    }
+
+    fn offers(&self) -> u8 {
+        0
+    }
+
+    fn due(&self) -> Option<u8> {
+        None
+    }
+
+    fn open(&self) -> Option<u8> {
+        None
+    }
+
+    fn may_offer(&self, _k: u8) -> bool {
+        false
+    }
+
+    fn offer(&mut self, _k: u8) -> Made {
+        Made::CannotHappen
+    }
+
+    fn decide(&mut self, _k: u8) -> Result<Made, AllocError> {
+        Ok(Made::CannotHappen)
+    }
+
+    fn withdraw(&mut self, _k: u8) -> Made {
+        Made::CannotHappen
+    }
+
+    fn answers(&self) -> &[OfferAnswer] {
+        &[]
+    }
+
+    fn names(&self) -> &Names {
+        &self.names
     }
 }
 

@@ -8,7 +8,7 @@ pub mod Moved
 mod Greatest
 mod Apart
 mod Sets
-mod Same
+pub mod Same
 mod Lawful
 mod Waiters
 mod Journaled
@@ -16,10 +16,10 @@ mod Pieces
 mod Older
 mod Coming
 mod Journals
-mod Events
+pub mod Events
 mod Seats
 mod Offers
-mod Soloing
+pub mod Soloing
 mod Counted
 mod Consistent
 pub mod Stuck

@@ -1,5 +1,5 @@
 -- What the solo schedule has next can happen, and its journals are prompt.
-use Rattle.std.proofs.Common.{◌≡◌, ℕ, zero, suc, ◌+◌, ◌-◌, ◌<◌, Bool, true, false, IsTrue, List, [], ◌∷◌, ◌++◌, Option, Some, None, refl, sym, ◌∙◌, ap, subst, arith}
+use Rattle.std.proofs.Common.{◌≡◌, inl, inr, ℕ, zero, suc, ◌+◌, ◌-◌, ◌<◌, Bool, true, false, IsTrue, List, [], ◌∷◌, ◌++◌, Option, Some, None, refl, sym, ◌∙◌, ap, subst, arith}
 use Rattle.std.specs.Prelude.{◌==◌, ◌&&◌, ◌||◌, not, length, nat_lt, reverse, option_map, slice_index_or, if◌then◌else◌}
 use Rattle.std.specs.Option.{is_some, is_none, option_and_then, option_map_or, option_or}
 use Rattle.std.specs.List.{list_any, range_with_len}
@@ -14,7 +14,7 @@ use Rattle.source_model.specs.Runs.{can_move, some_can_move}
 use Rattle.source_model.specs.Guards.{Guard, Seat, Setup, Rules, empty_seat, first_guard, has_ended, bodies_of, seat_of, moved, checked_in, is_reached, offer_at}
 use Rattle.source_model.specs.Journals.{happens, play, guard_after, guard_if}
 use Rattle.source_model.specs.JournalLaws.{SeatsFit, CanHappen}
-use Rattle.source_model.specs.Schedules.{act_of, due, first_act, makes_move, prompt_from, slots_after, solo_next}
+use Rattle.source_model.specs.Schedules.{MayStand, act_of, due, first_act, makes_move, prompt_from, slots_after, solo_next}
 use Rattle.source_model.specs.Endings.{is_stuck, no_offer_waits}
 use Rattle.source_model.specs.ScheduleLaws.{NextCanHappen, SoloIsLegal, SoloIsPrompt, NothingNext}
 use Rattle.source_model.proofs.Offers.{OpenOffer, can_decide, open_offer, there}
@@ -104,7 +104,7 @@ both_of : (a b : Bool) → (a && b) ≡ true → (a ≡ true) × (b ≡ true)
 both_of true b h = (refl, h)
 both_of false b h = absurd (not_so h)
 
-due_is : (setup : Setup) (g : Guard) (k : ℕ) → due setup g ≡ Some k → (suc g.greatest ≡ k) × (is_reached g (offer_at setup (suc g.greatest)) ≡ true)
+pub due_is : (setup : Setup) (g : Guard) (k : ℕ) → due setup g ≡ Some k → (suc g.greatest ≡ k) × (is_reached g (offer_at setup (suc g.greatest)) ≡ true)
 due_is setup g k e = by (g.closed == g.greatest && is_reached g (offer_at setup (suc g.greatest))) refl e
   where
     by : (b : Bool) → (g.closed == g.greatest && is_reached g (offer_at setup (suc g.greatest))) ≡ b
@@ -123,8 +123,8 @@ opens_next false true false d g e f h i = absurd (not_so h)
 opens_next false true true false g e f h i = absurd (not_so i)
 opens_next false true true true g e f h i = refl
 
-due_happens : (rules : Rules) (setup : Setup) (g : Guard) (k : ℕ) → has_ended g ≡ false → g.open_offer ≡ None
-    → (suc g.greatest ≡ k) → is_reached g (offer_at setup (suc g.greatest)) ≡ true → CanHappen rules setup (Offer k) g
+pub due_happens : (rules : Rules) (setup : Setup) (g : Guard) (k : ℕ) → has_ended g ≡ false → g.open_offer ≡ None
+    → suc g.greatest ≡ k → is_reached g (offer_at setup (suc g.greatest)) ≡ true → CanHappen rules setup (Offer k) g
 due_happens rules setup g k goes none same reached =
     subst (λ n. CanHappen rules setup (Offer n) g) same
     (there (happens rules setup (Offer (suc g.greatest)) g)
@@ -163,7 +163,7 @@ one_played rules setup e g after h = ap (option_and_then (play rules setup [])) 
 
 pub solo_is_legal : SoloIsLegal
 solo_is_legal rules setup [] g last (is, none) = ap Some (sym is)
-solo_is_legal rules setup (e ∷ es) g last (before, before_last, solo, next, made, acted) =
+solo_is_legal rules setup (e ∷ es) g last (before, before_last, due_next, solo, next, stands, made, acted) =
     ap (λ l. guard_after rules setup l) (reverse-append (e ∷ []) es)
     ∙ play_parts rules setup (reverse es) (e ∷ []) (first_guard setup)
     ∙ ap (option_and_then (play rules setup (e ∷ []))) (solo_is_legal rules setup es before before_last solo)
@@ -179,6 +179,12 @@ prompt_source setup g last e (acts f none not_due first) = ap (λ o. makes_move 
     and_false : (b : Bool) → (b && false) ≡ false
     and_false true = refl
     and_false false = refl
+
+-- and so it is where the open offer is withdrawn instead
+prompt_stand : (setup : Setup) (g : Guard) (next made : Event) → MayStand next made
+    → (makes_move next && is_some (due setup g)) ≡ false → (makes_move made && is_some (due setup g)) ≡ false
+prompt_stand setup g next made (inl same) h = ap (λ e. makes_move e && is_some (due setup g)) same ∙ h
+prompt_stand setup g next made (inr (k, decision, withdrawal)) h = ap (λ e. makes_move e && is_some (due setup g)) withdrawal
 
 prompt_parts : (rules : Rules) (setup : Setup) (es fs : List Event) (g mid : Guard) → play rules setup es g ≡ Some mid
     → IsTrue (prompt_from rules setup es g) → IsTrue (prompt_from rules setup fs mid) → IsTrue (prompt_from rules setup (es ++ fs) g)
@@ -207,12 +213,14 @@ one_prompt rules setup e g h = ap (λ b. not b && option_map_or (λ after. true)
 
 pub solo_is_prompt : SoloIsPrompt
 solo_is_prompt rules setup [] g last h = refl
-solo_is_prompt rules setup (e ∷ es) g last (before, before_last, solo, next, made, acted) =
+solo_is_prompt rules setup (e ∷ es) g last (before, before_last, due_next, solo, next, stands, made, acted) =
     subst (λ l. IsTrue (prompt_from rules setup l (first_guard setup))) (sym (reverse-append (e ∷ []) es))
     (prompt_parts rules setup (reverse es) (e ∷ []) (first_guard setup) before
     (solo_is_legal rules setup es before before_last solo)
     (solo_is_prompt rules setup es before before_last solo)
-    (one_prompt rules setup e before (prompt_source setup before before_last e (going setup before before_last e next).1)))
+    (one_prompt rules setup e before
+    (prompt_stand setup before due_next e stands
+    (prompt_source setup before before_last due_next (going setup before before_last due_next next).1))))
 
 -- where nothing is next
 nothing_left : (a b : Option Event) → option_or a b ≡ None → (a ≡ None) × (b ≡ None)

@@ -1,5 +1,5 @@
 -- In which order a run makes its events: when an offer is due, and the solo schedule.
-use Rattle.std.specs.Prelude.{◌≡◌, ℕ, suc, ◌-◌, ◌==◌, Bool, true, false, not, ◌&&◌, List, [], ◌∷◌, ◌++◌, count_by, length, Option, Some, None, option_map, if◌then◌else◌}
+use Rattle.std.specs.Prelude.{◌≡◌, ◌⊎◌, ℕ, suc, ◌-◌, ◌==◌, Bool, true, false, not, ◌&&◌, List, [], ◌∷◌, ◌++◌, count_by, length, Option, Some, None, option_map, if◌then◌else◌}
 use Rattle.std.specs.Option.{is_some, option_map_or, option_or}
 use Rattle.std.specs.List.{range_with_len}
 use Rattle.bytecode.specs.declared.run.Event.{Event}
@@ -66,11 +66,16 @@ solo_next setup g last =
     then None
     else option_or (option_map Decide g.open_offer) (option_or (option_map Offer (due setup g)) (first_act g (slots_after (length g.seats) last)))
 
--- events, the newest first, each of which is the one that the solo schedule has next; with the guard after them, and the
--- slot that acted last
+-- what may be made where the solo schedule has an event next: that event; and instead of a decision the withdrawal of the
+-- same offer
+abbrev pub MayStand : Event → Event → Type 0
+MayStand next made = (made ≡ next) ⊎ ((k : ℕ) × (next ≡ Decide k) × (made ≡ Withdraw k))
+
+-- events, the newest first, each of which may be made for the one that the solo schedule has next; with the guard after
+-- them, and the slot that acted last
 abbrev pub Solo : Rules → Setup → List Event → Guard → Option ℕ → Type 0
 Solo rules setup [] g last = (g ≡ first_guard setup) × (last ≡ None)
 Solo rules setup (e ∷ es) g last =
-    (before : Guard) × (before_last : Option ℕ) × Solo rules setup es before before_last
-    × (solo_next setup before before_last ≡ Some e) × (happens rules setup e before ≡ Some g)
+    (before : Guard) × (before_last : Option ℕ) × (next : Event) × Solo rules setup es before before_last
+    × (solo_next setup before before_last ≡ Some next) × MayStand next e × (happens rules setup e before ≡ Some g)
     × (last ≡ option_or (acted_by e) before_last)

@@ -1,4 +1,4 @@
-use Rattle.std.proofs.Common.{false, inl, refl, subst, sym}
+use Rattle.std.proofs.Common.{false, inl, subst, sym}
 use Rattle.dsu_runs.specs.Setups.{setup_of}
 use Rattle.dsu_commands.specs.Calls.{output_of, run_call}
 use Rattle.dsu_commands.specs.Plans.{ByJournal}
@@ -20,4 +20,4 @@ returns-in-Ok g c =
     (output_of out.told out.faults c.args.out done.result.out) err done.ensures.status done.ensures.ending done.ensures.history
     (same_output out.told out.faults _ _ _ _ c.in-Ok.ensures.told (sym done.ensures.out))
     (subst (λ f. Came plan setup false f (run_call ran.result.1 ran.result.0 run_out err)) c.as_str.ensures
-    (ran.ensures setup refl c.in-Ok.ensures.start)))
+    (ran.ensures setup c.in-Ok.ensures.start)))

@@ -24,7 +24,7 @@ returns-in-Ok-clause-complete g c = λ (program, known, lines, journal, legal).
     let read = c.in-Ok.ensures.complete program (subst (λ f. IsKnownProgram (content f) program) (sym c.as_str-file.ensures) known) in
     c.replay_program.ensures.complete lines
     (subst (λ k. IsKnownJournal k lines) (sym (c.in-Ok.ensures.same job.journal)) journal)
-    (λ rules. subst {A = Program} (λ p. IsLegal rules (setup_of p job.objects) (events_of lines)) (sym read) (legal rules))
+    (λ rules are. subst {A = Program} (λ p. IsLegal rules (setup_of p job.objects) (events_of lines)) (sym read) (legal rules are))
 
 pub returns-in-Err-clause-answers : goal.returns-in-Err-clause-answers
 returns-in-Err-clause-answers g c =

@@ -7,7 +7,7 @@ use Rattle.dsu_commands.proofs.replay.replay_program.Goals as goal
 
 pub returns-in-Ok-clause-complete : goal.returns-in-Ok-clause-complete
 returns-in-Ok-clause-complete g c = λ lines known legal.
-    replayed_done lines c.deref.result.now (setup_of c.args.program c.args.job.now.objects) false c.args.job.now.journal _
+    replayed_done c.rules_exist.ensures lines c.deref.result.now (setup_of c.args.program c.args.job.now.objects) false c.args.job.now.journal _
     (c.deref.ensures.value ∙ c.in-Ok.ensures.complete lines
     (subst (λ f. IsKnownJournal (g.F.Files.content c.args.files.now f) lines) (sym c.as_str-file.ensures) known)) legal c.replay_events.ensures
 

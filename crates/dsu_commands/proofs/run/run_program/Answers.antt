@@ -1,4 +1,4 @@
-use Rattle.std.proofs.Common.{[], inl, refl, sym}
+use Rattle.std.proofs.Common.{[], inl, sym}
 use Rattle.dsu_runs.specs.Setups.{setup_of}
 use Rattle.dsu_commands.specs.Calls.{output_of}
 use Rattle.dsu_commands.specs.Plans.{BySchedule}
@@ -16,4 +16,4 @@ returns-in-Ok g c =
     (output_of out.told out.faults c.in-Ok.engine.sink ran.result.0.engine.sink) (output_of out.told out.faults c.args.out done.result.out)
     (output_of g.E.Sink.told g.E.Sink.faults c.args.err.now ran.new.err) done.ensures.status done.ensures.ending done.ensures.history
     (same_output out.told out.faults _ _ _ _ c.in-Ok.ensures.told (sym done.ensures.out))
-    (ran.ensures setup refl c.in-Ok.ensures.start))
+    (ran.ensures setup c.in-Ok.ensures.start))

@@ -5,12 +5,12 @@ use Rattle.source_model.specs.Endings.{ending, int_ending}
 use Rattle.dsu_runs.specs.Replays.{Replayed}
 use Rattle.dsu_runs.specs.Turns.{history_after}
 use Rattle.dsu_runs.proofs.Coming.{Tries}
-use Rattle.dsu_runs.proofs.Happening.{any_rules}
+use Rattle.dsu_runs.proofs.Happening.{any_are_rows, any_rules}
 use Rattle.dsu_runs.proofs.Replaying.{failed, finished, lacks, line_there, no_room, one_more, refused, starts}
 use Rattle.dsu_runs.proofs.replay_run.replay.Goals as goal
 
 pub returns-in_default : goal.returns-in_default
-returns-in_default g c = λ setup offers start.
+returns-in_default g c = λ setup start.
     let e = g.E.Engine in
     no_room setup (e.is_at setup) e.told e.faults c.args.engine c.args.events.now (record { engine = c.args.engine; history = c.new.result }) refl
     c.new.ensures.items
@@ -19,7 +19,7 @@ pub loop-line-init : goal.loop-line-init
 loop-line-init g c =
     let e = g.E.Engine in
     record {
-      made = λ setup offers start.
+      made = λ setup start.
           starts setup (e.is_at setup) e.told e.faults c.args.engine c.args.events.now
           (record { engine = c.args.engine; history = c.in-Ok.history }) refl c.in-Ok.ensures.items start;
       counted = ap length c.in-Ok.ensures.items;
@@ -36,16 +36,16 @@ loop-line-preserved g c =
     let new = c.make.new.self in
     let line = slice_index_or lines n (0, Move 0) in
     record {
-      made = λ setup offers start.
+      made = λ setup start.
           let tries : Tries setup (e.is_at setup) e.told e.faults old new line.1 c.make.result = record {
-            made = λ x there. m.made setup x there offers;
+            made = λ x there. m.made setup x there;
             history = m.history;
             later = m.later;
             cause = m.cause;
             moves = m.moves;
           } in
-          one_more setup (e.is_at setup) e.told e.faults c.args.engine lines n old new line c.make.result offers
-          (c.loop-line.invariant.made setup offers start) (line_there lines n c.loop-line-test.true) tries c.in-Done.is;
+          one_more setup (e.is_at setup) e.told e.faults c.args.engine lines n old new line c.make.result
+          (c.loop-line.invariant.made setup start) (line_there lines n c.loop-line-test.true) tries c.in-Done.is;
       counted =
           ap length (m.history ∙ ap (history_after line.1 old.history.items) c.in-Done.is)
           ∙ length-append old.history.items (line.1 ∷ [])
@@ -59,7 +59,7 @@ make-requires g c =
     omega (arith, at.counted, at.room, c.loop-line-test.true)
 
 pub returns-in-CannotHappen : goal.returns-in-CannotHappen
-returns-in-CannotHappen g c = λ setup offers start.
+returns-in-CannotHappen g c = λ setup start.
     let e = g.E.Engine in
     let m = c.make.ensures in
     let lines = c.args.events.now in
@@ -68,18 +68,18 @@ returns-in-CannotHappen g c = λ setup offers start.
     let new = c.make.new.self in
     let line = slice_index_or lines n (0, Move 0) in
     let tries : Tries setup (e.is_at setup) e.told e.faults old new line.1 c.make.result = record {
-      made = λ x there. m.made setup x there offers;
+      made = λ x there. m.made setup x there;
       history = m.history;
       later = m.later;
       cause = m.cause;
       moves = m.moves;
     } in
     subst (Replayed setup (e.is_at setup) e.told e.faults c.args.engine lines) (sym c.stop.ensures)
-    (refused setup (e.is_at setup) e.told e.faults c.args.engine lines n old new line c.make.result offers
-    (c.loop-line.invariant.made setup offers start) (line_there lines n c.loop-line-test.true) tries c.in-CannotHappen.is)
+    (refused setup (e.is_at setup) e.told e.faults c.args.engine lines n old new line c.make.result
+    (c.loop-line.invariant.made setup start) (line_there lines n c.loop-line-test.true) tries c.in-CannotHappen.is)
 
 pub returns-in-SinkFailed : goal.returns-in-SinkFailed
-returns-in-SinkFailed g c = λ setup offers start.
+returns-in-SinkFailed g c = λ setup start.
     let e = g.E.Engine in
     let m = c.make.ensures in
     let lines = c.args.events.now in
@@ -88,18 +88,18 @@ returns-in-SinkFailed g c = λ setup offers start.
     let new = c.make.new.self in
     let line = slice_index_or lines n (0, Move 0) in
     let tries : Tries setup (e.is_at setup) e.told e.faults old new line.1 c.make.result = record {
-      made = λ x there. m.made setup x there offers;
+      made = λ x there. m.made setup x there;
       history = m.history;
       later = m.later;
       cause = m.cause;
       moves = m.moves;
     } in
     subst (Replayed setup (e.is_at setup) e.told e.faults c.args.engine lines) (sym c.stop-in-SinkFailed.ensures)
-    (failed setup (e.is_at setup) e.told e.faults c.args.engine lines n old new line c.make.result offers
-    (c.loop-line.invariant.made setup offers start) (line_there lines n c.loop-line-test.true) tries c.in-SinkFailed.is)
+    (failed setup (e.is_at setup) e.told e.faults c.args.engine lines n old new line c.make.result
+    (c.loop-line.invariant.made setup start) (line_there lines n c.loop-line-test.true) tries c.in-SinkFailed.is)
 
 pub returns-in-Memory : goal.returns-in-Memory
-returns-in-Memory g c = λ setup offers start.
+returns-in-Memory g c = λ setup start.
     let e = g.E.Engine in
     let m = c.make.ensures in
     let lines = c.args.events.now in
@@ -108,22 +108,22 @@ returns-in-Memory g c = λ setup offers start.
     let new = c.make.new.self in
     let line = slice_index_or lines n (0, Move 0) in
     let tries : Tries setup (e.is_at setup) e.told e.faults old new line.1 c.make.result = record {
-      made = λ x there. m.made setup x there offers;
+      made = λ x there. m.made setup x there;
       history = m.history;
       later = m.later;
       cause = m.cause;
       moves = m.moves;
     } in
     subst (Replayed setup (e.is_at setup) e.told e.faults c.args.engine lines) (sym c.stop-in-Memory.ensures)
-    (lacks setup (e.is_at setup) e.told e.faults c.args.engine lines n old new line c.make.result offers
-    (c.loop-line.invariant.made setup offers start) (line_there lines n c.loop-line-test.true) tries c.in-Memory.is)
+    (lacks setup (e.is_at setup) e.told e.faults c.args.engine lines n old new line c.make.result
+    (c.loop-line.invariant.made setup start) (line_there lines n c.loop-line-test.true) tries c.in-Memory.is)
 
 pub returns : goal.returns
-returns g c = λ setup offers start.
+returns g c = λ setup start.
     let e = g.E.Engine in
-    let at = c.loop-line.invariant.made setup offers start in
+    let at = c.loop-line.invariant.made setup start in
     let seats =
-    c.seats_fit_their_slots.ensures any_rules setup c.loop-line.running.history.items at.guard (at.came.legal any_rules) in
+    c.seats_fit_their_slots.ensures any_rules setup c.loop-line.running.history.items at.guard (at.came.legal any_rules any_are_rows) in
     subst (Replayed setup (e.is_at setup) e.told e.faults c.args.engine c.args.events.now)
     (sym (c.end.ensures setup at.guard at.there seats.count))
     (finished setup (e.is_at setup) e.told e.faults c.args.engine c.args.events.now c.loop-line.line-index c.loop-line.running

@@ -1,4 +1,4 @@
-use Rattle.std.proofs.Common.{◌≡◌, ◌≤◌, [], length}
+use Rattle.std.proofs.Common.{◌≡◌, ◌≤◌, length}
 use Rattle.std.specs.Prelude.{vec_capacity}
 use Rattle.source_model.specs.Guards.{Setup, first_guard}
 use Rattle.dsu_runs.proofs.Replaying.{Made}
@@ -8,7 +8,7 @@ abbrev pub invariant-loop-line : goal.invariant-loop-line
 invariant-loop-line g l =
     let e = g.E.Engine in
     record {
-      made : (setup : Setup) → setup.offers ≡ [] → e.is_at setup (first_guard setup) l.fn.engine
+      made : (setup : Setup) → e.is_at setup (first_guard setup) l.fn.engine
           → Made setup (e.is_at setup) e.told e.faults l.fn.engine l.fn.events l.line-index l.running;
       counted : length l.running.history.items ≡ l.line-index;
       room : length l.fn.events ≤ vec_capacity l.running.history;

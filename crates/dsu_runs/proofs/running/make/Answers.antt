@@ -3,7 +3,7 @@ use Rattle.dsu_runs.specs.Engines.{MakesAt}
 use Rattle.dsu_runs.proofs.running.make.Goals as goal
 
 pub returns-in-Move-clause-made : goal.returns-in-Move-clause-made
-returns-in-Move-clause-made g c = λ setup x at offers none.
+returns-in-Move-clause-made g c = λ setup x at.
     let e = g.E.Engine in
     subst
     (λ event. IfOk c.act.result
@@ -11,10 +11,36 @@ returns-in-Move-clause-made g c = λ setup x at offers none.
     (sym c.in-Move.is) (c.act.ensures.made setup x at)
 
 pub returns-in-CheckIn-clause-made : goal.returns-in-CheckIn-clause-made
-returns-in-CheckIn-clause-made g c = λ setup x at offers none.
+returns-in-CheckIn-clause-made g c = λ setup x at.
     let e = g.E.Engine in
     subst
     (λ event.
     MakesAt (λ y. e.is_at setup y c.check_in.new.self) setup event x (e.told c.args.engine.now) (e.told c.check_in.new.self)
     c.check_in.result)
     (sym c.in-CheckIn.is) (c.check_in.ensures.made setup x at)
+
+pub returns-in-Offer-clause-made : goal.returns-in-Offer-clause-made
+returns-in-Offer-clause-made g c = λ setup x at.
+    let e = g.E.Engine in
+    subst
+    (λ event.
+    MakesAt (λ y. e.is_at setup y c.offer.new.self) setup event x (e.told c.args.engine.now) (e.told c.offer.new.self)
+    c.offer.result)
+    (sym c.in-Offer.is) (c.offer.ensures.made setup x at)
+
+pub returns-in-Decide-clause-made : goal.returns-in-Decide-clause-made
+returns-in-Decide-clause-made g c = λ setup x at.
+    let e = g.E.Engine in
+    subst
+    (λ event. IfOk c.decide.result
+    (MakesAt (λ y. e.is_at setup y c.decide.new.self) setup event x (e.told c.args.engine.now) (e.told c.decide.new.self)))
+    (sym c.in-Decide.is) (c.decide.ensures.made setup x at)
+
+pub returns-in-Withdraw-clause-made : goal.returns-in-Withdraw-clause-made
+returns-in-Withdraw-clause-made g c = λ setup x at.
+    let e = g.E.Engine in
+    subst
+    (λ event.
+    MakesAt (λ y. e.is_at setup y c.withdraw.new.self) setup event x (e.told c.args.engine.now) (e.told c.withdraw.new.self)
+    c.withdraw.result)
+    (sym c.in-Withdraw.is) (c.withdraw.ensures.made setup x at)

@@ -1,4 +1,4 @@
-use Rattle.std.proofs.Common.{◌≡◌, ◌≤◌, ◌*◌, [], length}
+use Rattle.std.proofs.Common.{◌≡◌, ◌≤◌, length}
 use Rattle.std.specs.Prelude.{vec_capacity}
 use Rattle.source_model.specs.Guards.{Setup, first_guard}
 use Rattle.dsu_runs.proofs.Soloing.{Going}
@@ -8,8 +8,8 @@ abbrev pub invariant-loop-turn : goal.invariant-loop-turn
 invariant-loop-turn g l =
     let e = g.E.Engine in
     record {
-      going : (setup : Setup) → setup.offers ≡ [] → e.is_at setup (first_guard setup) l.fn.engine
+      going : (setup : Setup) → e.is_at setup (first_guard setup) l.fn.engine
           → Going setup (e.is_at setup) e.told e.faults l.fn.engine l.fn.moves l.solo;
       counted : length l.solo.running.history.items ≡ l._turn;
-      room : 2 * l.fn.moves ≤ vec_capacity l.solo.running.history;
+      room : l.most ≤ vec_capacity l.solo.running.history;
     }

@@ -13,12 +13,11 @@ returns-in_default g c =
     let mid = c.loop-slot.self in
     let kept = c.loop-slot.invariant.kept in
     record {
-      turned = λ setup x goes offers.
-          let at = c.loop-slot.invariant.turned setup x goes offers in
+      turned = λ setup x goes.
+          let at = c.loop-slot.invariant.turned setup x goes in
           let rest = first_act x (range_with_len (c.loop-slot.slot + 1) (c.args.to - (c.loop-slot.slot + 1))) in
           let turned =
-          c.act_in.ensures.turned setup x (goes_still setup (e.is_at setup) e.told e.faults x None old mid goes at.0)
-          offers in
+          c.act_in.ensures.turned setup x (goes_still setup (e.is_at setup) e.told e.faults x None old mid goes at.0) in
           turned_by (e.is_at setup) e.told setup x (option_or (act_of x c.loop-slot.slot) rest)
           (first_act x (range_with_len c.args.from (c.args.to - c.args.from))) old c.act_in.new.self c.act_in.result
           (sym (turn x c.loop-slot.slot c.args.to c.loop-slot-test.true) ∙ at.1)
@@ -39,12 +38,11 @@ loop-slot-preserved g c =
       kept =
           keeps_then e.faults old mid c.act_in.new.self _ kept
           (waits_kept e.faults mid c.act_in.new.self c.act_in.result c.in-CannotHappen.is c.act_in.ensures.kept);
-      turned = λ setup x goes offers.
-          let at = c.loop-slot.invariant.turned setup x goes offers in
+      turned = λ setup x goes.
+          let at = c.loop-slot.invariant.turned setup x goes in
           let next =
           waited setup (e.is_at setup) e.told e.faults x (act_of x c.loop-slot.slot) mid c.act_in.new.self c.act_in.result c.in-CannotHappen.is
-          (c.act_in.ensures.turned setup x (goes_still setup (e.is_at setup) e.told e.faults x None old mid goes at.0)
-          offers) in (
+          (c.act_in.ensures.turned setup x (goes_still setup (e.is_at setup) e.told e.faults x None old mid goes at.0)) in (
             waits_on setup (e.is_at setup) e.told e.faults x (act_of x c.loop-slot.slot) old mid c.act_in.new.self at.0 next,
             after_turn x c.loop-slot.slot c.args.to c.loop-slot-test.true next.none ∙ at.1,
           );

@@ -8,10 +8,10 @@ returns-in-CannotHappen g c =
     let old = c.args.self.now in
     let made = c.make-step.ensures in
     record {
-      turned = λ setup x goes offers at.
+      turned = λ setup x goes at.
           no_check_in (e.is_at setup) e.told setup x old c.make-step.new.self c.args.slot c.make-step.result goes at
           (not_done c.make-step.result c.in-CannotHappen.is)
-          (made.made setup x goes.there offers goes.none_open, made.history, made.moves);
+          (made.made setup x goes.there, made.history, made.moves);
       kept =
           kept e.faults old c.make-step.new.self (CheckIn c.args.slot) c.make-step.result made.room made.later
           made.cause made.history;

@@ -1,0 +1,25 @@
+use Rattle.std.proofs.Common.{◌∙◌, ◌+◌, None, Some, ap, sym}
+use Rattle.std.specs.Prelude.{if◌then◌else◌}
+use Rattle.dsu_runs.proofs.Books.{due_by, not_due}
+use Rattle.dsu_runs.proofs.book.Book.due.Goals as goal
+
+pub returns-then-self : goal.returns-then-self
+returns-then-self c = λ setup g names book is.
+    not_due setup g names c.args.self.now book
+    (λ same. c.if-self.true (ap (λ b. b.closed) c.self.view_is ∙ same ∙ sym (ap (λ b. b.greatest) c.self.view_is)))
+
+pub returns-then-is_reached : goal.returns-then-is_reached
+returns-then-is_reached c = λ setup g names book is.
+    let next = c.self.inside.greatest + 1 in
+    sym (ap (λ b. if b then Some next else None) c.if-is_reached.true)
+    ∙ due_by setup g names c.args.self.now next c.is_reached.result book
+    (sym (ap (λ b. b.closed) c.self.view_is) ∙ c.if-self.false ∙ ap (λ b. b.greatest) c.self.view_is)
+    (ap (λ b. b.greatest + 1) c.self.view_is) (c.is_reached.ensures.value setup g names book is)
+
+pub returns-else-is_reached : goal.returns-else-is_reached
+returns-else-is_reached c = λ setup g names book is.
+    let next = c.self.inside.greatest + 1 in
+    sym (ap (λ b. if b then Some next else None) c.if-is_reached.false)
+    ∙ due_by setup g names c.args.self.now next c.is_reached.result book
+    (sym (ap (λ b. b.closed) c.self.view_is) ∙ c.if-self.false ∙ ap (λ b. b.greatest) c.self.view_is)
+    (ap (λ b. b.greatest + 1) c.self.view_is) (c.is_reached.ensures.value setup g names book is)
