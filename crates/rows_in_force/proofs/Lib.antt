@@ -1,0 +1,5 @@
+pub mod BodiesByIds
+pub mod ReachedCheckIns
+pub mod LaterBodies
+pub mod Entries
+pub mod PassedRows
