@@ -1,0 +1,6 @@
+use Rattle.std.proofs.Common.{ℕ, ◌<◌, ◌↔◌}
+use Rattle.name_sets.specs.IdSet.{Holds}
+use Rattle.offer_decision.proofs.verdict.within.Given as goal
+
+abbrev pub invariant-loop-index : goal.invariant-loop-index
+invariant-loop-index l = (id : ℕ) → Holds l.ids id ↔ (Holds l.set id × (id < l.index))

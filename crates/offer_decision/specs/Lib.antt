@@ -1,0 +1,6 @@
+pub mod Seats
+pub mod Refusals
+pub mod Patches
+pub mod Decided
+pub mod Laws
+pub mod Steps

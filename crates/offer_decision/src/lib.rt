@@ -1,0 +1,31 @@
+//! The decision on an offer, as a function of what is kept: of the versions so far their names, their bodies and the last text;
+//! the new text; and of each slot where its row in force comes from, whether its thread is pinned, and whether it is in a
+//! transaction. Everything but the install itself depends on these alone, so every engine decides by [`decision`].
+//!
+//! Its contract (`specs/Decided.antt`) says of whatever texts the versions are texts of: a text is answered to be no patch with
+//! the first cause that the definitions have; a refusal is that of the definitions' verdict over the rows in force before the
+//! install; and where the verdict admits the patch, what the install needs is given, with the pins that the definitions set. The
+//! rows are those of the definitions of effects. Besides what a patch and the rows take it needs no memory.
+//!
+//! Read in this order:
+//! - [`seat`]: a slot as a decision sees it
+//! - [`answer`]: what is decided
+//! - [`in_force`]: the rows in force of the slots
+//! - [`pins`]: the pins before an install and after it
+//! - [`verdict`]: the test of the rows
+//! - [`offer`]: the whole
+//! - [`laws`]: that a decision says what the definitions decide
+#![tactic(auto)]
+
+mod answer;
+mod in_force;
+mod laws;
+mod offer;
+mod pins;
+mod seat;
+mod verdict;
+
+pub use answer::Decision;
+pub use laws::{decisions_are_decided, refusals_stay};
+pub use offer::decision;
+pub use seat::Seat;

@@ -1,0 +1,74 @@
+//! The whole.
+ghost use Rattle.std.specs.Prelude.{IfOk};
+ghost use Rattle.offer_decision.specs.Decided.{ForOffer, IsDecision};
+ghost use Rattle.offer_decision.specs.Steps.{IsTestedOver, IsAnswer, IsOfFault};
+
+use crate::answer::{Decision, Tested};
+use crate::in_force::rows_of_seats;
+use crate::seat::Seat;
+use crate::verdict::tested;
+use c_types::Typed;
+use name_sets::NameSet;
+use patch_build::{Patch, PatchFault, Versions, prepare};
+use rows_in_force::rows;
+use std::alloc::{AllocError, Global};
+
+/// The verdict over the rows in force.
+fn tested_over(
+    alloc: Global,
+    versions: Versions<'_>,
+    changed: &NameSet,
+    interface: &NameSet,
+    seats: &[Seat; 16],
+) -> Result<Tested, AllocError>
+    ensures { IfOk result (IsTestedOver versions.entry changed.now interface.now seats.now) }
+{
+    let rows = rows(alloc, versions.store)?;
+    let in_force = rows_of_seats(&rows, versions.store.bodies(), seats);
+    tested(versions.names, changed, interface, &in_force, seats)
+}
+
+/// The decision on a patch.
+fn answer(
+    alloc: Global,
+    versions: Versions<'_>,
+    patch: Patch,
+    seats: &[Seat; 16],
+) -> Result<Decision, AllocError>
+    ensures { IfOk result (IsAnswer versions.entry patch seats.now) }
+{
+    match tested_over(alloc, versions, &patch.changed, &patch.interface, seats)? {
+        Tested::Admitted(pins) => Ok(Decision::Admitted(patch, pins)),
+        Tested::Refused(refusal) => Ok(Decision::Refused(refusal)),
+    }
+}
+
+/// The decision where there is no patch.
+fn without_patch(fault: PatchFault) -> Result<Decision, AllocError>
+    ensures { IfOk result (IsOfFault fault) }
+{
+    match fault {
+        PatchFault::Not(cause) => Ok(Decision::NotPatch(cause)),
+        PatchFault::Memory => Err(AllocError),
+    }
+}
+
+/// The decision on an offer of a text, over the versions so far and the slots.
+///
+/// `AllocError` comes where there is no memory for the patch or the rows. It is also the answer where a function of the text
+/// uses a name that the text doesn't define, as [`prepare`] says, and where there are too many points or check-ins to number, as
+/// [`rows`] says.
+pub fn decision(
+    alloc: Global,
+    versions: Versions<'_>,
+    new: &Typed,
+    seats: &[Seat; 16],
+) -> Result<Decision, AllocError>
+    ensures { IfOk result (λ decision. ForOffer versions.entry seats.now (λ rules texts slots.
+        IsDecision rules texts slots versions.entry new.now seats.now decision)) }
+{
+    match prepare(alloc, versions, new) {
+        Ok(patch) => answer(alloc, versions, patch, seats),
+        Err(fault) => without_patch(fault),
+    }
+}
