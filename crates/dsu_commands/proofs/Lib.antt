@@ -1,7 +1,7 @@
 mod Printing
-mod Waiting
 mod Planned
 mod Reporting
 mod Reading
 mod Answering
+mod Offered
 mod Outcomes

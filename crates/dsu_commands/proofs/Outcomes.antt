@@ -1,49 +1,72 @@
 -- The outcome of a run, and the status with which it ends.
 use Rattle.std.proofs.Common.{◌≡◌, ◌⊎◌, inl, inr, Bool, ℕ, zero, suc, ◌≤◌, List, [], ◌∷◌, ◌++◌, drop, take, Option, Some, None, sym, ◌∙◌, ap, subst, arith}
-use Rattle.std.specs.Prelude.{length, slice_get}
+use Rattle.std.specs.Prelude.{length, map, slice_get}
 use Rattle.std.specs.Option.{option_and_then}
 use Rattle.std.proofs.lemmas.Option.{none-some, same_Some}
 use Rattle.std.proofs.lemmas.List.{take-append-drop}
 use Rattle.bytecode.specs.declared.run.Event.{Event}
 use Rattle.bytecode.specs.declared.run.Ending.{Ending}
 use Rattle.bytecode.specs.declared.run.Ending.TheVariants.{Finished, Trap, Deadlock, Cut}
+use Rattle.c_tree.specs.declared.def.Program.{Program}
+use Rattle.source_model.specs.declared.answer.OfferAnswer.{OfferAnswer}
+use Rattle.source_model.specs.Answers.{answer_seen}
 use Rattle.source_model.specs.Guards.{Guard, Rules, Setup, first_guard}
-use Rattle.source_model.specs.Journals.{IsLegal, guard_after, happens, play}
+use Rattle.source_model.specs.Journals.{IsLegal, answers, guard_after, happens, play}
 use Rattle.dsu_report.specs.Statuses.{status_of_ending}
 use Rattle.dsu_report.specs.declared.fault.FaultLine.TheVariants.{Memory}
 use Rattle.dsu_runs.specs.Replays.{events_of}
 use Rattle.dsu_runs.proofs.Coming.{play_parts}
 use Rattle.dsu_runs.specs.Rows.{AreRows, RulesExist}
+use Rattle.dsu_runs.specs.Setups.{setup_of}
 use Rattle.dsu_runs.specs.declared.ran.Ran.{Ran as RanOf}
 use Rattle.dsu_commands.specs.declared.finish.Finish.{Finish}
+use Rattle.dsu_commands.specs.declared.outcome.InForce.{InForce}
 use Rattle.dsu_commands.specs.declared.outcome.Outcome.{Outcome}
+use Rattle.dsu_commands.specs.Schedules.{Hands, IsKept}
 use Rattle.dsu_commands.specs.Answers.{IsDone, IsExcused}
 use Rattle.dsu_commands.specs.Calls.{Call, Output, Stopped, call_of, output_of, run_call}
 use Rattle.dsu_commands.specs.Plans.{Plan, BySchedule, ByJournal, CannotGoOn, Follows, Impossible}
 use Rattle.dsu_commands.specs.Runs.{Came, ran, print_failed, report_failed, refused, short}
 
 -- calls whose parts are equal
-abbrev pub call : ℕ → List Event → Option Ending → Output → Output → Call
-call s h e o r = record { status = s; history = h; ending = e; out = o; err = r }
+abbrev pub call : ℕ → List Event → Option Ending → List OfferAnswer → Option InForce → Output → Output → Call
+call s h e a i o r = record { status = s; history = h; ending = e; answers = a; installed = i; out = o; err = r }
 
-pub same_call : (s t : ℕ) (h k : List Event) (e f : Option Ending) (o p r : Output) → s ≡ t → h ≡ k → e ≡ f → o ≡ p
-    → call s h e o r ≡ call t k f p r
-same_call s t h k e f o p r st hk ef op =
-    ap (λ x. call x h e o r) st ∙ ap (λ x. call t x e o r) hk ∙ ap (λ x. call t k x o r) ef ∙ ap (λ x. call t k f x r) op
+pub same_call : (s t : ℕ) (h k : List Event) (e f : Option Ending) (a : List OfferAnswer) (i : Option InForce) (o p r : Output)
+    → s ≡ t → h ≡ k → e ≡ f → o ≡ p → call s h e a i o r ≡ call t k f a i p r
+same_call s t h k e f a i o p r st hk ef op =
+    ap (λ x. call x h e a i o r) st ∙ ap (λ x. call t x e a i o r) hk ∙ ap (λ x. call t k x a i o r) ef ∙ ap (λ x. call t k f a i x r) op
 
 pub same_output : {S : Type 0} (told : S → Option (List ℕ)) (faults : S → ℕ) (a b c d : S) → a ≡ b → c ≡ d
     → output_of told faults a c ≡ output_of told faults b d
 same_output told faults a b c d ab cd = ap (λ x. output_of told faults x c) ab ∙ ap (λ x. output_of told faults b x) cd
 
 -- the call that came to an outcome of a run
-pub came_as : {T O : Type 0} (plan : Plan) (setup : Setup) (journal : Bool) (file : List ℕ) (finish : Finish) (r : RanOf T) (o : Outcome O)
-    (run_out out err : Output) → o.status ≡ finish.status → o.ending ≡ finish.ending → o.history ≡ r.history → run_out ≡ out
-    → Came plan setup journal file (run_call finish r run_out err) → Came plan setup journal file (call_of o out err)
-came_as plan setup journal file finish r o run_out out err status ending history same came =
-    subst (Came plan setup journal file)
-    (same_call finish.status o.status r.history.items o.history.items finish.ending o.ending run_out out err (sym status)
-    (ap (λ h. h.items) (sym history)) (sym ending) same)
+pub came_as : {T O : Type 0} (plan : Plan) (setup : Setup) (texts : List (List ℕ)) (journal : Bool) (file : List ℕ) (finish : Finish)
+    (r : RanOf T) (o : Outcome O) (run_out out err : Output) → o.status ≡ finish.status → o.ending ≡ finish.ending
+    → o.history ≡ r.history → run_out ≡ out → Came plan setup texts journal file (run_call finish r o.answers.items o.installed run_out err)
+    → Came plan setup texts journal file (call_of o out err)
+came_as plan setup texts journal file finish r o run_out out err status ending history same came =
+    subst (Came plan setup texts journal file)
+    (same_call finish.status o.status r.history.items o.history.items finish.ending o.ending o.answers.items o.installed run_out out err
+    (sym status) (ap (λ h. h.items) (sym history)) (sym ending) same)
     came
+
+-- the version in force and the answers are those of the guard
+in_force_is : (f : InForce) (version : ℕ) → f.version ≡ version → f ≡ record { version = version; names = f.names }
+in_force_is f version is = ap (λ (v : ℕ). record { version = v; names = f.names }) is
+
+pub hands_back : (setup : Setup) (at : Guard → Type 0) (ending : Option Ending) (left given : List OfferAnswer) (f : InForce)
+    (installed : Option InForce) → IsKept ending left f given installed
+    → ((g : Guard) → at g → f.version ≡ length g.versions)
+    → ((g : Guard) → at g → map (answer_seen f.names) left ≡ answers setup g)
+    → Hands setup at ending given installed
+hands_back setup at None left given f installed kept version shown = kept
+hands_back setup at (Some end) left given f installed (same, is) version shown = λ g there. record {
+  names = f.names;
+  in_force = is ∙ ap Some (in_force_is f (length g.versions) (version g there));
+  answered = ap (map (answer_seen f.names)) same ∙ shown g there;
+}
 
 -- a run that ended has a status of at most 3
 ending_done : (e : Ending) → status_of_ending e ≤ 3
@@ -56,21 +79,22 @@ done_by : (status : ℕ) (e : Ending) → status ≡ status_of_ending e → stat
 done_by status e is = let small = ending_done e in omega (arith, is, small)
 
 -- where no event of the plan is impossible, the run is done or excused
-pub came_done : (plan : Plan) (setup : Setup) (journal : Bool) (file : List ℕ) (c : Call)
+pub came_done : (plan : Plan) (setup : Setup) (texts : List (List ℕ)) (journal : Bool) (file : List ℕ) (c : Call)
     → ((g : Guard) (line : ℕ) → Follows plan setup c.history g → ((rules : Rules) → AreRows rules → guard_after rules setup c.history ≡ Some g)
     → Impossible plan setup c.history g line → ⊥)
-    → Came plan setup journal file c → IsDone c.status ⊎ IsExcused c.status
-came_done plan setup journal file c possible (ran r) = inl (done_by c.status _ r.status)
-came_done plan setup journal file c possible (print_failed r) = inr (inr (inl r.status))
-came_done plan setup journal file c possible (report_failed r) = inr (inr (inl r.status))
-came_done plan setup journal file c possible (refused r) =
+    → Came plan setup texts journal file c → IsDone c.status ⊎ IsExcused c.status
+came_done plan setup texts journal file c possible (ran r) = inl (done_by c.status _ r.status)
+came_done plan setup texts journal file c possible (print_failed r) = inr (inr (inl r.status))
+came_done plan setup texts journal file c possible (report_failed r) = inr (inr (inl r.status))
+came_done plan setup texts journal file c possible (refused r) =
     absurd (possible r.made.guard r.line r.made.follows r.made.legal r.impossible)
-came_done plan setup journal file c possible (short r) = inr (inr (inr r.status))
+came_done plan setup texts journal file c possible (short r) = inr (inr (inr r.status))
 
-pub schedule_done : (moves : ℕ) (setup : Setup) (journal : Bool) (file : List ℕ) (c : Call)
-    → Came (BySchedule moves) setup journal file c → IsDone c.status ⊎ IsExcused c.status
-schedule_done moves setup journal file c came =
-    came_done (BySchedule moves) setup journal file c (λ g line follows legal never. never) came
+pub schedule_done : (moves : ℕ) (setup : Setup) (texts : List (List ℕ)) (journal : Bool) (file : List ℕ) (c : Call)
+    → Came (BySchedule moves) setup texts journal file c ⊎ Stopped Memory [] c → IsDone c.status ⊎ IsExcused c.status
+schedule_done moves setup texts journal file c (inl came) =
+    came_done (BySchedule moves) setup texts journal file c (λ g line follows legal never. never) came
+schedule_done moves setup texts journal file c (inr s) = inr (inr (inr s.status))
 
 -- ---- a legal journal
 
@@ -100,18 +124,21 @@ can_go_on exist setup lines history g line made before legal stuck =
     illegal exist.0 setup history next.0 stuck.event g (before exist.0 exist.1) (stuck.never exist.0 exist.1)
     (subst {A = List Event} (IsLegal exist.0 setup) parts (legal exist.0 exist.1))
 
-pub journal_done : RulesExist → (lines : List (ℕ × Event)) (setup : Setup) (journal : Bool) (file : List ℕ) (c : Call)
+pub journal_done : RulesExist → (lines : List (ℕ × Event)) (setup : Setup) (texts : List (List ℕ)) (journal : Bool) (file : List ℕ) (c : Call)
     → ((rules : Rules) → AreRows rules → IsLegal rules setup (events_of lines))
-    → Came (ByJournal lines) setup journal file c → IsDone c.status ⊎ IsExcused c.status
-journal_done exist lines setup journal file c legal came =
-    came_done (ByJournal lines) setup journal file c
+    → Came (ByJournal lines) setup texts journal file c ⊎ Stopped Memory [] c → IsDone c.status ⊎ IsExcused c.status
+journal_done exist lines setup texts journal file c legal (inl came) =
+    came_done (ByJournal lines) setup texts journal file c
     (λ g line follows before stuck. can_go_on exist setup lines c.history g line follows before legal stuck) came
+journal_done exist lines setup texts journal file c legal (inr s) = inr (inr (inr s.status))
 
--- the same where memory may have run out before
-pub replayed_done : RulesExist → (lines read : List (ℕ × Event)) (setup : Setup) (journal : Bool) (file : List ℕ) (c : Call) → read ≡ lines
-    → ((rules : Rules) → AreRows rules → IsLegal rules setup (events_of lines))
-    → Came (ByJournal read) setup journal file c ⊎ Stopped Memory [] c → IsDone c.status ⊎ IsExcused c.status
-replayed_done exist lines read setup journal file c same legal (inl came) =
-    journal_done exist lines setup journal file c legal
-    (subst {A = List (ℕ × Event)} (λ ls. Came (ByJournal ls) setup journal file c) same came)
-replayed_done exist lines read setup journal file c same legal (inr s) = inr (inr (inr s.status))
+-- the same where the programs and the numbers of lines that were read are those that are known
+pub replayed_done : RulesExist → (lines : List (ℕ × Event)) (program : Program) (read programs : List Program) (ns ms : List ℕ) (objects : ℕ)
+    (texts : List (List ℕ)) (journal : Bool) (file : List ℕ) (c : Call) → read ≡ programs → ns ≡ ms
+    → ((rules : Rules) → AreRows rules → IsLegal rules (setup_of program programs ms objects) (events_of lines))
+    → Came (ByJournal lines) (setup_of program read ns objects) texts journal file c ⊎ Stopped Memory [] c
+    → IsDone c.status ⊎ IsExcused c.status
+replayed_done exist lines program read programs ns ms objects texts journal file c same lines_same legal came =
+    journal_done exist lines (setup_of program read ns objects) texts journal file c
+    (λ rules are. subst {A = List Program} (λ ps. IsLegal rules (setup_of program ps ns objects) (events_of lines)) (sym same)
+    (subst {A = List ℕ} (λ m. IsLegal rules (setup_of program programs m objects) (events_of lines)) (sym lines_same) (legal rules are))) came

@@ -108,3 +108,8 @@ pub no_answer : {T : Type 0} (x : T) (known : FaultLine) → Answers (Ok x) know
 no_answer x known (inl e) = ok_isnt x known e
 no_answer x known (inr (inl e)) = ok_isnt x Unread e
 no_answer x known (inr (inr e)) = ok_isnt x Memory e
+
+-- a fault that isn't the first file's is one of a later file
+pub later_fault : {A B : Type 0} → A ⊎ B → (A → ⊥) → B
+later_fault (inl a) never = absurd (never a)
+later_fault (inr b) never = b

@@ -2,7 +2,9 @@
 use Rattle.std.proofs.Common.{◌≡◌, inl, inr, ℕ, Bool, List, [], Option, Some, None, refl, ◌∙◌, ap, subst}
 use Rattle.std.specs.Prelude.{length, option_map}
 use Rattle.bytecode.specs.declared.run.Ending.{Ending}
+use Rattle.source_model.specs.declared.answer.OfferAnswer.{OfferAnswer}
 use Rattle.source_model.specs.Guards.{Guard, Setup}
+use Rattle.source_model.specs.Journals.{answers}
 use Rattle.source_model.specs.JournalLaws.{JournalIsARun, SeatsAlwaysFit}
 use Rattle.source_model.specs.Runs.{result}
 use Rattle.dsu_report.specs.declared.fault.FaultLine.TheVariants as fault
@@ -14,11 +16,12 @@ use Rattle.dsu_runs.specs.declared.ran.Ran.{Ran}
 use Rattle.dsu_runs.specs.declared.ran.StopCause.{StopCause}
 use Rattle.dsu_runs.specs.declared.ran.StopCause.TheVariants.{Ended, SinkFailed, CannotHappen, Memory}
 use Rattle.dsu_commands.specs.declared.finish.Finish.{Finish}
-use Rattle.dsu_commands.specs.Calls.{Output, Shows, ShowsPrefix, Writes, output_of, run_call}
+use Rattle.dsu_commands.specs.declared.outcome.InForce.{InForce}
+use Rattle.dsu_commands.specs.Calls.{Call, NoEnd, Output, Shows, ShowsPrefix, Writes, output_of, run_call}
 use Rattle.dsu_commands.specs.Plans.{Plan}
 use Rattle.dsu_commands.specs.Reports.{run_text}
-use Rattle.dsu_commands.specs.Runs.{Came, Made, ran, print_failed, report_failed, refused, short}
-use Rattle.dsu_commands.specs.Schedules.{EndedBy, IsReported, RanBy, StoppedBy}
+use Rattle.dsu_commands.specs.Runs.{Came, HandsBack, Made, ran, print_failed, report_failed, refused, short}
+use Rattle.dsu_commands.specs.Schedules.{EndedBy, Hands, IsReported, RanBy, StoppedBy}
 
 -- the report of a fault
 pub record Faulted (line : List ℕ) (status : ℕ) (finish : Finish) (err : Output) : Type 0 where
@@ -41,69 +44,86 @@ module _ {T : Type 0} (plan : Plan) (setup : Setup) (is_at : Guard → T → Typ
   stopped : (cause : StopCause) → r.cause ≡ cause → StoppedBy plan setup is_at told faults engine r by.guard cause
   stopped cause is = subst (StoppedBy plan setup is_at told faults engine r by.guard) is by.stopped
 
-  module _ (journal : Bool) (file : List ℕ) (finish : Finish) (err : Output) where
+  -- nothing is handed back without an ending
+  nothing : (at : Guard → Type 0) (ending : Option Ending) (given : List OfferAnswer) (installed : Option InForce) → ending ≡ None
+      → Hands setup at ending given installed → (given ≡ []) × (installed ≡ None)
+  nothing at ending given installed is hands = subst (λ e. Hands setup at e given installed) is hands
+
+  something : (at : Guard → Type 0) (ending : Option Ending) (given : List OfferAnswer) (installed : Option InForce) (end : Ending)
+      → ending ≡ Some end → Hands setup at ending given installed → (g : Guard) → at g → HandsBack setup g given installed
+  something at ending given installed end is hands = subst (λ e. Hands setup at e given installed) is hands
+
+  module _ (texts : List (List ℕ)) (journal : Bool) (file : List ℕ) (finish : Finish) (err : Output) (given : List OfferAnswer)
+      (installed : Option InForce) (hands : Hands setup (λ g. is_at g r.engine) finish.ending given installed) where
+    abbrev call : Call
+    call = run_call finish r given installed (output_of told faults engine r.engine) err
+
+    no_end : finish.ending ≡ None → NoEnd call
+    no_end is =
+        let none = nothing (λ g. is_at g r.engine) finish.ending given installed is hands in
+        record { ending = is; answers = none.0; installed = none.1 }
+
     reported : (end : Ending) → EndedBy plan setup is_at told by.guard end engine r
-        → IsReported (run_text journal r.history.items end by.guard.world) end finish err
-        → Came plan setup journal file (run_call finish r (output_of told faults engine r.engine) err)
+        → IsReported (run_text journal r.history.items (answers setup by.guard) texts end by.guard.world) end finish err
+        → Came plan setup texts journal file call
     reported end s (inl report) =
         ran (record {
           made = made;
           ends = s.ends;
           ending = report.ending ∙ ap Some s.ending;
           status = report.status ∙ ap status_of_ending s.ending;
+          versions = something (λ g. is_at g r.engine) finish.ending given installed end report.ending hands by.guard s.there;
           out = s.printed;
-          err = subst (λ e. Shows err (run_text journal r.history.items e by.guard.world)) s.ending report.shown;
+          err = subst (λ e. Shows err (run_text journal r.history.items (answers setup by.guard) texts e by.guard.world)) s.ending report.shown;
         })
     reported end s (inr report) =
         report_failed (record {
           made = made;
           ends = s.ends;
-          ending = report.ending;
+          no_end = no_end report.ending;
           status = report.status;
           out = s.printed;
-          err = subst (λ e. ShowsPrefix err (run_text journal r.history.items e by.guard.world)) s.ending report.shown;
+          err = subst (λ e. ShowsPrefix err (run_text journal r.history.items (answers setup by.guard) texts e by.guard.world)) s.ending
+              report.shown;
         })
 
     pub ended : SeatsAlwaysFit → (end : Ending) → r.cause ≡ Ended end
         → ((g : Guard) → is_at g r.engine → length g.seats ≡ length g.world.slots
-        → IsReported (run_text journal r.history.items end g.world) end finish err)
-        → Came plan setup journal file (run_call finish r (output_of told faults engine r.engine) err)
+        → IsReported (run_text journal r.history.items (answers setup g) texts end g.world) end finish err)
+        → Came plan setup texts journal file call
     ended fit end is report =
         let s = stopped (Ended end) is in
         reported end s (report by.guard s.there (fit exist.0 setup r.history.items by.guard (by.legal exist.0 exist.1)).count)
 
-    pub sink_failed : r.cause ≡ SinkFailed → Faulted (fault_line fault.Write []) 13 finish err
-        → Came plan setup journal file (run_call finish r (output_of told faults engine r.engine) err)
+    pub sink_failed : r.cause ≡ SinkFailed → Faulted (fault_line fault.Write []) 13 finish err → Came plan setup texts journal file call
     sink_failed is report =
         print_failed (record {
           made = made;
           failed = stopped SinkFailed is;
-          ending = report.ending;
+          no_end = no_end report.ending;
           status = report.status_is;
           err = report.shown;
         })
 
     pub cannot_happen : (line : ℕ) → r.cause ≡ CannotHappen line
-        → Faulted (fault_line (fault.Line line word.CannotHappen) file) 14 finish err
-        → Came plan setup journal file (run_call finish r (output_of told faults engine r.engine) err)
+        → Faulted (fault_line (fault.Line line word.CannotHappen) file) 14 finish err → Came plan setup texts journal file call
     cannot_happen line is report =
         let s = stopped (CannotHappen line) is in
         refused (record {
           made = made;
           line = line;
           impossible = s.impossible;
-          ending = report.ending;
+          no_end = no_end report.ending;
           status = report.status_is;
           out = s.printed;
           err = report.shown;
         })
 
-    pub out_of_memory : r.cause ≡ Memory → Faulted (fault_line fault.Memory []) 20 finish err
-        → Came plan setup journal file (run_call finish r (output_of told faults engine r.engine) err)
+    pub out_of_memory : r.cause ≡ Memory → Faulted (fault_line fault.Memory []) 20 finish err → Came plan setup texts journal file call
     out_of_memory is report =
         short (record {
           made = made;
-          ending = report.ending;
+          no_end = no_end report.ending;
           status = report.status_is;
           out = stopped Memory is;
           err = report.shown;

@@ -1,5 +1,5 @@
 -- What a job came to.
-use Rattle.std.specs.Prelude.{◌≡◌, ◌⊎◌, ◌≤◌, ℕ, false, List, [], None}
+use Rattle.std.specs.Prelude.{◌≡◌, ◌⊎◌, ◌≤◌, ℕ, false, List, []}
 use Rattle.bytecode.specs.declared.run.Event.{Event}
 use Rattle.c_tree.specs.declared.def.Program.{Program}
 use Rattle.c_types.specs.Definitions.{names_of}
@@ -13,17 +13,17 @@ use Rattle.effects_report.specs.EffectsText.{IsEffectsText}
 use Rattle.changes_report.specs.ChangesText.{changes_text}
 use Rattle.input_files.specs.Sources.{HoldsProgram, IsSource}
 use Rattle.input_files.specs.Journals.{HoldsEvents}
-use Rattle.dsu_commands.specs.Calls.{Call, Shows, ShowsPrefix, Stopped, Untouched, Writes}
+use Rattle.dsu_commands.specs.Calls.{Call, NoEnd, Shows, ShowsPrefix, Stopped, Untouched, Writes}
 use Rattle.dsu_commands.specs.Plans.{BySchedule, ByJournal}
 use Rattle.dsu_commands.specs.Reports.{names_line}
 use Rattle.dsu_commands.specs.Runs.{Came}
-use Rattle.dsu_commands.specs.Jobs.{Contents, FileStops}
+use Rattle.dsu_commands.specs.Jobs.{AreSources, Contents, FileStops, lines_of}
 
 -- the number of a text's names was printed
 pub record Checked (names : ℕ) (call : Call) : Type 0 where
   pub status : call.status ≡ 0
   pub history : call.history ≡ []
-  pub ending : call.ending ≡ None
+  pub no_end : NoEnd call
   pub out : Shows call.out (names_line names)
   pub err : Untouched call.err
 
@@ -31,7 +31,7 @@ pub record Checked (names : ℕ) (call : Call) : Type 0 where
 pub record CheckFailed (names : ℕ) (call : Call) : Type 0 where
   pub status : call.status ≡ 13
   pub history : call.history ≡ []
-  pub ending : call.ending ≡ None
+  pub no_end : NoEnd call
   pub out : ShowsPrefix call.out (names_line names)
   pub err : Writes call.err (fault_line Write [])
 
@@ -39,7 +39,7 @@ pub record CheckFailed (names : ℕ) (call : Call) : Type 0 where
 pub record EffectsShown (program : Program) (text : List ℕ) (call : Call) : Type 0 where
   pub status : call.status ≡ 0
   pub history : call.history ≡ []
-  pub ending : call.ending ≡ None
+  pub no_end : NoEnd call
   pub printed : List ℕ
   pub is_text : IsEffectsText program text printed
   pub out : Shows call.out printed
@@ -49,7 +49,7 @@ pub record EffectsShown (program : Program) (text : List ℕ) (call : Call) : Ty
 pub record EffectsFailed (program : Program) (text : List ℕ) (call : Call) : Type 0 where
   pub status : call.status ≡ 13
   pub history : call.history ≡ []
-  pub ending : call.ending ≡ None
+  pub no_end : NoEnd call
   pub printed : List ℕ
   pub is_text : IsEffectsText program text printed
   pub out : ShowsPrefix call.out printed
@@ -59,7 +59,7 @@ pub record EffectsFailed (program : Program) (text : List ℕ) (call : Call) : T
 pub record ChangesShown (program next : Program) (text : List ℕ) (call : Call) : Type 0 where
   pub status : call.status ≡ 0
   pub history : call.history ≡ []
-  pub ending : call.ending ≡ None
+  pub no_end : NoEnd call
   pub out : Shows call.out (changes_text program.definitions next.definitions text)
   pub err : Untouched call.err
 
@@ -67,7 +67,7 @@ pub record ChangesShown (program next : Program) (text : List ℕ) (call : Call)
 pub record ChangesFailed (program next : Program) (text : List ℕ) (call : Call) : Type 0 where
   pub status : call.status ≡ 13
   pub history : call.history ≡ []
-  pub ending : call.ending ≡ None
+  pub no_end : NoEnd call
   pub out : ShowsPrefix call.out (changes_text program.definitions next.definitions text)
   pub err : Writes call.err (fault_line Write [])
 
@@ -75,11 +75,13 @@ pub record ChangesFailed (program next : Program) (text : List ℕ) (call : Call
 abbrev pub Does : Job → Contents → Call → Type 0
 Does (Run job) content call =
     (program : Program) × HoldsProgram (content job.file) program
-    × Came (BySchedule job.moves) (setup_of program job.objects) job.journal [] call
+    × (texts : List (List ℕ)) × (programs : List Program) × AreSources content job.offers texts programs
+    × Came (BySchedule job.moves) (setup_of program programs (lines_of job.offers) job.objects) texts job.journal [] call
 Does (Replay job) content call =
     (program : Program) × HoldsProgram (content job.file) program
     × (lines : List (ℕ × Event)) × HoldsEvents (content job.journal) lines
-    × Came (ByJournal lines) (setup_of program job.objects) false job.journal call
+    × (texts : List (List ℕ)) × (programs : List Program) × AreSources content job.offers texts programs
+    × Came (ByJournal lines) (setup_of program programs (lines_of job.offers) job.objects) texts false job.journal call
 Does (Check file) content call =
     (program : Program) × HoldsProgram (content file) program
     × (Checked (names_of program.definitions) call ⊎ CheckFailed (names_of program.definitions) call)

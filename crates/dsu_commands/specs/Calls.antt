@@ -10,6 +10,8 @@ use Rattle.dsu_report.specs.Faults.{fault_line}
 use Rattle.dsu_report.specs.Statuses.{status_of_line}
 use Rattle.dsu_runs.specs.declared.ran.Ran.{Ran}
 use Rattle.dsu_commands.specs.declared.finish.Finish.{Finish}
+use Rattle.source_model.specs.declared.answer.OfferAnswer.{OfferAnswer}
+use Rattle.dsu_commands.specs.declared.outcome.InForce.{InForce}
 use Rattle.dsu_commands.specs.declared.outcome.Outcome.{Outcome}
 
 -- an output: what it showed before a call and shows now, where it shows what it has, and how many faults it had counted
@@ -25,6 +27,8 @@ pub record Call : Type 0 where
   pub status : ℕ
   pub history : List Event
   pub ending : Option Ending
+  pub answers : List OfferAnswer
+  pub installed : Option InForce
   pub out : Output
   pub err : Output
 
@@ -35,13 +39,27 @@ output_of told faults before now =
 
 -- the call that came to an outcome, with its two outputs
 abbrev pub call_of : {O : Type 0} → Outcome O → Output → Output → Call
-call_of outcome out err =
-    record { status = outcome.status; history = outcome.history.items; ending = outcome.ending; out = out; err = err }
+call_of outcome out err = record {
+  status = outcome.status;
+  history = outcome.history.items;
+  ending = outcome.ending;
+  answers = outcome.answers.items;
+  installed = outcome.installed;
+  out = out;
+  err = err;
+}
 
--- the call that reported a run so
-abbrev pub run_call : {T : Type 0} → Finish → Ran T → Output → Output → Call
-run_call finish ran out err =
-    record { status = finish.status; history = ran.history.items; ending = finish.ending; out = out; err = err }
+-- the call that reported a run so, and hands back these answers and this version in force
+abbrev pub run_call : {T : Type 0} → Finish → Ran T → List OfferAnswer → Option InForce → Output → Output → Call
+run_call finish ran answers installed out err = record {
+  status = finish.status;
+  history = ran.history.items;
+  ending = finish.ending;
+  answers = answers;
+  installed = installed;
+  out = out;
+  err = err;
+}
 
 -- a text was appended
 abbrev pub Shows : Output → List ℕ → Type 0
@@ -60,10 +78,16 @@ pub record Untouched (o : Output) : Type 0 where
   pub same : o.now ≡ o.before
   pub quiet : o.count ≡ o.counted
 
+-- no ending is handed back, no answers, and no version in force
+pub record NoEnd (call : Call) : Type 0 where
+  pub ending : call.ending ≡ None
+  pub answers : call.answers ≡ []
+  pub installed : call.installed ≡ None
+
 -- a call that came to nothing: no event, no ending, nothing on standard output, and the fault's line on standard error
 pub record Stopped (fault : FaultLine) (file : List ℕ) (call : Call) : Type 0 where
   pub status : call.status ≡ status_of_line fault
   pub history : call.history ≡ []
-  pub ending : call.ending ≡ None
+  pub no_end : NoEnd call
   pub out : Untouched call.out
   pub err : Writes call.err (fault_line fault file)

@@ -1,5 +1,5 @@
 -- The jobs that are built, and what their files have.
-use Rattle.std.specs.Prelude.{◌≡◌, ◌⊎◌, ◌≤◌, ◌<◌, ℕ, Bool, true, false, ◌&&◌, List, [], ◌∷◌, length, Option, Some, Ok, Err}
+use Rattle.std.specs.Prelude.{◌≡◌, ◌⊎◌, ◌≤◌, ◌<◌, ℕ, ⊤, Bool, true, false, List, [], ◌∷◌, length, map, Option, Some, Ok, Err}
 use Rattle.std.specs.Option.{is_none}
 use Rattle.dsu_io.specs.Causes.{Rose}
 use Rattle.bytecode.specs.declared.run.Event.{Event}
@@ -18,25 +18,34 @@ use Rattle.dsu_runs.specs.Rows.{AreRows}
 use Rattle.dsu_runs.specs.Replays.{events_of}
 use Rattle.dsu_runs.specs.Setups.{setup_of}
 use Rattle.input_files.specs.Files.{Exceeds}
-use Rattle.input_files.specs.Sources.{HoldsProgram, IsFirstLine, IsFirstOf, text_limit}
-use Rattle.input_files.specs.Journals.{IsNoJournal, journal_limit, line_of_journal}
+use Rattle.input_files.specs.Sources.{HoldsProgram, IsFirstLine, IsFirstOf, IsSource, text_limit}
+use Rattle.input_files.specs.Journals.{HoldsEvents, IsNoJournal, journal_limit, line_of_journal}
 
 -- the contents of files by name, as far as they are known
 abbrev pub Contents : Type 0
 Contents = List ℕ → Option (List ℕ)
 
-abbrev pub has_none : List Offer → Bool
-has_none [] = true
-has_none (offer ∷ offers) = false
-
--- the command is built, and so are its options: `--offer` and `--workers` aren't
+-- the command is built, and so are its options: `--workers` isn't
 abbrev pub is_built : Job → Bool
-is_built (Run job) = has_none job.offers && is_none job.workers
-is_built (Replay job) = has_none job.offers
+is_built (Run job) = is_none job.workers
+is_built (Replay job) = true
 is_built (Check file) = true
 is_built (Effects file) = true
 is_built (Changes old new) = true
 is_built (Gen seed size) = false
+
+-- ---- offers
+
+-- how many lines must have been printed before each offer
+abbrev pub lines_of : List Offer → List ℕ
+lines_of offers = map (λ o. o.lines) offers
+
+-- the files of offers, as far as their contents are known, have these texts, which are accepted as these programs
+abbrev pub AreSources : Contents → List Offer → List (List ℕ) → List Program → Type 0
+AreSources content [] [] [] = ⊤
+AreSources content (o ∷ offers) (text ∷ texts) (program ∷ programs) =
+    IsSource (content o.file) text program × AreSources content offers texts programs
+AreSources content _ _ _ = ⊥
 
 -- ---- the first fault of the files
 
@@ -56,13 +65,29 @@ IsJournalFault content counted count line =
 abbrev pub ProgramStops : List ℕ → Contents → ℕ → ℕ → FaultLine → List ℕ → Type 0
 ProgramStops named content counted count line file = (file ≡ named) × IsProgramFault (content named) counted count line
 
--- the first file of a job with a fault, and that fault; a journal is read after its program, a newer text after the older one
+-- the first file of some offers with a fault, and that fault
+abbrev pub OfferStops : List Offer → Contents → ℕ → ℕ → FaultLine → List ℕ → Type 0
+OfferStops [] content counted count line file = ⊥
+OfferStops (o ∷ offers) content counted count line file =
+    ProgramStops o.file content counted count line file
+    ⊎ ((program : Program) × HoldsProgram (content o.file) program × OfferStops offers content counted count line file)
+
+-- the journal of a replay has a fault, or an offer after it
+abbrev pub JournalStops : List ℕ → List Offer → Contents → ℕ → ℕ → FaultLine → List ℕ → Type 0
+JournalStops journal offers content counted count line file =
+    ((file ≡ journal) × IsJournalFault (content journal) counted count line)
+    ⊎ ((lines : List (ℕ × Event)) × HoldsEvents (content journal) lines × OfferStops offers content counted count line file)
+
+-- the first file of a job with a fault, and that fault; a journal is read after its program, offers after both, in the order
+-- of the words, and a newer text after the older one
 abbrev pub FileStops : Job → Contents → ℕ → ℕ → FaultLine → List ℕ → Type 0
-FileStops (Run job) content counted count line file = ProgramStops job.file content counted count line file
+FileStops (Run job) content counted count line file =
+    ProgramStops job.file content counted count line file
+    ⊎ ((program : Program) × HoldsProgram (content job.file) program × OfferStops job.offers content counted count line file)
 FileStops (Replay job) content counted count line file =
     ProgramStops job.file content counted count line file
     ⊎ ((program : Program) × HoldsProgram (content job.file) program
-    × (file ≡ job.journal) × IsJournalFault (content job.journal) counted count line)
+    × JournalStops job.journal job.offers content counted count line file)
 FileStops (Check named) content counted count line file = ProgramStops named content counted count line file
 FileStops (Effects named) content counted count line file = ProgramStops named content counted count line file
 FileStops (Changes old new) content counted count line file =
@@ -86,13 +111,24 @@ pub record IsKnownJournal (content : Option (List ℕ)) (lines : List (ℕ × Ev
   pub fits : length text ≤ journal_limit
   pub are : journal_in text ≡ Ok lines
 
+-- the known texts of offers are accepted as these programs
+abbrev pub AreKnownPrograms : Contents → List Offer → List Program → Type 0
+AreKnownPrograms content [] [] = ⊤
+AreKnownPrograms content (o ∷ offers) (program ∷ programs) =
+    IsKnownProgram (content o.file) program × AreKnownPrograms content offers programs
+AreKnownPrograms content _ _ = ⊥
+
 -- the files of a job are known and have no fault, and each event of its journal can happen when it comes
 abbrev pub IsReady : Job → Contents → Type 0
-IsReady (Run job) content = (program : Program) × IsKnownProgram (content job.file) program
+IsReady (Run job) content =
+    ((program : Program) × IsKnownProgram (content job.file) program)
+    × ((programs : List Program) × AreKnownPrograms content job.offers programs)
 IsReady (Replay job) content =
     (program : Program) × IsKnownProgram (content job.file) program
     × (lines : List (ℕ × Event)) × IsKnownJournal (content job.journal) lines
-    × ((rules : Rules) → AreRows rules → IsLegal rules (setup_of program job.objects) (events_of lines))
+    × (programs : List Program) × AreKnownPrograms content job.offers programs
+    × ((rules : Rules) → AreRows rules
+    → IsLegal rules (setup_of program programs (lines_of job.offers) job.objects) (events_of lines))
 IsReady (Check file) content = (program : Program) × IsKnownProgram (content file) program
 IsReady (Effects file) content = (program : Program) × IsKnownProgram (content file) program
 IsReady (Changes old new) content =
@@ -111,13 +147,28 @@ pub data KnownJournalFault (content : Option (List ℕ)) : FaultLine → Type 0 
   first : (text : List ℕ) (fault : JournalFault) → content ≡ Some text → length text ≤ journal_limit
       → journal_in text ≡ Err fault → KnownJournalFault content (line_of_journal fault)
 
+-- the first fault of the files of offers, where they are known
+abbrev pub KnownOfferFault : List Offer → Contents → FaultLine → List ℕ → Type 0
+KnownOfferFault [] content line file = ⊥
+KnownOfferFault (o ∷ offers) content line file =
+    ((file ≡ o.file) × KnownProgramFault (content o.file) line)
+    ⊎ ((program : Program) × IsKnownProgram (content o.file) program × KnownOfferFault offers content line file)
+
+-- the first fault of a known journal and of the known offers after it
+abbrev pub KnownReplayFault : List ℕ → List Offer → Contents → FaultLine → List ℕ → Type 0
+KnownReplayFault journal offers content line file =
+    ((file ≡ journal) × KnownJournalFault (content journal) line)
+    ⊎ ((lines : List (ℕ × Event)) × IsKnownJournal (content journal) lines × KnownOfferFault offers content line file)
+
 -- the first fault of a job's files, where they are known
 abbrev pub IsKnownFault : Job → Contents → FaultLine → List ℕ → Type 0
-IsKnownFault (Run job) content line file = (file ≡ job.file) × KnownProgramFault (content job.file) line
+IsKnownFault (Run job) content line file =
+    ((file ≡ job.file) × KnownProgramFault (content job.file) line)
+    ⊎ ((program : Program) × IsKnownProgram (content job.file) program × KnownOfferFault job.offers content line file)
 IsKnownFault (Replay job) content line file =
     ((file ≡ job.file) × KnownProgramFault (content job.file) line)
     ⊎ ((program : Program) × IsKnownProgram (content job.file) program
-    × (file ≡ job.journal) × KnownJournalFault (content job.journal) line)
+    × KnownReplayFault job.journal job.offers content line file)
 IsKnownFault (Check named) content line file = (file ≡ named) × KnownProgramFault (content named) line
 IsKnownFault (Effects named) content line file = (file ≡ named) × KnownProgramFault (content named) line
 IsKnownFault (Changes old new) content line file =

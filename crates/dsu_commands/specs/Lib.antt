@@ -4,4 +4,5 @@ pub mod Runs
 pub mod Schedules
 pub mod Reports
 pub mod Jobs
+pub mod Offers
 pub mod Answers

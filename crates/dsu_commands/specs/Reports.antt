@@ -6,9 +6,11 @@ use Rattle.std.specs.Option.{option_map_or}
 use Rattle.bytecode.specs.declared.run.Event.{Event}
 use Rattle.bytecode.specs.declared.run.Ending.{Ending}
 use Rattle.bytecode.specs.declared.run.Ending.TheVariants.{Finished, Trap, Deadlock, Cut}
+use Rattle.source_model.specs.Answers.{Answer}
 use Rattle.source_model.specs.Worlds.{World}
 use Rattle.source_model.specs.Waits.{Waiting, ForMutex, ForThread}
 use Rattle.dsu_journal.specs.Journals.{journal_text}
+use Rattle.dsu_report.specs.Answers.{answers_text}
 use Rattle.dsu_report.specs.Endings.{report_text}
 use Rattle.dsu_report.specs.Waits.{mutex_wait_line, thread_wait_line}
 use Rattle.dsu_runs.specs.Engines.{waits_in}
@@ -37,6 +39,7 @@ ending_text (Trap kind thread) w = report_text (Trap kind thread)
 ending_text Deadlock w = report_text Deadlock ++ waits_text w
 ending_text Cut w = report_text Cut
 
--- the report of a run: its journal, where it was asked for, and its ending
-abbrev pub run_text : Bool → List Event → Ending → World → List ℕ
-run_text journal history ending w = (if journal then journal_text history else []) ++ ending_text ending w
+-- the report of a run: its journal, where it was asked for, what was answered to the offers of some texts, and its ending
+abbrev pub run_text : Bool → List Event → List Answer → List (List ℕ) → Ending → World → List ℕ
+run_text journal history answers texts ending w =
+    (if journal then journal_text history else []) ++ (answers_text answers texts ++ ending_text ending w)

@@ -1,6 +1,7 @@
 -- What a schedule hands back, by its plan. The functions that report a run cite this.
-use Rattle.std.specs.Prelude.{◌≡◌, ◌⊎◌, ℕ, List, Option, Some, None}
+use Rattle.std.specs.Prelude.{◌≡◌, ◌⊎◌, ℕ, List, [], Option, Some, None}
 use Rattle.bytecode.specs.declared.run.Ending.{Ending}
+use Rattle.source_model.specs.declared.answer.OfferAnswer.{OfferAnswer}
 use Rattle.source_model.specs.Guards.{Guard, Rules, Setup}
 use Rattle.source_model.specs.Journals.{guard_after}
 use Rattle.source_model.specs.Endings.{ending, int_ending}
@@ -11,8 +12,10 @@ use Rattle.dsu_runs.specs.declared.ran.Ran.{Ran}
 use Rattle.dsu_runs.specs.declared.ran.StopCause.{StopCause}
 use Rattle.dsu_runs.specs.declared.ran.StopCause.TheVariants.{Ended, SinkFailed, CannotHappen, Memory}
 use Rattle.dsu_commands.specs.declared.finish.Finish.{Finish}
+use Rattle.dsu_commands.specs.declared.outcome.InForce.{InForce}
 use Rattle.dsu_commands.specs.Calls.{Output, Shows, ShowsPrefix}
 use Rattle.dsu_commands.specs.Plans.{Plan, Ends, Follows, Impossible}
+use Rattle.dsu_commands.specs.Runs.{HandsBack}
 
 -- the run ended so, as the engine is
 pub record EndedBy {T : Type 0} (plan : Plan) (setup : Setup) (is_at : Guard → T → Type 0) (told : T → Option (List ℕ))
@@ -59,3 +62,15 @@ pub record Unreported (text : List ℕ) (finish : Finish) (err : Output) : Type 
 
 abbrev pub IsReported : List ℕ → Ending → Finish → Output → Type 0
 IsReported text end finish err = Reported text end finish err ⊎ Unreported text finish err
+
+-- ---- what is handed back of the versions
+
+-- with an ending, what an engine left; without one nothing
+abbrev pub IsKept : Option Ending → List OfferAnswer → InForce → List OfferAnswer → Option InForce → Type 0
+IsKept None left in_force answers installed = (answers ≡ []) × (installed ≡ None)
+IsKept (Some end) left in_force answers installed = (answers ≡ left) × (installed ≡ Some in_force)
+
+-- with an ending, what is handed back at each guard at which an engine may be; without one nothing
+abbrev pub Hands : Setup → (Guard → Type 0) → Option Ending → List OfferAnswer → Option InForce → Type 0
+Hands setup at None answers installed = (answers ≡ []) × (installed ≡ None)
+Hands setup at (Some end) answers installed = (g : Guard) → at g → HandsBack setup g answers installed

@@ -8,7 +8,7 @@ ghost use Rattle.dsu_commands.specs.Calls.{Stopped, call_of, output_of};
 ghost use Rattle.dsu_commands.specs.Jobs.{IsKnownFault, IsKnownProgram, IsProgramFault, IsReady, KnownProgramFault};
 
 use crate::input::{program_of, source_in};
-use crate::outcome::Outcome;
+use crate::outcome::{Outcome, without_end};
 use crate::stopped::{stop, stop_after};
 use c_types::Typed;
 use changes_report::write_changes;
@@ -88,13 +88,15 @@ fn print_changes<O: Sink, E: Sink>(
 {
     let mut out = out;
     match write_changes(alloc, program, &source.typed, &source.text, &mut out) {
-        Ok(()) => Outcome {
-            status: 0,
+        Ok(()) => without_end(alloc, 0, out, Vec::new(alloc)),
+        Err(ReportFault::Failed) => stop_after(
+            alloc,
+            Vec::new(alloc),
+            FaultLine::Write,
+            "",
             out,
-            history: Vec::new(alloc),
-            ending: None,
-        },
-        Err(ReportFault::Failed) => stop_after(Vec::new(alloc), FaultLine::Write, "", out, err),
+            err,
+        ),
         Err(ReportFault::Memory) => stop(alloc, FaultLine::Memory, "", out, err),
     }
 }

@@ -7,7 +7,7 @@ ghost use Rattle.dsu_commands.specs.Calls.{Stopped, call_of, output_of};
 ghost use Rattle.dsu_commands.specs.Jobs.{IsKnownFault, IsReady};
 
 use crate::input::program_of;
-use crate::outcome::Outcome;
+use crate::outcome::{Outcome, without_end};
 use crate::report::write_names;
 use crate::stopped::{stop, stop_after};
 use dsu_io::{Files, Sink};
@@ -42,12 +42,7 @@ fn print_names<O: Sink, E: Sink>(alloc: Global, names: usize, out: O, err: &mut 
 {
     let mut out = out;
     match write_names(names, &mut out) {
-        Ok(()) => Outcome {
-            status: 0,
-            out,
-            history: Vec::new(alloc),
-            ending: None,
-        },
-        Err(_) => stop_after(Vec::new(alloc), FaultLine::Write, "", out, err),
+        Ok(()) => without_end(alloc, 0, out, Vec::new(alloc)),
+        Err(_) => stop_after(alloc, Vec::new(alloc), FaultLine::Write, "", out, err),
     }
 }

@@ -6,7 +6,7 @@ ghost use Rattle.dsu_commands.specs.Calls.{Stopped, call_of, output_of};
 ghost use Rattle.dsu_commands.specs.Jobs.{IsKnownFault, IsReady};
 
 use crate::input::source_in;
-use crate::outcome::Outcome;
+use crate::outcome::{Outcome, without_end};
 use crate::stopped::{stop, stop_after};
 use dsu_io::{Files, Sink};
 use dsu_report::{FaultLine, ReportFault};
@@ -51,13 +51,15 @@ fn print_effects<O: Sink, E: Sink>(
 {
     let mut out = out;
     match write_effects(alloc, &source.typed, &source.text, &mut out) {
-        Ok(()) => Outcome {
-            status: 0,
+        Ok(()) => without_end(alloc, 0, out, Vec::new(alloc)),
+        Err(ReportFault::Failed) => stop_after(
+            alloc,
+            Vec::new(alloc),
+            FaultLine::Write,
+            "",
             out,
-            history: Vec::new(alloc),
-            ending: None,
-        },
-        Err(ReportFault::Failed) => stop_after(Vec::new(alloc), FaultLine::Write, "", out, err),
+            err,
+        ),
         Err(ReportFault::Memory) => stop(alloc, FaultLine::Memory, "", out, err),
     }
 }

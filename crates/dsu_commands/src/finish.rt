@@ -1,16 +1,19 @@
-ghost use Rattle.std.specs.Prelude.{◌≡◌, length, None};
+ghost use Rattle.std.specs.Prelude.{◌≡◌, List as ListOf, Option, length, None};
+ghost use Rattle.source_model.specs.declared.answer.OfferAnswer.{OfferAnswer};
 ghost use Rattle.source_model.specs.Guards.{Guard, Setup};
+ghost use Rattle.source_model.specs.Journals.{answers};
 ghost use Rattle.dsu_report.specs.Faults.{fault_line};
 ghost use Rattle.dsu_report.specs.Statuses.{status_of_line};
 ghost use Rattle.dsu_commands.specs.Calls.{Writes, output_of, run_call};
 ghost use Rattle.dsu_commands.specs.Plans.{Plan};
 ghost use Rattle.dsu_commands.specs.Reports.{run_text};
 ghost use Rattle.dsu_commands.specs.Runs.{Came};
-ghost use Rattle.dsu_commands.specs.Schedules.{IsReported, RanBy};
+ghost use Rattle.dsu_commands.specs.Schedules.{Hands, IsReported, RanBy};
+ghost use Rattle.dsu_commands.specs.declared.outcome.InForce.{InForce};
 
 use crate::report::write_run;
 use bytecode::Ending;
-use dsu_io::Sink;
+use dsu_io::{List, Sink};
 use dsu_report::{FaultLine, LineWord, ending_status, write_fault};
 use dsu_runs::{Engine, Ran, StopCause, rules_exist};
 use source_model::{journal_is_a_run, seats_fit_their_slots};
@@ -24,22 +27,26 @@ pub(crate) struct Finish {
     pub ending: Option<Ending>,
 }
 
-/// Reports what came of a run. The events are those of the journal in `file`, or of the solo schedule.
+/// Reports what came of a run. The events are those of the journal in `file`, or of the solo schedule; `texts` has those that
+/// were offered.
 pub(crate) fn report_run<T: Engine, E: Sink>(
     ran: &Ran<T>,
     journal: bool,
+    texts: &[List<u8>],
     file: &str,
     err: &mut E,
 ) -> Finish
     ensures { (plan : Plan) (setup : Setup) (engine : T) → RanBy plan setup (T.is_at setup) T.told T.faults engine ran.now
-        → Came plan setup journal file.now
-        (run_call result ran.now (output_of T.told T.faults engine ran.now.engine) (output_of E.told E.faults err.old err.new)) }
+        → (given : ListOf OfferAnswer) (installed : Option InForce)
+        → Hands setup (λ g. T.is_at setup g ran.now.engine) result.ending given installed
+        → Came plan setup texts.now journal file.now (run_call result ran.now given installed
+        (output_of T.told T.faults engine ran.now.engine) (output_of E.told E.faults err.old err.new)) }
 {
     rules_exist();
     journal_is_a_run();
     seats_fit_their_slots();
     match ran.cause {
-        StopCause::Ended(ending) => report_end(ran, ending, journal, err),
+        StopCause::Ended(ending) => report_end(ran, ending, journal, texts, err),
         StopCause::SinkFailed => fail(FaultLine::Write, "", err),
         StopCause::CannotHappen(line) => {
             fail(FaultLine::Line(line, LineWord::CannotHappen), file, err)
@@ -53,12 +60,14 @@ fn report_end<T: Engine, E: Sink>(
     ran: &Ran<T>,
     ending: Ending,
     journal: bool,
+    texts: &[List<u8>],
     err: &mut E,
 ) -> Finish
     ensures { (setup : Setup) (g : Guard) → T.is_at setup g ran.now.engine → length g.seats ≡ length g.world.slots
-        → IsReported (run_text journal ran.now.history.items ending g.world) ending result (output_of E.told E.faults err.old err.new) }
+        → IsReported (run_text journal ran.now.history.items (answers setup g) texts.now ending g.world) ending result
+        (output_of E.told E.faults err.old err.new) }
 {
-    match write_run(journal, &ran.history, ending, &ran.engine, err) {
+    match write_run(journal, &ran.history, texts, ending, &ran.engine, err) {
         Ok(()) => Finish {
             status: ending_status(ending),
             ending: Some(ending),

@@ -67,6 +67,7 @@ pub(crate) fn events_of<F: Files>(
     ensures read { IfOk result (λ lines. HoldsEvents (F.content files.old file.now) lines.items) }
     ensures fault { IfErr result (λ line. (line ≡ FaultLine.Memory)
         ⊎ IsJournalFault (F.content files.old file.now) (F.faults files.old) (F.faults files.new) line) }
+    ensures same { (other : List ℕ) → F.content files.new other ≡ F.content files.old other }
     ensures later { F.faults files.old ≤ F.faults files.new }
     ensures complete { (lines : List (ℕ × Made)) → IsKnownJournal (F.content files.old file.now) lines
         → MatchResult result (λ read. read.items ≡ lines) IsShort }

@@ -6,8 +6,8 @@
 //! `specs/Answers.antt`: it was done, a file of it has a fault, or memory ran out; with what standard output and standard
 //! error have in each case. Two further clauses say when it must be done, and when a fault must be reported.
 //!
-//! Read in this order: `outcome` (what a call hands back), `stopped` (calls that come to nothing), `input` (the files of a
-//! job), `report` (what is printed), `finish` (a run at its end), `run`, `replay`, `check`, `effects_job`, `changes_job`.
+//! Read in this order: `outcome` (what a call hands back), `stopped` (calls that come to nothing), `input` and `offers` (the
+//! files of a job), `report` (what is printed), `finish` (a run at its end), `run`, `replay`, `check`, `effects_job`, `changes_job`.
 #![tactic(auto)]
 
 mod changes_job;
@@ -15,6 +15,7 @@ mod check;
 mod effects_job;
 mod finish;
 mod input;
+mod offers;
 mod outcome;
 mod replay;
 mod report;
@@ -24,7 +25,7 @@ mod stopped;
 pub use changes_job::changes_files;
 pub use check::check_file;
 pub use effects_job::effects_file;
-pub use outcome::Outcome;
+pub use outcome::{InForce, Outcome};
 pub use replay::replay_file;
 pub use run::run_file;
 pub use stopped::stop;

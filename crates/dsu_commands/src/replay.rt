@@ -1,5 +1,7 @@
-ghost use Rattle.std.specs.Prelude.{◌⊎◌, ◌≡◌, ◌≤◌, ℕ, List, [], false};
+ghost use Rattle.std.specs.Prelude.{◌⊎◌, ◌≡◌, ◌≤◌, ℕ, List as ListOf, [], Option, false, length};
 ghost use Rattle.bytecode.specs.declared.run.Event.{Event as Made};
+ghost use Rattle.c_tree.specs.declared.def.Program.{Program};
+ghost use Rattle.source_model.specs.declared.answer.OfferAnswer.{OfferAnswer};
 ghost use Rattle.source_model.specs.Guards.{Rules, Setup, first_guard};
 ghost use Rattle.source_model.specs.Journals.{IsLegal};
 ghost use Rattle.dsu_cli.specs.declared.job.Job.TheVariants.{Replay};
@@ -10,25 +12,28 @@ ghost use Rattle.dsu_runs.specs.Setups.{setup_of};
 ghost use Rattle.input_files.specs.Journals.{HoldsEvents};
 ghost use Rattle.dsu_commands.specs.Answers.{Answers, IsDone, IsExcused};
 ghost use Rattle.dsu_commands.specs.Calls.{Stopped, call_of, output_of, run_call};
-ghost use Rattle.dsu_commands.specs.Jobs.{IsJournalFault, IsKnownFault, IsKnownJournal, IsReady, KnownJournalFault};
+ghost use Rattle.dsu_commands.specs.Jobs.{AreKnownPrograms, AreSources, IsKnownFault, IsKnownJournal, IsReady, JournalStops, KnownOfferFault, KnownReplayFault, OfferStops, lines_of};
 ghost use Rattle.dsu_commands.specs.Plans.{ByJournal};
 ghost use Rattle.dsu_commands.specs.Runs.{Came};
+ghost use Rattle.dsu_commands.specs.Schedules.{Hands};
+ghost use Rattle.dsu_commands.specs.declared.outcome.InForce.{InForce as Installed};
 
 use crate::finish::{Finish, report_run};
 use crate::input::{events_of, program_of};
-use crate::outcome::{Outcome, outcome_of};
+use crate::offers::{Offers, offers_in};
+use crate::outcome::{InForce, Outcome, outcome_of};
 use crate::stopped::stop;
 use bytecode::Event;
 use c_types::Typed;
 use dsu_cli::ReplayJob;
-use dsu_io::{Files, Sink};
+use dsu_io::{Files, List, Sink};
 use dsu_report::FaultLine;
 use dsu_runs::{Engine, Ran, replay, rules_exist};
 use plain_engine::PlainEngine;
 use std::alloc::Global;
 
-/// Makes the events of a journal on the program of a file. What it prints goes to `out` as it is printed, and its report
-/// to `err`.
+/// Makes the events of a journal on the program of a file, with the offers of the job. What it prints goes to `out` as it is
+/// printed, and its report to `err`. All files are read before the first event is made.
 pub fn replay_file<F: Files, O: Sink, E: Sink>(
     alloc: Global,
     job: &ReplayJob,
@@ -36,10 +41,11 @@ pub fn replay_file<F: Files, O: Sink, E: Sink>(
     out: O,
     err: &mut E,
 ) -> Outcome<O>
+    requires few { length job.now.offers ≤ 63 }
     ensures answers { Answers (Replay job.now) (F.content files.old) (F.faults files.old) (F.faults files.new)
         (call_of result (output_of O.told O.faults out result.out) (output_of E.told E.faults err.old err.new)) }
     ensures complete { IsReady (Replay job.now) (F.content files.old) → IsDone result.status ⊎ IsExcused result.status }
-    ensures first { (line : Line) (file : List ℕ) → IsKnownFault (Replay job.now) (F.content files.old) line file
+    ensures first { (line : Line) (file : ListOf ℕ) → IsKnownFault (Replay job.now) (F.content files.old) line file
         → IsExcused result.status ⊎ Stopped line file
         (call_of result (output_of O.told O.faults out result.out) (output_of E.told E.faults err.old err.new)) }
 {
@@ -59,26 +65,62 @@ fn replay_program<F: Files, O: Sink, E: Sink>(
     out: O,
     err: &mut E,
 ) -> Outcome<O>
-    ensures answers { ((lines : List (ℕ × Made)) × HoldsEvents (F.content files.old job.now.journal) lines
-        × Came (ByJournal lines) (setup_of program job.now.objects) false job.now.journal
+    requires few { length job.now.offers ≤ 63 }
+    ensures answers { ((lines : ListOf (ℕ × Made)) × HoldsEvents (F.content files.old job.now.journal) lines
+        × (texts : ListOf (ListOf ℕ)) × (programs : ListOf Program) × AreSources (F.content files.old) job.now.offers texts programs
+        × Came (ByJournal lines) (setup_of program programs (lines_of job.now.offers) job.now.objects) texts false job.now.journal
         (call_of result (output_of O.told O.faults out result.out) (output_of E.told E.faults err.old err.new)))
         ⊎ Stopped FaultLine.Memory [] (call_of result (output_of O.told O.faults out result.out) (output_of E.told E.faults err.old err.new))
-        ⊎ ((line : Line) × IsJournalFault (F.content files.old job.now.journal) (F.faults files.old) (F.faults files.new) line
-        × Stopped line job.now.journal
-        (call_of result (output_of O.told O.faults out result.out) (output_of E.told E.faults err.old err.new))) }
-    ensures complete { (lines : List (ℕ × Made)) → IsKnownJournal (F.content files.old job.now.journal) lines
-        → ((rules : Rules) → AreRows rules → IsLegal rules (setup_of program job.now.objects) (events_of lines))
+        ⊎ ((line : Line) × (file : ListOf ℕ)
+        × JournalStops job.now.journal job.now.offers (F.content files.old) (F.faults files.old) (F.faults files.new) line file
+        × Stopped line file (call_of result (output_of O.told O.faults out result.out) (output_of E.told E.faults err.old err.new))) }
+    ensures complete { (lines : ListOf (ℕ × Made)) (programs : ListOf Program) → IsKnownJournal (F.content files.old job.now.journal) lines
+        → AreKnownPrograms (F.content files.old) job.now.offers programs
+        → ((rules : Rules) → AreRows rules
+        → IsLegal rules (setup_of program programs (lines_of job.now.offers) job.now.objects) (events_of lines))
         → IsDone result.status ⊎ IsExcused result.status }
-    ensures first { (line : Line) → KnownJournalFault (F.content files.old job.now.journal) line
-        → IsExcused result.status ⊎ Stopped line job.now.journal
+    ensures first { (line : Line) (file : ListOf ℕ) → KnownReplayFault job.now.journal job.now.offers (F.content files.old) line file
+        → IsExcused result.status ⊎ Stopped line file
+        (call_of result (output_of O.told O.faults out result.out) (output_of E.told E.faults err.old err.new)) }
+    ensures later { F.faults files.old ≤ F.faults files.new }
+{
+    let file = job.journal.as_str();
+    match events_of(alloc, files, file) {
+        Ok(lines) => replay_with_offers(alloc, program, &lines, job, files, out, err),
+        Err(line) => stop(alloc, line, file, out, err),
+    }
+}
+
+/// Makes the events of a journal on a program with the offers of a job, whose files aren't read yet.
+fn replay_with_offers<F: Files, O: Sink, E: Sink>(
+    alloc: Global,
+    program: Typed,
+    lines: &[(u32, Event)],
+    job: &ReplayJob,
+    files: &mut F,
+    out: O,
+    err: &mut E,
+) -> Outcome<O>
+    requires few { length job.now.offers ≤ 63 }
+    ensures answers { ((texts : ListOf (ListOf ℕ)) × (programs : ListOf Program) × AreSources (F.content files.old) job.now.offers texts programs
+        × Came (ByJournal lines.now) (setup_of program programs (lines_of job.now.offers) job.now.objects) texts false job.now.journal
+        (call_of result (output_of O.told O.faults out result.out) (output_of E.told E.faults err.old err.new)))
+        ⊎ Stopped FaultLine.Memory [] (call_of result (output_of O.told O.faults out result.out) (output_of E.told E.faults err.old err.new))
+        ⊎ ((line : Line) × (file : ListOf ℕ) × OfferStops job.now.offers (F.content files.old) (F.faults files.old) (F.faults files.new) line file
+        × Stopped line file (call_of result (output_of O.told O.faults out result.out) (output_of E.told E.faults err.old err.new))) }
+    ensures complete { (programs : ListOf Program) → AreKnownPrograms (F.content files.old) job.now.offers programs
+        → ((rules : Rules) → AreRows rules
+        → IsLegal rules (setup_of program programs (lines_of job.now.offers) job.now.objects) (events_of lines.now))
+        → IsDone result.status ⊎ IsExcused result.status }
+    ensures first { (line : Line) (file : ListOf ℕ) → KnownOfferFault job.now.offers (F.content files.old) line file
+        → IsExcused result.status ⊎ Stopped line file
         (call_of result (output_of O.told O.faults out result.out) (output_of E.told E.faults err.old err.new)) }
     ensures later { F.faults files.old ≤ F.faults files.new }
 {
     rules_exist();
-    let file = job.journal.as_str();
-    match events_of(alloc, files, file) {
-        Ok(lines) => replay_events(alloc, program, &lines, job, out, err),
-        Err(line) => stop(alloc, line, file, out, err),
+    match offers_in(alloc, files, job.offers.as_slice()) {
+        Ok(offers) => replay_events(alloc, program, offers, lines, job, out, err),
+        Err((line, file)) => stop(alloc, line, file, out, err),
     }
 }
 
@@ -86,37 +128,52 @@ fn replay_program<F: Files, O: Sink, E: Sink>(
 fn replay_events<O: Sink, E: Sink>(
     alloc: Global,
     program: Typed,
+    offers: Offers,
     lines: &[(u32, Event)],
     job: &ReplayJob,
     out: O,
     err: &mut E,
 ) -> Outcome<O>
-    ensures { Came (ByJournal lines.now) (setup_of program job.now.objects) false job.now.journal
+    requires equal { length offers.programs.items ≡ length offers.lines.items }
+    requires few { length offers.lines.items ≤ 63 }
+    ensures { Came (ByJournal lines.now) (setup_of program offers.programs.items offers.lines.items job.now.objects)
+        offers.texts.items false job.now.journal
         (call_of result (output_of O.told O.faults out result.out) (output_of E.told E.faults err.old err.new))
         ⊎ Stopped FaultLine.Memory [] (call_of result (output_of O.told O.faults out result.out) (output_of E.told E.faults err.old err.new)) }
 {
-    match PlainEngine::new(alloc, program, job.objects, out) {
+    let Offers {
+        texts,
+        programs,
+        lines: printed,
+    } = offers;
+    match PlainEngine::new(alloc, program, programs, printed, job.objects, out) {
         Ok(engine) => {
-            let (ran, finish) = replay_engine(alloc, engine, lines, job.journal.as_str(), err);
-            outcome_of(ran, finish)
+            let file = job.journal.as_str();
+            let (ran, finish) = replay_engine(alloc, engine, &texts, lines, file, err);
+            let version = ran.engine.version();
+            let (out, answers, names) = ran.engine.into_parts();
+            let in_force = InForce { version, names };
+            outcome_of(alloc, finish, out, ran.history, answers, in_force)
         }
         Err(out) => stop(alloc, FaultLine::Memory, "", out, err),
     }
 }
 
-/// Has an engine make the events of a journal, which is in that file, and reports the run.
+/// Has an engine make the events of a journal, which is in that file, and reports the run. `texts` has those that are offered.
 fn replay_engine<T: Engine, E: Sink>(
     alloc: Global,
     engine: T,
+    texts: &[List<u8>],
     lines: &[(u32, Event)],
     file: &str,
     err: &mut E,
 ) -> (Ran<T>, Finish)
-    ensures { (setup : Setup) → T.is_at setup (first_guard setup) engine
-        → Came (ByJournal lines.now) setup false file.now
-        (run_call result.1 result.0 (output_of T.told T.faults engine result.0.engine) (output_of E.told E.faults err.old err.new)) }
+    ensures { (setup : Setup) → T.is_at setup (first_guard setup) engine → (given : ListOf OfferAnswer) (installed : Option Installed)
+        → Hands setup (λ g. T.is_at setup g result.0.engine) result.1.ending given installed
+        → Came (ByJournal lines.now) setup texts.now false file.now (run_call result.1 result.0 given installed
+        (output_of T.told T.faults engine result.0.engine) (output_of E.told E.faults err.old err.new)) }
 {
     let ran = replay(alloc, engine, lines);
-    let finish = report_run(&ran, false, file, err);
+    let finish = report_run(&ran, false, texts, file, err);
     (ran, finish)
 }

@@ -1,14 +1,16 @@
-ghost use Rattle.std.specs.Prelude.{◌≡◌, List, length};
+ghost use Rattle.std.specs.Prelude.{◌≡◌, ◌++◌, List as ListOf, length};
 ghost use Rattle.dsu_io.specs.Causes.{HasCause};
 ghost use Rattle.dsu_io.specs.Sinks.{PutAppends};
 ghost use Rattle.source_model.specs.Guards.{Guard, Setup};
+ghost use Rattle.source_model.specs.Journals.{answers};
+ghost use Rattle.dsu_report.specs.Answers.{answers_text};
 ghost use Rattle.dsu_runs.specs.Engines.{waiting_of};
 ghost use Rattle.dsu_commands.specs.Reports.{ending_text, names_line, run_text, wait_in, wait_line, waits_text};
 
 use bytecode::{Ending, Event};
-use dsu_io::{Failed, Sink, put_all};
+use dsu_io::{Failed, List, Sink, put_all};
 use dsu_journal::print_journal;
-use dsu_report::{write_ending, write_mutex_wait, write_thread_wait};
+use dsu_report::{write_answers, write_ending, write_mutex_wait, write_thread_wait};
 use dsu_runs::{Engine, Waiting};
 use itoa::Buffer;
 
@@ -24,22 +26,39 @@ pub(crate) fn write_names<S: Sink>(names: usize, sink: &mut S) -> Result<(), Fai
     )
 }
 
-/// Writes the report of a run that ended: its journal, where it is asked for, and its ending. It takes no memory.
+/// Writes the report of a run that ended: its journal, where it is asked for, what was answered to the offers of some texts,
+/// and its ending. It takes no memory.
 pub(crate) fn write_run<T: Engine, S: Sink>(
     journal: bool,
     history: &[Event],
+    texts: &[List<u8>],
     ending: Ending,
     engine: &T,
     sink: &mut S,
 ) -> Result<(), Failed>
     ensures bytes { (setup : Setup) (g : Guard) → T.is_at setup g engine.now → length g.seats ≡ length g.world.slots
-        → PutAppends (S.told sink.old) (S.told sink.new) result (run_text journal history.now ending g.world) }
+        → PutAppends (S.told sink.old) (S.told sink.new) result (run_text journal history.now (answers setup g) texts.now ending g.world) }
     ensures cause { HasCause (S.faults sink.old) (S.faults sink.new) result }
 {
     if !journal {
-        return write_end(ending, engine, sink);
+        return write_result(texts, ending, engine, sink);
     }
     print_journal(history, sink)?;
+    write_result(texts, ending, engine, sink)
+}
+
+/// Writes what was answered to the offers of some texts, and the ending.
+fn write_result<T: Engine, S: Sink>(
+    texts: &[List<u8>],
+    ending: Ending,
+    engine: &T,
+    sink: &mut S,
+) -> Result<(), Failed>
+    ensures bytes { (setup : Setup) (g : Guard) → T.is_at setup g engine.now → length g.seats ≡ length g.world.slots
+        → PutAppends (S.told sink.old) (S.told sink.new) result (answers_text (answers setup g) texts.now ++ ending_text ending g.world) }
+    ensures cause { HasCause (S.faults sink.old) (S.faults sink.new) result }
+{
+    write_answers(engine.answers(), texts, engine.names(), sink)?;
     write_end(ending, engine, sink)
 }
 

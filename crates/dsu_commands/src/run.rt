@@ -1,28 +1,34 @@
-ghost use Rattle.std.specs.Prelude.{◌⊎◌, ◌≡◌, ℕ, List, []};
+ghost use Rattle.std.specs.Prelude.{◌⊎◌, ◌≡◌, ◌≤◌, ℕ, List as ListOf, [], Option, length};
+ghost use Rattle.c_tree.specs.declared.def.Program.{Program};
+ghost use Rattle.source_model.specs.declared.answer.OfferAnswer.{OfferAnswer};
 ghost use Rattle.source_model.specs.Guards.{Setup, first_guard};
 ghost use Rattle.dsu_cli.specs.declared.job.Job.TheVariants.{Run};
 ghost use Rattle.dsu_report.specs.declared.fault.FaultLine.{FaultLine as Line};
 ghost use Rattle.dsu_runs.specs.Setups.{setup_of};
 ghost use Rattle.dsu_commands.specs.Answers.{Answers, IsDone, IsExcused};
 ghost use Rattle.dsu_commands.specs.Calls.{Stopped, call_of, output_of, run_call};
-ghost use Rattle.dsu_commands.specs.Jobs.{IsKnownFault, IsReady};
+ghost use Rattle.dsu_commands.specs.Jobs.{AreKnownPrograms, AreSources, IsKnownFault, IsReady, KnownOfferFault, OfferStops, lines_of};
 ghost use Rattle.dsu_commands.specs.Plans.{BySchedule};
 ghost use Rattle.dsu_commands.specs.Runs.{Came};
+ghost use Rattle.dsu_commands.specs.Schedules.{Hands};
+ghost use Rattle.dsu_commands.specs.declared.outcome.InForce.{InForce as Installed};
 
 use crate::finish::{Finish, report_run};
 use crate::input::program_of;
-use crate::outcome::{Outcome, outcome_of};
+use crate::offers::{Offers, offers_in};
+use crate::outcome::{InForce, Outcome, outcome_of};
 use crate::stopped::stop;
 use c_types::Typed;
 use dsu_cli::RunJob;
-use dsu_io::{Files, Sink};
+use dsu_io::{Files, List, Sink};
 use dsu_report::FaultLine;
 use dsu_runs::{Engine, Ran, solo};
 use plain_engine::PlainEngine;
 use source_model::solo_schedule_is_prompt;
 use std::alloc::Global;
 
-/// Runs the program of a file by the solo schedule. What it prints goes to `out` as it is printed, and its report to `err`.
+/// Runs the program of a file by the solo schedule, with the offers of the job. What it prints goes to `out` as it is printed,
+/// and its report to `err`. All files are read before the run begins.
 pub fn run_file<F: Files, O: Sink, E: Sink>(
     alloc: Global,
     job: &RunJob,
@@ -30,17 +36,47 @@ pub fn run_file<F: Files, O: Sink, E: Sink>(
     out: O,
     err: &mut E,
 ) -> Outcome<O>
+    requires few { length job.now.offers ≤ 63 }
     ensures answers { Answers (Run job.now) (F.content files.old) (F.faults files.old) (F.faults files.new)
         (call_of result (output_of O.told O.faults out result.out) (output_of E.told E.faults err.old err.new)) }
     ensures complete { IsReady (Run job.now) (F.content files.old) → IsDone result.status ⊎ IsExcused result.status }
-    ensures first { (line : Line) (file : List ℕ) → IsKnownFault (Run job.now) (F.content files.old) line file
+    ensures first { (line : Line) (file : ListOf ℕ) → IsKnownFault (Run job.now) (F.content files.old) line file
         → IsExcused result.status ⊎ Stopped line file
         (call_of result (output_of O.told O.faults out result.out) (output_of E.told E.faults err.old err.new)) }
 {
     let file = job.file.as_str();
     match program_of(alloc, files, file) {
-        Ok(program) => run_program(alloc, program, job, out, err),
+        Ok(program) => run_with_offers(alloc, program, job, files, out, err),
         Err(line) => stop(alloc, line, file, out, err),
+    }
+}
+
+/// Runs a program with the offers of a job, whose files aren't read yet.
+fn run_with_offers<F: Files, O: Sink, E: Sink>(
+    alloc: Global,
+    program: Typed,
+    job: &RunJob,
+    files: &mut F,
+    out: O,
+    err: &mut E,
+) -> Outcome<O>
+    requires few { length job.now.offers ≤ 63 }
+    ensures answers { ((texts : ListOf (ListOf ℕ)) × (programs : ListOf Program) × AreSources (F.content files.old) job.now.offers texts programs
+        × Came (BySchedule job.now.moves) (setup_of program programs (lines_of job.now.offers) job.now.objects) texts job.now.journal []
+        (call_of result (output_of O.told O.faults out result.out) (output_of E.told E.faults err.old err.new)))
+        ⊎ Stopped FaultLine.Memory [] (call_of result (output_of O.told O.faults out result.out) (output_of E.told E.faults err.old err.new))
+        ⊎ ((line : Line) × (file : ListOf ℕ) × OfferStops job.now.offers (F.content files.old) (F.faults files.old) (F.faults files.new) line file
+        × Stopped line file (call_of result (output_of O.told O.faults out result.out) (output_of E.told E.faults err.old err.new))) }
+    ensures complete { (programs : ListOf Program) → AreKnownPrograms (F.content files.old) job.now.offers programs
+        → IsDone result.status ⊎ IsExcused result.status }
+    ensures first { (line : Line) (file : ListOf ℕ) → KnownOfferFault job.now.offers (F.content files.old) line file
+        → IsExcused result.status ⊎ Stopped line file
+        (call_of result (output_of O.told O.faults out result.out) (output_of E.told E.faults err.old err.new)) }
+    ensures later { F.faults files.old ≤ F.faults files.new }
+{
+    match offers_in(alloc, files, job.offers.as_slice()) {
+        Ok(offers) => run_program(alloc, program, offers, job, out, err),
+        Err((line, file)) => stop(alloc, line, file, out, err),
     }
 }
 
@@ -48,36 +84,50 @@ pub fn run_file<F: Files, O: Sink, E: Sink>(
 fn run_program<O: Sink, E: Sink>(
     alloc: Global,
     program: Typed,
+    offers: Offers,
     job: &RunJob,
     out: O,
     err: &mut E,
 ) -> Outcome<O>
-    ensures { Came (BySchedule job.now.moves) (setup_of program job.now.objects) job.now.journal []
+    requires equal { length offers.programs.items ≡ length offers.lines.items }
+    requires few { length offers.lines.items ≤ 63 }
+    ensures { Came (BySchedule job.now.moves) (setup_of program offers.programs.items offers.lines.items job.now.objects)
+        offers.texts.items job.now.journal []
         (call_of result (output_of O.told O.faults out result.out) (output_of E.told E.faults err.old err.new))
         ⊎ Stopped FaultLine.Memory [] (call_of result (output_of O.told O.faults out result.out) (output_of E.told E.faults err.old err.new)) }
 {
-    match PlainEngine::new(alloc, program, job.objects, out) {
+    let Offers {
+        texts,
+        programs,
+        lines,
+    } = offers;
+    match PlainEngine::new(alloc, program, programs, lines, job.objects, out) {
         Ok(engine) => {
-            let (ran, finish) = run_engine(alloc, engine, job, err);
-            outcome_of(ran, finish)
+            let (ran, finish) = run_engine(alloc, engine, &texts, job, err);
+            let version = ran.engine.version();
+            let (out, answers, names) = ran.engine.into_parts();
+            let in_force = InForce { version, names };
+            outcome_of(alloc, finish, out, ran.history, answers, in_force)
         }
         Err(out) => stop(alloc, FaultLine::Memory, "", out, err),
     }
 }
 
-/// Runs an engine by the solo schedule, and reports the run.
+/// Runs an engine by the solo schedule, and reports the run. `texts` has those that are offered.
 fn run_engine<T: Engine, E: Sink>(
     alloc: Global,
     engine: T,
+    texts: &[List<u8>],
     job: &RunJob,
     err: &mut E,
 ) -> (Ran<T>, Finish)
-    ensures { (setup : Setup) → T.is_at setup (first_guard setup) engine
-        → Came (BySchedule job.now.moves) setup job.now.journal []
-        (run_call result.1 result.0 (output_of T.told T.faults engine result.0.engine) (output_of E.told E.faults err.old err.new)) }
+    ensures { (setup : Setup) → T.is_at setup (first_guard setup) engine → (given : ListOf OfferAnswer) (installed : Option Installed)
+        → Hands setup (λ g. T.is_at setup g result.0.engine) result.1.ending given installed
+        → Came (BySchedule job.now.moves) setup texts.now job.now.journal [] (run_call result.1 result.0 given installed
+        (output_of T.told T.faults engine result.0.engine) (output_of E.told E.faults err.old err.new)) }
 {
     solo_schedule_is_prompt();
     let ran = solo(alloc, engine, job.moves);
-    let finish = report_run(&ran, job.journal, "", err);
+    let finish = report_run(&ran, job.journal, texts, "", err);
     (ran, finish)
 }

@@ -3,7 +3,7 @@ ghost use Rattle.dsu_report.specs.Statuses.{status_of_line};
 ghost use Rattle.dsu_report.specs.Faults.{fault_line};
 ghost use Rattle.dsu_commands.specs.Calls.{Stopped, call_of, output_of, Writes};
 
-use crate::outcome::Outcome;
+use crate::outcome::{Outcome, without_end};
 use bytecode::Event;
 use dsu_io::Sink;
 use dsu_report::{FaultLine, write_fault};
@@ -19,11 +19,12 @@ pub fn stop<O: Sink, E: Sink>(
 ) -> Outcome<O>
     ensures { Stopped fault file.now (call_of result (output_of O.told O.faults out result.out) (output_of E.told E.faults err.old err.new)) }
 {
-    stop_after(Vec::new(alloc), fault, file, out, err)
+    stop_after(alloc, Vec::new(alloc), fault, file, out, err)
 }
 
 /// Reports a fault after some events.
 pub(crate) fn stop_after<O, E: Sink>(
+    alloc: Global,
     history: Vec<Event>,
     fault: FaultLine,
     file: &str,
@@ -33,14 +34,11 @@ pub(crate) fn stop_after<O, E: Sink>(
     ensures status { result.status ≡ status_of_line fault }
     ensures history { result.history ≡ history }
     ensures ending { result.ending ≡ None }
+    ensures answers { result.answers.items ≡ [] }
+    ensures installed { result.installed ≡ None }
     ensures out { result.out ≡ out }
     ensures err { Writes (output_of E.told E.faults err.old err.new) (fault_line fault file.now) }
 {
     let _ = write_fault(file, fault, err);
-    Outcome {
-        status: fault.status(),
-        out,
-        history,
-        ending: None,
-    }
+    without_end(alloc, fault.status(), out, history)
 }

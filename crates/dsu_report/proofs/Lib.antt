@@ -1,1 +1,5 @@
 mod Examples
+pub mod Lines
+mod Offers
+mod Parts
+mod Past

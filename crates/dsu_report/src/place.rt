@@ -1,5 +1,5 @@
 //! A byte's place, by line and column.
-ghost use Rattle.std.specs.Prelude.{◌≡◌, ◌<◌, ◌≤◌, ◌-◌, ◌^◌, length};
+ghost use Rattle.std.specs.Prelude.{◌≡◌, ◌<◌, ◌≤◌, ◌+◌, ◌-◌, ◌^◌, length};
 ghost use Rattle.dsu_report.specs.Places.{line_at, column_at};
 
 /// A place in a text as a reader counts it, from 1. A line ends after its newline, and a column counts
@@ -17,6 +17,21 @@ pub fn place_of(text: &[u8], at: usize) -> Place
     ensures line { result.line ≡ line_at text.now at }
     ensures column { result.column ≡ column_at text.now at }
 {
+    let (line, column) = counted(text, at);
+    Place {
+        line: line as u32,
+        column: column as u32,
+    }
+}
+
+/// The line and the column of a byte, or of the end of the text, in numbers that hold any.
+pub(crate) fn counted(text: &[u8], at: usize) -> (usize, usize)
+    requires within { at ≤ length text.now }
+    ensures line { result.0 ≡ line_at text.now at }
+    ensures column { result.1 ≡ column_at text.now at }
+    ensures few_lines { result.0 ≤ at + 1 }
+    ensures few_columns { result.1 ≤ at + 1 }
+{
     let mut line = 1;
     let mut column = 1;
     for byte in &text[..at] {
@@ -27,5 +42,5 @@ pub fn place_of(text: &[u8], at: usize) -> Place
             column += 1;
         }
     }
-    Place { line, column }
+    (line, column)
 }

@@ -146,6 +146,13 @@ impl Book {
         self.answers.as_slice()
     }
 
+    /// The answers alone, in the order of the offers.
+    pub fn into_answers(self) -> Vec<OfferAnswer>
+        ensures { result.items ≡ self.answers }
+    {
+        self.answers
+    }
+
     /// Whether there is an offer of that number for which so many written lines are enough.
     fn is_reached(&self, k: u8, written: usize) -> bool
         ensures value { (setup : Setup) (g : Guard) (names : List Bytes) → IsBook setup g names self.now

@@ -1,4 +1,4 @@
-mod Filled
+pub mod Filled
 pub mod NamesOfIds
 mod ChangedNames
 mod Slots

@@ -64,7 +64,7 @@ store_of_more (text ∷ texts) q =
 abbrev IsBefore : ℕ → Body → Type 0
 IsBefore n b = b.generation < n
 
-generation_if_new : (n : ℕ) (p : List BareDef) (q : Text) (d : BareDef) → IfSome (body_of n p q d) (λ b. b.generation ≡ n)
+pub generation_if_new : (n : ℕ) (p : List BareDef) (q : Text) (d : BareDef) → IfSome (body_of n p q d) (λ b. b.generation ≡ n)
 generation_if_new n p q (Function result name parameters body) =
     by (is_new p q.definitions name (skeleton_of (definition q.definitions) (Some (Function result name parameters body)))) refl
   where
@@ -82,7 +82,7 @@ generation_if_new n p q (TransformStruct tag values) = tt
 generation_if_new n p q (TransformGlobal name value) = tt
 
 -- what a list of those that are there keeps
-all_kept : {A B : Type 0} (f : A → Option B) (P : B → Type 0) (xs : List A) → ((x : A) → IfSome (f x) P) → All P (filter_map f xs)
+pub all_kept : {A B : Type 0} (f : A → Option B) (P : B → Type 0) (xs : List A) → ((x : A) → IfSome (f x) P) → All P (filter_map f xs)
 all_kept f P [] each = All-nil P
 all_kept {A} {B} f P (x ∷ xs) each = by (f x) refl (each x) (all_kept f P xs each)
   where

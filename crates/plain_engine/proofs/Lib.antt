@@ -1,5 +1,9 @@
-mod NoOffers
 mod Printing
-mod Seats
+mod SlotsAfter
 mod Standing
 mod Moving
+mod QuietEvents
+mod Deciding
+mod Installing
+mod Engines
+mod Starting

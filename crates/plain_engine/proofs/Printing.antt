@@ -1,6 +1,7 @@
 -- What a sink shows after the rest of an output was handed to it.
-use Rattle.std.proofs.Common.{◌≡◌, ℕ, ◌+◌, ◌-◌, ◌<◌, ◌≤◌, List, ◌++◌, take, Option, Some, None, sym, ◌∙◌, ap, subst, arith, append_assoc}
-use Rattle.std.specs.Prelude.{length, drop}
+use Rattle.std.proofs.Common.{◌≡◌, ℕ, ◌+◌, ◌-◌, ◌<◌, ◌≤◌, List, ◌++◌, take, Option, Some, None, sym, ◌∙◌, ap, subst, arith, append_assoc, length-append}
+use Rattle.std.specs.Prelude.{◌==◌, ◌^◌, cond, length, drop}
+use Rattle.std.proofs.lemmas.List.Sums.{count_by-le-length, sum_by-append}
 use Rattle.std.specs.Io.KnownBytes.{Appends}
 use Rattle.std.proofs.Transfers.{drop-appended}
 use Rattle.std.proofs.Math.Seq.{take-append-add}
@@ -8,7 +9,7 @@ use Rattle.std.proofs.lemmas.List.{take_rest}
 use Rattle.std.proofs.lemmas.Option.{none-some, same_Some}
 use Rattle.dsu_io.specs.Sinks.{AppendsFront}
 use Rattle.dsu_runs.specs.declared.engine.Made.TheVariants.{Done, SinkFailed}
-use Rattle.plain_engine.specs.Plain.{Wrote}
+use Rattle.plain_engine.specs.Plain.{Wrote, lines_among}
 
 -- bytes that are appended to what was shown before
 appended : (told now : Option (List ℕ)) (before out bytes all : List ℕ) → told ≡ Some (before ++ out) → Appends told now bytes
@@ -60,3 +61,32 @@ wrote_partly told now seen output printed new is part = (
 
 pub none_missing : (seen output : List ℕ) (printed : ℕ) → seen ≡ output → printed ≤ length output → length seen < printed → ⊥
 none_missing seen output printed is within fewer = let same = ap length is in omega (arith, same, within, fewer)
+
+-- the lines of a whole output
+lines_appended : (before more : List ℕ) → lines_among (before ++ more) ≡ lines_among before + lines_among more
+lines_appended before more = sum_by-append (λ c. cond (c == 10) 1 0) before more
+
+pub lines_after : (before more seen output : List ℕ) (printed written lines new : ℕ) → seen ≡ output → output ≡ before ++ more
+    → printed ≡ length before → written ≡ lines_among before → lines ≡ lines_among (take (length seen - printed) (drop printed seen))
+    → (written + lines < 2 ^ 64 → new ≡ written + lines) → length seen < 2 ^ 64 → new ≡ lines_among output
+lines_after before more seen output printed written lines new same whole from had is sums small = sums fits ∙ all
+  where
+    piece : take (length seen - printed) (drop printed seen) ≡ more
+    piece =
+        take_rest seen printed ∙ ap (drop printed) same ∙ ap (λ n. drop n output) from ∙ drop-appended before output more whole
+
+    all : written + lines ≡ lines_among output
+    all =
+        ap (λ n. n + lines) had ∙ ap (λ n. lines_among before + n) (is ∙ ap lines_among piece) ∙ sym (lines_appended before more)
+        ∙ ap lines_among (sym whole)
+
+    fits : written + lines < 2 ^ 64
+    fits =
+        let few = count_by-le-length (λ c. c == 10) output in
+        let long = ap length same in
+        let total = all in
+        omega (arith, few, long, total, small)
+
+pub long_enough : (before more output : List ℕ) (printed : ℕ) → output ≡ before ++ more → printed ≡ length before → printed ≤ length output
+long_enough before more output printed whole from =
+    let long = ap length whole ∙ length-append before more in omega (arith, from, long)

@@ -1,1 +1,4 @@
+pub mod Kept
+pub mod Seen
 pub mod Plain
+pub mod Steps

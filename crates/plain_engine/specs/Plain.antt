@@ -1,35 +1,67 @@
 -- When the plain engine is at a guard, and what it hands to its sink.
-use Rattle.std.specs.Prelude.{◌≡◌, ℕ, Bool, false, List, [], ◌∷◌, map, length, take, drop, Option, Some, None}
+use Rattle.std.specs.Prelude.{◌≡◌, ℕ, ◌==◌, List, [], ◌∷◌, ◌++◌, map, length, take, drop, count_by, slice_get, Option, Some, false}
 use Rattle.std.specs.Io.KnownBytes.{Appends}
-use Rattle.c_tree.specs.BareDef.{BareDef}
-use Rattle.source_model.specs.Worlds.{in_slot}
-use Rattle.source_model.specs.Runs.{SourceMove, is_live}
-use Rattle.source_model.specs.Guards.{Guard, Setup, has_ended, seat_of}
-use Rattle.source_runner.specs.SourceRuns.{IsRun, world_after}
+use Rattle.c_tree.specs.declared.def.Program.{Program}
+use Rattle.c_semantics.specs.SourceTexts.{Text, text_of}
+use Rattle.source_model.specs.Worlds.{in_slot, is_over}
+use Rattle.source_model.specs.Runs.{SourceMove}
+use Rattle.source_model.specs.Guards.{Guard, Setup, bodies_of, has_ended, lines_written}
+use Rattle.source_model.specs.Guards as guard
+use Rattle.source_model.specs.JournalLaws.{texts_of}
+use Rattle.version_laws.specs.Histories.{versions_by}
+use Rattle.source_runner.specs.SourceRuns.{IsRun, trees_of, words_of, world_after}
 use Rattle.source_runner.specs.declared.run.SourceRun.{SourceRun}
+use Rattle.installed_versions.specs.Installed.{IsInstalled}
+use Rattle.installed_versions.specs.declared.installed.Installed.{Installed}
+use Rattle.dsu_runs.specs.Books.{IsBook}
 use Rattle.dsu_runs.specs.declared.engine.Made.{Made}
 use Rattle.dsu_runs.specs.declared.engine.Made.TheVariants.{Done, CannotHappen, SinkFailed}
+use Rattle.plain_engine.specs.declared.seat.Seat.{Seat}
+use Rattle.plain_engine.specs.declared.state.State.{State}
+use Rattle.plain_engine.specs.Kept.{IsSeat}
 
--- the texts of a setup without offers
-abbrev pub texts_of : Setup → List (List BareDef)
-texts_of setup = setup.first.definitions ∷ []
-
--- the run is that of the moves which come to the guard's world, and the sink has all that was printed. As long as it goes
--- on its threads are at a check-in where the engine says, and only where one lives
-pub record IsAt (setup : Setup) (g : Guard) (r : SourceRun) (at : List Bool) (sent : ℕ) : Type 0 where
+-- a run has the texts of a setup, and is that of the moves that come to the guard's world
+pub record IsRunAt (setup : Setup) (g : Guard) (r : SourceRun) : Type 0 where
   pub moves : List SourceMove
   pub run : IsRun (texts_of setup) setup.limits moves r
   pub world : world_after (texts_of setup) setup.limits moves ≡ Some g.world
-  pub count : length g.seats ≡ 16
-  pub seats : has_ended g ≡ false → map (λ s. s.at_check_in) g.seats ≡ at
-  pub empty : (n : ℕ) → is_live (in_slot g.world n) ≡ false → (seat_of g n).at_check_in ≡ false
-  -- it takes no offers
-  pub offers : setup.offers ≡ []
-  pub none_open : g.open_offer ≡ None
+  pub trees : map text_of (trees_of r) ≡ setup.first ∷ map (λ o. o.text) setup.offers
+  pub versions : versions_by (texts_of setup) moves ≡ map (λ t. t.definitions) g.versions
+
+-- what is kept of the slots is what a guard has of them, as long as the run goes on
+pub record AreSeats (g : Guard) (r : SourceRun) (seats : List Seat) : Type 0 where
+  pub many : length g.seats ≡ 16
+  pub each : has_ended g ≡ false → (n : ℕ) (kept : Seat) (own : guard.Seat) → slice_get seats n ≡ Some kept
+      → slice_get g.seats n ≡ Some own
+      → IsSeat (words_of r) (bodies_of g) (length g.versions) (is_over g.world) (in_slot g.world n) kept own
+
+-- the versions are those of a guard, and the last of them is the run's text with this number
+pub record AreInstalled (g : Guard) (r : SourceRun) (i : Installed) (last : ℕ) : Type 0 where
+  pub installed : IsInstalled g.versions i.count i.names i.store
+  pub before : List Text
+  pub tree : Program
+  pub numbered : slice_get (trees_of r) last ≡ Some tree
+  pub last_is : g.versions ≡ before ++ text_of tree ∷ []
+
+-- the state is at a guard
+pub record IsStateAt (setup : Setup) (g : Guard) (s : State) : Type 0 where
+  pub run : IsRunAt setup g s.run
+  pub seats : AreSeats g s.run s.seats
+  pub versions : AreInstalled g s.run s.installed s.last
+  pub book : IsBook setup g s.installed.names s.book
+
+-- and so many bytes and lines were printed as the sink has
+pub record IsAt (setup : Setup) (g : Guard) (s : State) (sent lines : ℕ) : Type 0 where
+  pub state : IsStateAt setup g s
   pub printed : sent ≡ length g.world.output
+  pub written : lines ≡ lines_written g.world
 
 -- what came of handing to a sink what is after so many bytes of an output
 abbrev pub Wrote : List ℕ → ℕ → Option (List ℕ) → Option (List ℕ) → ℕ → Made → Type 0
 Wrote output printed told now new Done = (new ≡ length output) × Appends told now (drop printed output)
 Wrote output printed told now new SinkFailed = (n : ℕ) × Appends told now (take n (drop printed output))
 Wrote output printed told now new CannotHappen = ⊥
+
+-- how many lines end in some bytes
+abbrev pub lines_among : List ℕ → ℕ
+lines_among bytes = count_by (λ c. c == 10) bytes

@@ -1,79 +1,76 @@
-ghost use Rattle.std.specs.Prelude.{◌≡◌, ◌<◌, ◌&&◌, [], true, false, IfOk, IfErr, slice_index_or, slice_set};
-ghost use Rattle.source_model.specs.Guards.{first_guard};
-ghost use Rattle.source_runner.specs.SourceRuns.{IsRun};
-ghost use Rattle.dsu_runs.specs.Setups.{limits_of, setup_of};
-ghost use Rattle.plain_engine.specs.Plain.{IsAt, texts_of};
+//! The engine: its state and its output.
+ghost use Rattle.std.specs.Prelude.{◌≡◌, ◌≤◌, length, map, IfOk, IfErr};
+ghost use Rattle.source_model.specs.Answers.{answer_seen};
+ghost use Rattle.source_model.specs.Guards.{Guard, Setup, first_guard};
+ghost use Rattle.source_model.specs.Journals.{answers};
+ghost use Rattle.dsu_runs.specs.Setups.{setup_of};
+ghost use Rattle.plain_engine.specs.Plain.{IsAt};
 
+use crate::state::State;
 use c_types::Typed;
 use dsu_io::Sink;
 use name_sets::Names;
-use source_runner::SourceRun;
-use std::alloc::{AllocError, Global};
+use source_model::OfferAnswer;
+use std::alloc::Global;
 
-/// How many slots there are.
-pub(crate) const SLOTS: u8 = 16;
-
-/// The source machine run move by move, with its output in a sink.
+/// The source machine run move by move, with the offers of newer texts, and with its output in a sink.
 #[derive(Drop)]
 pub struct PlainEngine<S> {
-    pub(crate) run: SourceRun,
-    /// Whether the thread in a slot is at a check-in.
-    pub(crate) seats: [bool; 16],
+    pub(crate) state: State,
     pub(crate) sink: S,
     /// How many bytes of the output the sink has.
     pub(crate) printed: usize,
-    /// The names for answers to offers, of which there are none.
-    pub(crate) names: Names,
+    /// How many lines are among them.
+    pub(crate) written: usize,
 }
 
 impl<S: Sink> PlainEngine<S> {
-    /// The start of a run of a text, where so many objects may live at once. Out of memory: the sink comes back.
-    pub fn new(alloc: Global, text: Typed, objects: u32, sink: S) -> Result<PlainEngine<S>, S>
-        ensures start { IfOk result (λ e.
-            IsAt (setup_of text objects) (first_guard (setup_of text objects)) e.run e.seats e.printed) }
+    /// The start of a run of a text with the offers of newer texts, each with how many lines the program must
+    /// have written before; so many objects may live at once. Out of memory: the sink comes back.
+    pub fn new(
+        alloc: Global,
+        text: Typed,
+        offers: Vec<Typed>,
+        lines: Vec<u32>,
+        objects: u32,
+        sink: S,
+    ) -> Result<PlainEngine<S>, S>
+        requires equal { length offers.items ≡ length lines.items }
+        requires few { length lines.items ≤ 63 }
+        ensures start { let setup = setup_of text offers.items lines.items objects in
+            IfOk result (λ e. IsAt setup (first_guard setup) e.state e.printed e.written) }
         ensures told { IfOk result (λ e. e.sink ≡ sink) }
         ensures back { IfErr result (λ s. s ≡ sink) }
     {
-        match first_run(alloc, text, objects) {
-            Ok(run) => Ok(PlainEngine {
-                run,
-                seats: [false; 16],
+        match State::first(alloc, text, offers, lines, objects) {
+            Ok(state) => Ok(PlainEngine {
+                state,
                 sink,
                 printed: 0,
-                names: Names::new(alloc),
+                written: 0,
             }),
             Err(_) => Err(sink),
         }
     }
 
-    /// The sink, with all that was printed.
-    pub fn into_sink(self) -> S
-        ensures { result ≡ self.sink }
+    /// How many versions were installed, the first one among them.
+    pub fn version(&self) -> u32
+        ensures { (setup : Setup) (g : Guard) → IsAt setup g self.now.state self.now.printed self.now.written
+            → result ≡ length g.versions }
     {
-        self.sink
+        self.state.installed.count()
     }
 
-    /// Whether the thread in a slot is at a check-in.
-    pub(crate) fn is_at_check_in(&self, slot: u8) -> bool
-        ensures value { result ≡ slice_index_or self.now.seats slot false }
-        ensures within { result ≡ true → slot < 16 }
+    /// The sink, with all that was printed; the answers to the offers; and the names for which the ids in the
+    /// answers stand.
+    pub fn into_parts(self) -> (S, Vec<OfferAnswer>, Names)
+        ensures sink { result.0 ≡ self.sink }
+        ensures answers { result.1.items ≡ self.state.book.answers }
+        ensures names { result.2 ≡ self.state.installed.names }
+        ensures answered { (setup : Setup) (g : Guard) → IsAt setup g self.state self.printed self.written
+            → map (answer_seen result.2) result.1.items ≡ answers setup g }
     {
-        slot < SLOTS && self.seats[slot as usize]
-    }
-}
-
-/// The run of a text at its start.
-fn first_run(alloc: Global, text: Typed, objects: u32) -> Result<SourceRun, AllocError>
-    ensures { IfOk result (IsRun (texts_of (setup_of text objects)) (limits_of objects) []) }
-{
-    SourceRun::new(alloc, vec![in alloc; text]?, objects, SLOTS)
-}
-
-/// Sets the seat of a slot whose thread moved: it is at a check-in where the move led to one and the thread lives.
-pub(crate) fn set_seat(seats: &mut [bool; 16], slot: u8, leads: bool, lives: bool)
-    ensures { seats.new ≡ slice_set seats.old slot (leads && lives) }
-{
-    if slot < SLOTS {
-        seats[slot as usize] = leads && lives;
+        let (answers, names) = self.state.into_parts();
+        (self.sink, answers, names)
     }
 }

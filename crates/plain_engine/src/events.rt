@@ -1,44 +1,40 @@
-ghost use Rattle.std.specs.Prelude.{◌≡◌, ◌≤◌, List, Some, length, option_map};
-ghost use Rattle.c_tree.specs.BareDef.{BareDef};
+ghost use Rattle.std.specs.Prelude.{◌≡◌, ◌==◌, ◌+◌, ◌^◌, ◌<◌, ◌≤◌, ◌++◌, ℕ, List, count_by, length, option_map, if◌then◌else◌};
 ghost use Rattle.dsu_io.specs.Causes.{Rose};
-ghost use Rattle.source_model.specs.Runs.{SourceMove as Move};
-ghost use Rattle.source_model.specs.Worlds.{Limits, World, is_over};
-ghost use Rattle.source_model.specs.Guards.{Guard, Setup};
-ghost use Rattle.source_runner.specs.SourceRuns.{IsRun, world_after};
+ghost use Rattle.source_model.specs.Guards.{Guard, Setup, lines_written};
 ghost use Rattle.source_runner.specs.Waits.{waiting_of as source_waiting};
 ghost use Rattle.dsu_runs.specs.Engines.{waiting_of};
-ghost use Rattle.plain_engine.specs.Plain.{IsAt, Wrote};
+ghost use Rattle.plain_engine.specs.Plain.{IsRunAt, Wrote, lines_among};
 
 use crate::PlainEngine;
-use crate::engine::{SLOTS, set_seat};
+use crate::state::SLOTS;
 use bytecode::Ending;
 use dsu_io::{Sink, put};
 use dsu_runs::{Engine, Made, Stands, Waiting};
 use name_sets::Names;
 use source_model::OfferAnswer;
-use source_runner::{SourceMove, SourceWait, Stepped};
+use source_runner::SourceWait;
 use std::alloc::AllocError;
 
 impl<S: Sink> Engine for PlainEngine<S> {
     ghost use Rattle.plain_engine.specs.Plain.{IsAt};
 
-    ghost is_at = { λ setup g engine. IsAt setup g engine.run engine.seats engine.printed };
+    ghost is_at = { λ setup g engine. IsAt setup g engine.state engine.printed engine.written };
 
     ghost told = { λ engine. S.told engine.sink };
 
     ghost faults = { λ engine. S.faults engine.sink };
 
-    ghost table = { λ engine. engine.names };
+    ghost table = { λ engine. engine.state.installed.names };
 
     fn slots(&self) -> u8 {
         SLOTS
     }
 
     fn stands(&self, slot: u8) -> Stands {
-        if self.is_at_check_in(slot) {
+        if self.state.is_at_check_in(slot) {
             return Stands::AtCheckIn;
         }
-        if self.run.is_live(slot) {
+        if self.state.run.is_live(slot) {
             Stands::Going
         } else {
             Stands::NoThread
@@ -46,113 +42,124 @@ impl<S: Sink> Engine for PlainEngine<S> {
     }
 
     fn finish(&self) -> Option<Ending> {
-        self.run.ending()
+        self.state.run.ending()
     }
 
     fn can_move(&self, slot: u8) -> bool {
-        self.run.can_move(slot)
+        self.state.run.can_move(slot)
     }
 
     fn waits(&self, slot: u8) -> Option<Waiting<'_>> {
-        if self.is_over() {
+        if self.state.is_over() {
             return None;
         }
-        waiting(self.run.waits(slot))
+        waiting(self.state.run.waits(slot))
     }
 
     fn act(&mut self, slot: u8) -> Result<Made, AllocError> {
-        if self.is_at_check_in(slot) {
+        let moved = self.state.make(slot)?;
+        if !moved {
             return Ok(Made::CannotHappen);
         }
-        // Where the move leads is asked before it is made.
-        let leads = self.run.leads(slot);
-        match self.run.step(SourceMove::Move(slot))? {
-            Stepped::CannotMove => Ok(Made::CannotHappen),
-            Stepped::Done => {
-                let lives = self.run.is_live(slot);
-                set_seat(&mut self.seats, slot, leads, lives);
-                Ok(self.write())
-            }
-        }
+        Ok(self.write())
     }
 
     fn check_in(&mut self, slot: u8) -> Made {
-        if !self.is_at_check_in(slot) {
-            return Made::CannotHappen;
-        }
-        if self.run.ending().is_some() {
-            return Made::CannotHappen;
-        }
-        self.seats[slot as usize] = false;
-        Made::Done
+        made(self.state.pass(slot))
     }
 
     fn offers(&self) -> u8 {
-        0
+        self.state.book.len()
     }
 
     fn due(&self) -> Option<u8> {
-        None
+        self.state.book.due(self.written)
     }
 
     fn open(&self) -> Option<u8> {
-        None
+        self.state.book.open()
     }
 
-    fn may_offer(&self, _k: u8) -> bool {
-        false
+    fn may_offer(&self, k: u8) -> bool {
+        if self.state.has_ended() {
+            return false;
+        }
+        self.state.book.may_offer(k, self.written)
     }
 
-    fn offer(&mut self, _k: u8) -> Made {
-        Made::CannotHappen
+    fn offer(&mut self, k: u8) -> Made {
+        made(self.state.offer(k, self.written))
     }
 
-    fn decide(&mut self, _k: u8) -> Result<Made, AllocError> {
-        Ok(Made::CannotHappen)
+    fn decide(&mut self, k: u8) -> Result<Made, AllocError> {
+        let done = self.state.decide(k)?;
+        Ok(made(done))
     }
 
-    fn withdraw(&mut self, _k: u8) -> Made {
-        Made::CannotHappen
+    fn withdraw(&mut self, k: u8) -> Made {
+        made(self.state.withdraw(k))
     }
 
     fn answers(&self) -> &[OfferAnswer] {
-        &[]
+        self.state.book.answers()
     }
 
     fn names(&self) -> &Names {
-        &self.names
+        self.state.installed.names()
     }
 }
 
-impl<S: Sink> PlainEngine<S> {
-    /// Whether no move can be made any more.
-    fn is_over(&self) -> bool
-        ensures { (setup : Setup) (g : Guard) → IsAt setup g self.now.run self.now.seats self.now.printed
-            → result ≡ is_over g.world }
-    {
-        if self.run.misused() {
-            return true;
-        }
-        self.run.ending().is_some()
-    }
+/// What came of an event that was made where it could be, and prints nothing.
+fn made(done: bool) -> Made
+    ensures { result ≡ (if done then Made.Done else Made.CannotHappen) }
+{
+    if done { Made::Done } else { Made::CannotHappen }
+}
 
-    /// Hands the sink what was printed since the last time.
+/// The sum of two numbers, where it is one.
+fn sum(a: usize, b: usize) -> usize
+    ensures { a + b < 2 ^ 64 → result ≡ a + b }
+{
+    a.saturating_add(b)
+}
+
+/// How many lines end in some bytes.
+fn lines_in(bytes: &[u8]) -> usize
+    ensures { result ≡ count_by (λ c. c == 10) bytes.now }
+{
+    let mut lines = 0usize;
+    for byte in bytes {
+        if *byte == b'\n' {
+            lines += 1;
+        }
+    }
+    lines
+}
+
+impl<S: Sink> PlainEngine<S> {
+    /// Hands the sink what was printed since the last time, and counts its lines.
     fn write(&mut self) -> Made
-        ensures wrote { (texts : List (List BareDef)) (limits : Limits) (moves : List Move) (w : World)
-            → IsRun texts limits moves self.old.run → world_after texts limits moves ≡ Some w
-            → self.old.printed ≤ length w.output
-            → Wrote w.output self.old.printed (S.told self.old.sink) (S.told self.new.sink) self.new.printed result }
-        ensures same { (self.new.run ≡ self.old.run) × (self.new.seats ≡ self.old.seats) }
+        ensures wrote { (setup : Setup) (g : Guard) → IsRunAt setup g self.old.state.run
+            → self.old.printed ≤ length g.world.output
+            → Wrote g.world.output self.old.printed (S.told self.old.sink) (S.told self.new.sink)
+            self.new.printed result }
+        ensures lines { (before more : List ℕ) (setup : Setup) (g : Guard)
+            → IsRunAt setup g self.old.state.run → g.world.output ≡ before ++ more
+            → self.old.printed ≡ length before → self.old.written ≡ lines_among before
+            → result ≡ Made.Done → self.new.written ≡ lines_written g.world }
+        ensures same { self.new.state ≡ self.old.state }
         ensures later { S.faults self.old.sink ≤ S.faults self.new.sink }
         ensures cause { result ≡ Made.SinkFailed → Rose (S.faults self.old.sink) (S.faults self.new.sink) }
     {
-        let output = self.run.output();
+        let output = self.state.run.output();
         // An output never shrinks.
         if output.len() < self.printed {
             return Made::Done;
         }
-        match put(&mut self.sink, &output[self.printed..]) {
+        let piece = &output[self.printed..];
+        match put(&mut self.sink, piece) {
             Ok(()) => {
+                self.written = sum(self.written, lines_in(piece));
                 self.printed = output.len();
                 Made::Done
             }

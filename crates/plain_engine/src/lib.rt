@@ -1,13 +1,23 @@
 //! The plain engine: the first engine below `dsu_runs`, made of the source machine.
 //!
-//! [`PlainEngine`] makes each move by `source_runner`, remembers which threads are at a check-in, and hands what a move
-//! prints to its sink within that move. Its contract is that of the trait `Engine`: it is at the guard of the definitions
-//! that the events lead to. It takes no offers. It is slow, as the source machine is, and takes memory at each move.
+//! [`PlainEngine`] makes each move by `source_runner`, and hands what a move prints to its sink within that
+//! move. Beside the machine it keeps of each slot whether its thread is at a check-in, whether it is pinned,
+//! and from where its row in force comes; it decides an offer by `offer_decision`, and installs what is
+//! admitted. Its contract is that of the trait `Engine`: it is at the guard of the definitions that the
+//! events lead to. It is slow, as the source machine is, and takes memory at each move and at each decision.
+//! Once a definition was misused no thread moves any more, and each decision is answered by out of memory.
 //!
-//! Read in this order: `engine` (the type, with its start and what is asked of it), `events` (the trait's calls).
+//! Read in this order: `seat` (what is kept of a slot), `moves` (the slots after a move), `seen` (the slots
+//! as a decision sees them), `state` (the state beside the output, its moves and check-ins), `decision` (the
+//! decision on an offer), `engine` (the type, with its start), `events` (the trait's calls).
 #![tactic(auto)]
 
+mod decision;
 mod engine;
 mod events;
+mod moves;
+mod seat;
+mod seen;
+mod state;
 
 pub use engine::PlainEngine;

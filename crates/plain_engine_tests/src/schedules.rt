@@ -23,7 +23,7 @@ fn engine(alloc: Global, text: &str, failing: &[u64]) -> Result<PlainEngine<Memo
         return Err(Fail::new("the text has a fault"));
     };
     let sink = MemorySink::with_room(alloc, 100, failing.to_vec(alloc)?)?;
-    match PlainEngine::new(alloc, typed, 100, sink) {
+    match PlainEngine::new(alloc, typed, Vec::new(alloc), Vec::new(alloc), 100, sink) {
         Ok(engine) => Ok(engine),
         Err(_) => Err(Fail::new("out of memory")),
     }
@@ -31,9 +31,8 @@ fn engine(alloc: Global, text: &str, failing: &[u64]) -> Result<PlainEngine<Memo
 
 /// Whether a run stopped for this cause after these events and bytes.
 fn is(ran: Ran<PlainEngine<MemorySink>>, cause: StopCause, events: &[Event], out: &str) -> bool {
-    ran.cause == cause
-        && ran.history.as_slice() == events
-        && ran.engine.into_sink().bytes() == out.as_bytes()
+    let (sink, _answers, _names) = ran.engine.into_parts();
+    ran.cause == cause && ran.history.as_slice() == events && sink.bytes() == out.as_bytes()
 }
 
 /// `main` is entered, passes the check-in, prints and returns.

@@ -2,9 +2,11 @@
 //! chosen by hand, by their public calls alone.
 //!
 //! - `command_line`: `dsu_cli`
-//! - `reports`: `dsu_report`
+//! - `reports` and `answers`: `dsu_report`
 #![tactic(auto)]
 
+#[cfg(test)]
+mod answers;
 #[cfg(test)]
 mod command_line;
 #[cfg(test)]

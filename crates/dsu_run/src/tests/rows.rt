@@ -165,7 +165,39 @@ static REPLAYS: [Row; 9] = [
 ];
 
 /// Faults of the program, which come before those of the journal.
-static FAULTS: [Row; 11] = [
+static FAULTS: [Row; 15] = [
+    (
+        "run x.c --offer y.c@1",
+        SUM,
+        "",
+        12,
+        "",
+        "y.c: read fault\n",
+    ),
+    (
+        "run x.c --offer x.c@0 --offer x.j@1",
+        SUM,
+        "int main(void) { return x; }",
+        11,
+        "",
+        "x.j:1:25: unknown name\n",
+    ),
+    (
+        "replay x.c x.j --offer y.c@0",
+        SUM,
+        "",
+        14,
+        "",
+        "x.j: line 1: header\n",
+    ),
+    (
+        "replay x.c x.j --offer y.c@0",
+        SUM,
+        "ginseng-journal 1\ns 0\ns 0\n",
+        12,
+        "",
+        "y.c: read fault\n",
+    ),
     ("run x.c", "", "", 11, "", "x.c:1:1: no main\n"),
     (
         "run x.c",
@@ -317,10 +349,10 @@ static UNFIT: [&str; 14] = [
     "runs x.c",
     "run x.c --moves=0",
     "run x.c --journal=1",
-    "run x.c --offer x.c@1",
+    "run x.c --offer x.c",
     "run x.c --workers 2",
     "replay x.c",
-    "replay x.c x.j --offer x.c@1",
+    "replay x.c --offer x.c@1",
     "check --journal x.c",
     "changes x.c",
     "gen 7 1",

@@ -1,5 +1,6 @@
 use Rattle.std.proofs.Common.{List, inl, refl, subst}
 use Rattle.bytecode.specs.declared.run.Event.{Event}
+use Rattle.source_model.specs.Journals.{answers}
 use Rattle.dsu_commands.specs.Calls.{Shows, output_of}
 use Rattle.dsu_commands.specs.Reports.{run_text}
 use Rattle.dsu_commands.proofs.finish.report_end.Goals as goal
@@ -12,6 +13,6 @@ returns-in-Ok g c = λ setup x at same.
       shown =
           subst {A = List Event}
           (λ events. Shows (output_of g.E.Sink.told g.E.Sink.faults c.args.err.now c.write_run.new.sink)
-          (run_text c.args.journal events c.args.ending x.world))
+          (run_text c.args.journal events (answers setup x) c.args.texts.now c.args.ending x.world))
           c.deref.ensures.value (c.in-Ok.ensures.bytes setup x at same);
     })

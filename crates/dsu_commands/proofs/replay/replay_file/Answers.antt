@@ -5,9 +5,9 @@ use Rattle.dsu_cli.specs.declared.job.Job.TheVariants.{Replay}
 use Rattle.dsu_runs.specs.Replays.{events_of}
 use Rattle.dsu_runs.specs.Setups.{setup_of}
 use Rattle.input_files.specs.Sources.{HoldsProgram}
-use Rattle.dsu_commands.specs.Jobs.{IsKnownJournal, IsKnownProgram, KnownJournalFault}
-use Rattle.dsu_commands.proofs.Answering.{answered, at_program, first_of_two, or_else, program_excused, replay_answers}
-use Rattle.dsu_commands.proofs.Reading.{is_answered}
+use Rattle.dsu_commands.specs.Jobs.{IsKnownJournal, IsKnownProgram, KnownProgramFault, KnownReplayFault, lines_of}
+use Rattle.dsu_commands.proofs.Answering.{answered, at_program, first_before, known_since, or_else, program_excused, replay_answers, replay_known_since}
+use Rattle.dsu_commands.proofs.Reading.{is_answered, later_fault, no_answer}
 use Rattle.dsu_commands.proofs.replay.replay_file.Goals as goal
 
 pub returns-in-Ok-clause-answers : goal.returns-in-Ok-clause-answers
@@ -18,13 +18,25 @@ returns-in-Ok-clause-answers g c =
     c.in-Ok.ensures.same c.in-Ok.ensures.later c.replay_program.ensures.answers
 
 pub returns-in-Ok-clause-complete : goal.returns-in-Ok-clause-complete
-returns-in-Ok-clause-complete g c = λ (program, known, lines, journal, legal).
+returns-in-Ok-clause-complete g c = λ (program, known, lines, journal, programs, all, legal).
     let content = g.F.Files.content c.args.files.now in
     let job = c.args.job.now in
     let read = c.in-Ok.ensures.complete program (subst (λ f. IsKnownProgram (content f) program) (sym c.as_str-file.ensures) known) in
-    c.replay_program.ensures.complete lines
+    c.replay_program.ensures.complete lines programs
     (subst (λ k. IsKnownJournal k lines) (sym (c.in-Ok.ensures.same job.journal)) journal)
-    (λ rules are. subst {A = Program} (λ p. IsLegal rules (setup_of p job.objects) (events_of lines)) (sym read) (legal rules are))
+    (known_since job.offers content (g.F.Files.content c.program_of.new.files) programs c.in-Ok.ensures.same all)
+    (λ rules are.
+    subst {A = Program} (λ p. IsLegal rules (setup_of p programs (lines_of job.offers) job.objects) (events_of lines)) (sym read) (legal rules are))
+
+pub returns-in-Ok-clause-first : goal.returns-in-Ok-clause-first
+returns-in-Ok-clause-first g c = λ line file fault.
+    let content = g.F.Files.content c.args.files.now in
+    let job = c.args.job.now in
+    let later =
+    later_fault fault (λ wrong. no_answer c.in-Ok.program line (c.in-Ok.ensures.first line
+    (subst (λ f. KnownProgramFault (content f) line) (sym c.as_str-file.ensures) wrong.1))) in
+    c.replay_program.ensures.first line file
+    (replay_known_since job.journal job.offers content (g.F.Files.content c.program_of.new.files) line file c.in-Ok.ensures.same later.2)
 
 pub returns-in-Err-clause-answers : goal.returns-in-Err-clause-answers
 returns-in-Err-clause-answers g c =
@@ -44,6 +56,6 @@ pub returns-in-Err-clause-first : goal.returns-in-Err-clause-first
 returns-in-Err-clause-first g c = λ line at fault.
     let content = g.F.Files.content c.args.files.now in
     let file = c.as_str-file.result.now in
-    first_of_two content c.in-Err.line file c.args.job.now.file c.as_str-file.ensures
-    (KnownJournalFault (content c.args.job.now.journal)) c.args.job.now.journal _ c.stop.ensures c.in-Err.ensures.complete
-    (λ known is. is_answered known c.in-Err.line (c.in-Err.ensures.first known is)) line at fault
+    let job = c.args.job.now in
+    first_before content c.in-Err.line file job.file c.as_str-file.ensures (KnownReplayFault job.journal job.offers content) _ c.stop.ensures
+    c.in-Err.ensures.complete (λ known is. is_answered known c.in-Err.line (c.in-Err.ensures.first known is)) line at fault

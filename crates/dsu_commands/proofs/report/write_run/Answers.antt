@@ -1,18 +1,21 @@
 use Rattle.std.proofs.lemmas.Result.{err_from_is_err_and}
+use Rattle.source_model.specs.Journals.{answers}
 use Rattle.dsu_journal.specs.Journals.{journal_text}
 use Rattle.dsu_journal.proofs.Pages.{AppendsFront-first, PutAppends-then}
-use Rattle.dsu_commands.specs.Reports.{ending_text}
-use Rattle.dsu_commands.proofs.Printing.{with_journal}
+use Rattle.dsu_commands.proofs.Printing.{result_text, with_journal}
 use Rattle.dsu_commands.proofs.report.write_run.Goals as goal
 
 pub returns-in_err-print_journal-clause-bytes : goal.returns-in_err-print_journal-clause-bytes
 returns-in_err-print_journal-clause-bytes g c = λ setup x at same.
     let p = err_from_is_err_and c.from_residual.result c.from_residual.ensures.1 in
-    rw (p.1, with_journal c.args.journal c.args.history.now c.args.ending x.world c.if-not-journal.false)
-    (AppendsFront-first _ _ (journal_text c.args.history.now) (ending_text c.args.ending x.world) c.in_err-print_journal.ensures.bytes)
+    let a = c.args in
+    rw (p.1, with_journal a.journal a.history.now (answers setup x) a.texts.now a.ending x.world c.if-not-journal.false)
+    (AppendsFront-first _ _ (journal_text a.history.now) (result_text (answers setup x) a.texts.now a.ending x.world)
+    c.in_err-print_journal.ensures.bytes)
 
 pub returns-clause-bytes : goal.returns-clause-bytes
 returns-clause-bytes g c = λ setup x at same.
-    rw (with_journal c.args.journal c.args.history.now c.args.ending x.world c.if-not-journal.false)
-    (PutAppends-then _ _ _ c.write_end-2.result (journal_text c.args.history.now) (ending_text c.args.ending x.world) c.in_ok-print_journal.ensures.bytes
-    (c.write_end-2.ensures.bytes setup x at same))
+    let a = c.args in
+    rw (with_journal a.journal a.history.now (answers setup x) a.texts.now a.ending x.world c.if-not-journal.false)
+    (PutAppends-then _ _ _ c.write_result-2.result (journal_text a.history.now) (result_text (answers setup x) a.texts.now a.ending x.world)
+    c.in_ok-print_journal.ensures.bytes (c.write_result-2.ensures.bytes setup x at same))

@@ -1,7 +1,8 @@
 use Rattle.std.proofs.Common.{◌≤◌}
 use Rattle.std.specs.Io.KnownBytes.{Appends}
 use Rattle.source_model.specs.Guards.{Guard, Setup}
-use Rattle.dsu_commands.proofs.Waiting.{lines_before}
+use Rattle.dsu_report.proofs.Lines.{lines_before}
+use Rattle.dsu_commands.specs.Reports.{wait_in}
 use Rattle.dsu_commands.proofs.report.write_waits.Given as goal
 
 -- the lines of the slots so far were appended
@@ -9,6 +10,6 @@ abbrev pub invariant-loop-slot : goal.invariant-loop-slot
 invariant-loop-slot g l =
     record {
       lines : (setup : Setup) (x : Guard) → g.T.Engine.is_at setup x l.engine
-          → Appends (g.S.Sink.told l.initial.sink) (g.S.Sink.told l.sink) (lines_before x.world l.slot);
+          → Appends (g.S.Sink.told l.initial.sink) (g.S.Sink.told l.sink) (lines_before (wait_in x.world) l.slot);
       later : g.S.Sink.faults l.initial.sink ≤ g.S.Sink.faults l.sink;
     }

@@ -1,7 +1,16 @@
-use Rattle.std.proofs.Common.{refl}
-use Rattle.plain_engine.proofs.NoOffers.{never_offers}
+use Rattle.std.proofs.Common.{sym, subst}
+use Rattle.bytecode.specs.declared.run.Event.TheVariants.{Offer}
+use Rattle.dsu_runs.specs.Engines.{MakesAt}
+use Rattle.plain_engine.specs.Plain.{IsAt}
+use Rattle.plain_engine.proofs.Engines.{comes, is_written}
 use Rattle.plain_engine.proofs.events.PlainEngineEngine.offer.Goals as goal
 
 pub returns-clause-made : goal.returns-clause-made
 returns-clause-made g c = λ setup x at.
-    record { never = λ rules rows. never_offers rules setup x c.args._k at.offers; stays = at; silent = refl }
+    let e = c.args.self.now in
+    let told = g.S.Sink.told e.sink in
+    subst (MakesAt (λ y. IsAt setup y c.offer.new.self e.printed e.written) setup (Offer c.args.k) x told told) (sym c.made.ensures)
+    (comes setup (Offer c.args.k) x e.state c.offer.new.self e.printed e.written told c.offer.result at (c.offer.ensures setup x at.state at.written))
+
+pub returns-clause-written : goal.returns-clause-written
+returns-clause-written g c = is_written c.offer.result c.made.result c.made.ensures

@@ -1,0 +1,49 @@
+use Rattle.std.proofs.Common.{◌≡◌, ◌⊎◌, ◌∙◌, List, [], ap, inr, subst, sym}
+use Rattle.dsu_cli.specs.declared.job.Offer.{Offer}
+use Rattle.dsu_report.specs.declared.fault.FaultLine.TheVariants.{Memory}
+use Rattle.dsu_runs.specs.Setups.{setup_of}
+use Rattle.dsu_commands.specs.Jobs.{AreKnownPrograms, AreSources, KnownOfferFault, OfferStops, lines_of}
+use Rattle.dsu_commands.specs.Plans.{BySchedule}
+use Rattle.dsu_commands.proofs.Answering.{excused, first_stopped_at, offers_run, offers_stop}
+use Rattle.dsu_commands.proofs.Outcomes.{schedule_done}
+use Rattle.dsu_commands.proofs.run.run_with_offers.Goals as goal
+
+pub returns-in-Ok-clause-answers : goal.returns-in-Ok-clause-answers
+returns-in-Ok-clause-answers g c =
+    let job = c.args.job.now in
+    let offers = c.in-Ok.offers in
+    let content = g.F.Files.content c.args.files.now in
+    offers_run (BySchedule job.moves) content _ _ c.args.program job.offers job.objects job.journal [] _
+    offers.texts.items offers.programs.items offers.lines.items
+    (subst {A = List Offer} (λ os. AreSources content os offers.texts.items offers.programs.items) c.as_slice.ensures c.in-Ok.ensures.read)
+    (c.in-Ok.ensures.lines ∙ ap lines_of c.as_slice.ensures) c.run_program.ensures
+
+pub returns-in-Ok-clause-complete : goal.returns-in-Ok-clause-complete
+returns-in-Ok-clause-complete g c = λ programs known.
+    let job = c.args.job.now in
+    let offers = c.in-Ok.offers in
+    schedule_done job.moves (setup_of c.args.program offers.programs.items offers.lines.items job.objects) offers.texts.items job.journal [] _
+    c.run_program.ensures
+
+pub returns-in-Err-clause-answers : goal.returns-in-Err-clause-answers
+returns-in-Err-clause-answers g c =
+    let job = c.args.job.now in
+    let content = g.F.Files.content c.args.files.now in
+    let counted = g.F.Files.faults c.args.files.now in
+    let count = g.F.Files.faults c.offers_in.new.files in
+    offers_stop (BySchedule job.moves) content counted count c.args.program job.offers job.objects job.journal [] _ c.in-Err.line c.in-Err.file.now
+    c.stop.ensures
+    (subst {A = List Offer} (λ os. (c.in-Err.line ≡ Memory) ⊎ OfferStops os content counted count c.in-Err.line c.in-Err.file.now)
+    c.as_slice.ensures c.in-Err.ensures.fault)
+
+pub returns-in-Err-clause-complete : goal.returns-in-Err-clause-complete
+returns-in-Err-clause-complete g c = λ programs known.
+    inr (excused _ _ _ c.stop.ensures
+    (c.in-Err.ensures.complete programs
+    (subst {A = List Offer} (λ os. AreKnownPrograms (g.F.Files.content c.args.files.now) os programs) (sym c.as_slice.ensures) known)))
+
+pub returns-in-Err-clause-first : goal.returns-in-Err-clause-first
+returns-in-Err-clause-first g c = λ line file fault.
+    first_stopped_at _ _ line _ file c.stop.ensures
+    (c.in-Err.ensures.first line file
+    (subst {A = List Offer} (λ os. KnownOfferFault os (g.F.Files.content c.args.files.now) line file) (sym c.as_slice.ensures) fault))

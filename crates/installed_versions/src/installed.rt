@@ -1,0 +1,165 @@
+//! The versions of a run so far.
+ghost use Rattle.std.specs.Prelude.{◌≡◌, ℕ, ◌<◌, List, [], ◌∷◌, ◌++◌, false, length, map, string_bytes, IfOk, OnOk, OnErr};
+ghost use Rattle.c_semantics.specs.SourceTexts.{Text, text_of};
+ghost use Rattle.c_semantics.specs.Store.{store};
+ghost use Rattle.c_tree.specs.BareExpr.{Bytes};
+ghost use Rattle.code_store.specs.Limits.{are_too_many};
+ghost use Rattle.name_sets.specs.Texts.{IsTable};
+ghost use Rattle.code_store.specs.Stored.{meant_body, IsStoreOf};
+ghost use Rattle.patch_build.specs.Tables.{with_texts};
+ghost use Rattle.patch_build.specs.Versions.{AreVersions, IsTableOf};
+ghost use Rattle.source_model.specs.Patches.{all_names};
+ghost use Rattle.installed_versions.specs.Installed.{IsInstalled, IsSeenAs, Replaces};
+
+use brought_bodies::first_bodies;
+use c_types::Typed;
+use code_store::{Store, StoredBody};
+use name_sets::Names;
+use patch_build::Versions;
+use sorted_names::names_in_order;
+use std::alloc::{AllocError, Global};
+use std::mem;
+
+/// The versions of a run so far.
+#[derive(Drop)]
+pub struct Installed {
+    /// How many there are.
+    count: u32,
+    /// The names of all of them, and no others.
+    names: Names,
+    /// The bodies that they brought.
+    store: Store,
+}
+
+/// What an install replaced.
+#[derive(Drop)]
+pub struct Replaced {
+    /// The names before it.
+    names: Names,
+    /// How many bodies there were.
+    bodies: usize,
+}
+
+impl Installed {
+    /// The first version. `AllocError` is also the answer where a function of the text uses a name that the
+    /// text doesn't define, or where the text has more names, check-ins or tokens than a version may; no
+    /// accepted text does.
+    pub fn first(alloc: Global, text: &Typed) -> Result<Installed, AllocError>
+        ensures { IfOk result (λ i. IsInstalled (text_of text.now ∷ []) i.count i.names i.store) }
+    {
+        let names = names_of(alloc, text)?;
+        let store = store_of(alloc, &names, text)?;
+        Ok(Installed {
+            count: 1,
+            names,
+            store,
+        })
+    }
+
+    /// How many versions there are; so the number of the last.
+    pub fn count(&self) -> u32
+        ensures { result ≡ self.now.count }
+    {
+        self.count
+    }
+
+    /// The names of all versions.
+    pub fn names(&self) -> &Names
+        ensures { result.now ≡ self.now.names }
+    {
+        &self.names
+    }
+
+    /// The names of all versions, alone.
+    pub fn into_names(self) -> Names
+        ensures { result ≡ self.names }
+    {
+        self.names
+    }
+
+    /// The versions as a decision sees them, with the text of the last.
+    pub fn versions<'a>(&'a self, last: &'a Typed) -> Versions<'a>
+        ensures same { IsSeenAs result self.now.count self.now.names self.now.store }
+        ensures versions { (texts before : List Text)
+            → IsInstalled texts self.now.count self.now.names self.now.store
+            → texts ≡ before ++ text_of last.now ∷ [] → AreVersions texts result }
+    {
+        Versions {
+            count: self.count,
+            names: &self.names,
+            store: &self.store,
+            last,
+        }
+    }
+
+    /// Adds what a patch brings: the names of all versions with the new one, and its bodies. What it replaced
+    /// comes back, so that the install can be taken back. Out of memory, nothing changes.
+    pub fn install(&mut self, names: Names, bodies: Vec<StoredBody>) -> Result<Replaced, AllocError>
+        requires few { self.old.count < 64 }
+        requires room { (table : List Bytes) → are_too_many
+            (map (meant_body table) self.old.store ++ map (meant_body table) bodies.items) ≡ false }
+        ensures installed { (texts : List Text) (next : Text)
+            → IsInstalled texts self.old.count self.old.names self.old.store
+            → IsTableOf (all_names (texts ++ next ∷ [])) names
+            → IsStoreOf names (store (texts ++ next ∷ [])) (self.old.store ++ bodies.items)
+            → OnOk result (IsInstalled (texts ++ next ∷ []) self.new.count self.new.names self.new.store) }
+        ensures names { OnOk result (self.new.names ≡ names) }
+        ensures replaced { IfOk result (Replaces self.old self.new) }
+        ensures fault { OnErr result (self.new ≡ self.old) }
+    {
+        let before = self.store.bodies().len();
+        self.store.add_all(bodies)?;
+        self.count += 1;
+        Ok(Replaced {
+            names: mem::replace(&mut self.names, names),
+            bodies: before,
+        })
+    }
+
+    /// Takes the last install back.
+    pub fn take_back(&mut self, replaced: Replaced)
+        ensures { (before : Installed) → Replaces before self.old replaced → self.new ≡ before }
+    {
+        self.store.truncate(replaced.bodies);
+        self.names = replaced.names;
+        self.count = self.count.saturating_sub(1);
+    }
+}
+
+/// The table of the names of a text, in the order of their bytes.
+fn names_of(alloc: Global, text: &Typed) -> Result<Names, AllocError>
+    ensures { IfOk result (λ names. IsTableOf (all_names (text_of text.now ∷ [])) names) }
+{
+    let sorted = names_in_order(alloc, text.program().definitions.as_slice())?;
+    let mut names = Names::new(alloc);
+    add_all(&mut names, sorted.as_slice())?;
+    Ok(names)
+}
+
+/// Adds texts to a table in their order.
+fn add_all(names: &mut Names, texts: &[String]) -> Result<(), AllocError>
+    ensures { OnOk result (names.new ≡ with_texts names.old (map string_bytes texts.now)) }
+{
+    for text in texts {
+        let Ok(_) = names.add(text.as_str()) else {
+            return Err(AllocError);
+        };
+    }
+    Ok(())
+}
+
+/// The store of the bodies that a text brings as the first version.
+fn store_of(alloc: Global, names: &Names, text: &Typed) -> Result<Store, AllocError>
+    ensures { IsTable names.now
+        → IfOk result (λ stored. IsStoreOf names.now (store (text_of text.now ∷ [])) stored) }
+{
+    let Ok(bodies) = first_bodies(alloc, names, text) else {
+        return Err(AllocError);
+    };
+    let mut store = Store::new(alloc);
+    if !store.has_room(&bodies) {
+        return Err(AllocError);
+    }
+    store.add_all(bodies)?;
+    Ok(store)
+}

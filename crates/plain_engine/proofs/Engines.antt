@@ -1,0 +1,83 @@
+-- The events of the engine: those of its state, with what the sink has.
+use Rattle.std.proofs.Common.{◌≡◌, ℕ, ◌≤◌, Bool, true, false, List, [], ◌++◌, length, Option, Some, refl, sym, ◌∙◌, ap, subst, arith, length-append}
+use Rattle.std.specs.Prelude.{◌≢◌, Ok, Result as Outcome, if◌then◌else◌}
+use Rattle.std.specs.declared.alloc.AllocError.{AllocError}
+use Rattle.std.proofs.lemmas.List.{append-nil}
+use Rattle.bytecode.specs.declared.run.Event.{Event}
+use Rattle.source_model.specs.Guards.{Guard, Setup, lines_written}
+use Rattle.dsu_runs.specs.Engines.{Makes, MakesAt, Refuses}
+use Rattle.dsu_runs.specs.declared.engine.Made.{Made}
+use Rattle.dsu_runs.specs.declared.engine.Made.TheVariants.{Done, CannotHappen, SinkFailed}
+use Rattle.plain_engine.specs.declared.state.State.{State}
+use Rattle.plain_engine.specs.Plain.{IsAt, IsStateAt, Wrote, lines_among}
+use Rattle.plain_engine.specs.Steps.{ComesTo, Happened, Stayed}
+use Rattle.plain_engine.proofs.Printing.{grew_all, grew_partly}
+
+-- an event that can't happen
+pub refuses : (setup : Setup) (e : Event) (g : Guard) (old new : State) (printed written : ℕ) (told : Option (List ℕ))
+    → IsAt setup g old printed written → Stayed setup e g new
+    → Refuses (λ x. IsAt setup x new printed written) setup e g told told
+refuses setup e g old new printed written told at h = record {
+  never = h.never;
+  stays = record { state = h.stays; printed = at.printed; written = at.written };
+  silent = refl;
+}
+
+-- one that prints nothing
+quietly : (setup : Setup) (e : Event) (g : Guard) (old new : State) (printed written : ℕ) (told : Option (List ℕ))
+    → IsAt setup g old printed written → Happened setup e g new []
+    → Makes (λ x. IsAt setup x new printed written) setup e g told told
+quietly setup e g old new printed written told at h = record {
+  after = h.after;
+  happens = h.happens;
+  there = record {
+    state = h.there;
+    printed = at.printed ∙ ap length (sym same);
+    written = at.written ∙ ap lines_among (sym same);
+  };
+  grew = λ before is. is ∙ ap (λ o. Some (before ++ o)) (sym same);
+}
+  where
+    same : h.after.world.output ≡ g.world.output
+    same = h.grew ∙ append-nil g.world.output
+
+pub comes : (setup : Setup) (e : Event) (g : Guard) (old new : State) (printed written : ℕ) (told : Option (List ℕ)) (done : Bool)
+    → IsAt setup g old printed written → ComesTo setup e g new done
+    → MakesAt (λ x. IsAt setup x new printed written) setup e g told told (if done then Done else CannotHappen)
+comes setup e g old new printed written told true at h = quietly setup e g old new printed written told at h
+comes setup e g old new printed written told false at h = refuses setup e g old new printed written told at h
+
+-- a move, whose print was handed to the sink
+pub moves : (setup : Setup) (e : Event) (g : Guard) (old mid new : State) (printed written printed2 written2 : ℕ)
+    (told now : Option (List ℕ)) (more : List ℕ) (answer : Made)
+    → IsAt setup g old printed written → (h : Happened setup e g mid more) → new ≡ mid
+    → Wrote h.after.world.output printed told now printed2 answer
+    → (answer ≡ Done → written2 ≡ lines_written h.after.world)
+    → MakesAt (λ x. IsAt setup x new printed2 written2) setup e g told now answer
+moves setup e g old mid new printed written printed2 written2 told now more Done at h same wrote lines = record {
+  after = h.after;
+  happens = h.happens;
+  there = record { state = subst (IsStateAt setup h.after) (sym same) h.there; printed = wrote.0; written = lines refl };
+  grew = grew_all told now g.world.output more h.after.world.output printed h.grew at.printed wrote.1;
+}
+moves setup e g old mid new printed written printed2 written2 told now more SinkFailed at h same wrote lines = record {
+  after = h.after;
+  happens = h.happens;
+  grew = grew_partly told now g.world.output more h.after.world.output printed wrote.0 h.grew at.printed wrote.1;
+}
+moves setup e g old mid new printed written printed2 written2 told now more CannotHappen at h same wrote lines = absurd wrote
+
+-- what was printed is where the sink's bytes end, or after it
+pub within : (setup : Setup) (e : Event) (g : Guard) (old mid : State) (printed written : ℕ) (more : List ℕ)
+    → IsAt setup g old printed written → (h : Happened setup e g mid more) → printed ≤ length h.after.world.output
+within setup e g old mid printed written more at h =
+    let long = ap length h.grew ∙ length-append g.world.output more in let from = at.printed in omega (arith, from, long)
+
+-- nothing is said of the sink
+pub is_written : (done : Bool) (answer : Made) → answer ≡ (if done then Done else CannotHappen) → answer ≢ SinkFailed
+is_written true answer is failed = let e = sym is ∙ failed in cc
+is_written false answer is failed = let e = sym is ∙ failed in cc
+
+pub is_written_ok : (done : Bool) (answer : Made) (r : Outcome Made AllocError) → answer ≡ (if done then Done else CannotHappen)
+    → r ≡ Ok answer → r ≢ Ok SinkFailed
+is_written_ok done answer r is was failed = let e : answer ≡ SinkFailed = cc in is_written done answer is e

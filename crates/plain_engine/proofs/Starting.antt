@@ -1,0 +1,130 @@
+-- The start of a run.
+use Rattle.std.proofs.Common.{◌≡◌, ℕ, zero, suc, false, List, [], ◌∷◌, map, length, slice_get, slice_index_or, Option, Some, refl, sym, ◌∙◌, ap, subst, arith}
+use Rattle.std.specs.Prelude.{◌-◌, option_map, codes, replicate}
+use Rattle.std.proofs.lemmas.Bool.{false≢true}
+use Rattle.std.proofs.lemmas.List.{length-replicate}
+use Rattle.std.proofs.lemmas.Option.{none-some, same_Some}
+use Rattle.c_tree.specs.declared.def.Program.{Program}
+use Rattle.c_semantics.specs.SourceTexts.{text_of}
+use Rattle.c_semantics.specs.Store.{Start}
+use Rattle.source_model.specs.Runs.{is_live}
+use Rattle.source_model.specs.Worlds.{Free, in_slot, main_enter}
+use Rattle.source_model.specs.Guards.{Guard, Offer, Setup, bodies_of, empty_seat, first_guard}
+use Rattle.source_model.specs.Guards as guard
+use Rattle.source_programs.specs.Programs.{text_in}
+use Rattle.source_runner.specs.declared.run.SourceRun.{SourceRun}
+use Rattle.source_runner.specs.SourceRuns.{IsRun, trees_of, words_of}
+use Rattle.resolved_tree.specs.Nodes.{word}
+use Rattle.resolved_tree.specs.declared.words.Word.{Word}
+use Rattle.installed_versions.specs.Installed.{IsInstalled}
+use Rattle.dsu_runs.specs.Books.{IsBook}
+use Rattle.dsu_runs.specs.Setups.{limits_of, offers_of, setup_of}
+use Rattle.plain_engine.specs.declared.seat.Seat.{Seat}
+use Rattle.plain_engine.specs.declared.state.State.{State}
+use Rattle.plain_engine.specs.Kept.{IsSeat, empty, started}
+use Rattle.plain_engine.specs.Plain.{AreSeats, IsRunAt, IsStateAt}
+use Rattle.plain_engine.proofs.SlotsAfter.{entered}
+
+-- the texts of a setup
+offered_texts : (programs : List Program) (lines : List ℕ) → length programs ≡ length lines
+    → map (λ (o : Offer). o.text) (offers_of programs lines) ≡ map text_of programs
+offered_texts [] lines e = refl
+offered_texts (p ∷ ps) [] e = absurd (omega (arith, e))
+offered_texts (p ∷ ps) (n ∷ ns) e = ap (λ ts. text_of p ∷ ts) (offered_texts ps ns (omega (arith, e)))
+
+offered_definitions : (programs : List Program) (lines : List ℕ) → length programs ≡ length lines
+    → map (λ (o : Offer). o.text.definitions) (offers_of programs lines) ≡ map text_in programs
+offered_definitions [] lines e = refl
+offered_definitions (p ∷ ps) [] e = absurd (omega (arith, e))
+offered_definitions (p ∷ ps) (n ∷ ns) e = ap (λ ts. text_in p ∷ ts) (offered_definitions ps ns (omega (arith, e)))
+
+pub lines_are : (programs : List Program) (lines : List ℕ) → length programs ≡ length lines
+    → lines ≡ map (λ (o : Offer). o.lines) (offers_of programs lines)
+lines_are [] [] e = refl
+lines_are [] (n ∷ ns) e = absurd (omega (arith, e))
+lines_are (p ∷ ps) [] e = absurd (omega (arith, e))
+lines_are (p ∷ ps) (n ∷ ns) e = ap (λ ls. n ∷ ls) (lines_are ps ns (omega (arith, e)))
+
+-- the run at its start
+pub first_run_at : (text : Program) (programs : List Program) (lines : List ℕ) (objects : ℕ) (r : SourceRun)
+    → length programs ≡ length lines → IsRun (map text_in (text ∷ programs)) (limits_of objects) [] r
+    → trees_of r ≡ text ∷ programs
+    → IsRunAt (setup_of text programs lines objects) (first_guard (setup_of text programs lines objects)) r
+first_run_at text programs lines objects r equal is trees = record {
+  moves = [];
+  run = subst (λ ts. IsRun (text_in text ∷ ts) (limits_of objects) [] r) (sym (offered_definitions programs lines equal)) is;
+  world = refl;
+  trees = ap (map text_of) trees ∙ ap (λ ts. text_of text ∷ ts) (sym (offered_texts programs lines equal));
+  versions = refl;
+}
+
+pub first_state : (text : Program) (programs : List Program) (lines : List ℕ) (objects : ℕ) (s : State)
+    → IsRunAt (setup_of text programs lines objects) (first_guard (setup_of text programs lines objects)) s.run
+    → AreSeats (first_guard (setup_of text programs lines objects)) s.run s.seats
+    → IsInstalled (text_of text ∷ []) s.installed.count s.installed.names s.installed.store → s.last ≡ 0
+    → trees_of s.run ≡ text ∷ programs
+    → IsBook (setup_of text programs lines objects) (first_guard (setup_of text programs lines objects)) s.installed.names s.book
+    → IsStateAt (setup_of text programs lines objects) (first_guard (setup_of text programs lines objects)) s
+first_state text programs lines objects s run seats installed last trees book = record {
+  run = run;
+  seats = seats;
+  versions = record {
+    installed = installed;
+    before = [];
+    tree = text;
+    numbered = ap (slice_get (trees_of s.run)) last ∙ ap (λ ts. slice_get ts 0) trees;
+    last_is = refl;
+  };
+  book = book;
+}
+
+-- ---- the slots at the start
+
+filled : {A : Type 0} (count n : ℕ) (x y : A) → slice_get (replicate count x) n ≡ Some y → y ≡ x
+filled zero n x y e = absurd (none-some y e)
+filled (suc count) zero x y e = sym (same_Some x y e)
+filled (suc count) (suc n) x y e = filled count n x y e
+
+in_free : (count n : ℕ) → slice_index_or (replicate count Free) n Free ≡ Free
+in_free zero n = refl
+in_free (suc count) zero = refl
+in_free (suc count) (suc n) = in_free count n
+
+many_slots : (n : ℕ) → n ≡ 16 → suc (n - 1) ≡ 16
+many_slots n e = omega (arith, e)
+
+pub first_slots : (setup : Setup) (r : SourceRun) (function : Option Word) (seats : List Seat) → setup.limits.slots ≡ 16
+    → option_map (word (words_of r)) function ≡ Some (codes "main") → seats ≡ started function ∷ replicate 15 empty
+    → AreSeats (first_guard setup) r seats
+first_slots setup r function seats slots named is = record {
+  many = ap suc (length-replicate (setup.limits.slots - 1) empty_seat) ∙ many_slots setup.limits.slots slots;
+  each = λ going n kept own at_kept at_own. by n kept own (ap (λ ss. slice_get ss n) (sym is) ∙ at_kept) at_own;
+}
+  where
+    by : (n : ℕ) (kept : Seat) (own : guard.Seat) → slice_get (started function ∷ replicate 15 empty) n ≡ Some kept
+        → slice_get (first_guard setup).seats n ≡ Some own
+        → IsSeat (words_of r) (bodies_of (first_guard setup)) 1 false (in_slot (first_guard setup).world n) kept own
+    by zero kept own at_kept at_own =
+        subst (λ k. IsSeat (words_of r) (bodies_of (first_guard setup)) 1 false (in_slot (first_guard setup).world 0) k own)
+        (same_Some (started function) kept at_kept)
+        (subst (IsSeat (words_of r) (bodies_of (first_guard setup)) 1 false (in_slot (first_guard setup).world 0) (started function))
+        (same_Some (guard.started_seat (codes "main")) own at_own) (record {
+          at_check_in = refl;
+          pinned = refl;
+          there = refl;
+          lives = λ e. absurd (false≢true e);
+          mark = λ on. ap (λ f. Some (Start f)) (entered (words_of r) function (Some main_enter) named);
+          version = λ on. tt;
+        }))
+    by (suc n) kept own at_kept at_own =
+        subst (λ k. IsSeat (words_of r) (bodies_of (first_guard setup)) 1 false (in_slot (first_guard setup).world (suc n)) k own)
+        (sym (filled 15 n empty kept at_kept))
+        (subst (IsSeat (words_of r) (bodies_of (first_guard setup)) 1 false (in_slot (first_guard setup).world (suc n)) empty)
+        (sym (filled (setup.limits.slots - 1) n empty_seat own at_own)) (record {
+          at_check_in = refl;
+          pinned = refl;
+          there = sym (ap is_live (in_free (setup.limits.slots - 1) n));
+          lives = λ e. absurd (false≢true e);
+          mark = λ on. refl;
+          version = λ on. tt;
+        }))

@@ -1,0 +1,9 @@
+use Rattle.std.proofs.Common.{◌∙◌}
+use Rattle.source_model.specs.JournalLaws.{texts_of}
+use Rattle.plain_engine.proofs.Standing.{has_ended_so}
+use Rattle.plain_engine.proofs.state.State.has_ended.Goals as goal
+
+pub returns : goal.returns
+returns c = λ setup g at.
+    c.is_some.ensures
+    ∙ has_ended_so setup g c.args.self.now.run c.ending.result at (c.ending.ensures (texts_of setup) setup.limits at.moves at.run)

@@ -1,0 +1,60 @@
+use Rattle.std.proofs.Common.{◌≡◌, map, All, sym, subst}
+use Rattle.c_semantics.specs.SourceTexts.{text_of}
+use Rattle.bytecode.specs.declared.run.Event.TheVariants.{Decide}
+use Rattle.source_model.specs.JournalLaws.{texts_of}
+use Rattle.source_model.specs.Runs.{Install}
+use Rattle.source_runner.specs.SourceRuns.{CameBy}
+use Rattle.type_transformers.specs.Changes.{IsChange, changing, name_of}
+use Rattle.plain_engine.specs.Plain.{IsStateAt}
+use Rattle.plain_engine.specs.Steps.{Stayed}
+use Rattle.plain_engine.proofs.Installing.{after, cannot, changing_is, followed, installs_so, names_are, store_is, transforms_are}
+use Rattle.plain_engine.proofs.Moving.{unmoved}
+use Rattle.version_laws.specs.Histories.{last_text, versions_by}
+use Rattle.std.specs.Prelude.{slice_index_or, []}
+use Rattle.plain_engine.proofs.state.State.install.Goals as goal
+
+pub returns-in-Ok-Done-clause-made : goal.returns-in-Ok-Done-clause-made
+returns-in-Ok-Done-clause-made c = λ setup g at going right offered some is.
+    let s = c.args.self.now in
+    let k = c.args.k in
+    let patch = c.args.patch in
+    let pins = c.args.pins.now in
+    let new = c.install-2.new.self in
+    let i = c.install.new.self in
+    let p = last_text (versions_by (texts_of setup) at.run.moves) in
+    let q = slice_index_or (texts_of setup) k [] in
+    let brought = c.in_ok-replaced.ensures.installed g.versions (text_of is.next) at.versions.installed
+    (names_are setup g k s at going right offered some patch pins is) (store_is setup g k s at going right offered some patch pins is) in
+    let named = c.in_ok-replaced.ensures.names in
+    let came = subst (CameBy (texts_of setup) setup.limits at.run.moves (Install k) new) c.in-Ok-Done.field-0-is
+    (c.in-Ok-Done.ensures.made (texts_of setup) setup.limits at.run.moves at.run.run
+    (subst (λ cs. map name_of cs ≡ changing p q) (sym c.deref-2.ensures.value) (changing_is setup g k s at going right offered some patch pins is))
+    (subst (All (IsChange p q)) (sym c.deref-2.ensures.value) (transforms_are setup g k s at going right offered some patch pins is))) in
+    installs_so setup g k s at going right offered some patch pins is new i c.install-2.ensures.same came brought named c.follow.new.self
+    (c.follow.ensures setup g (after setup g k s at going right offered some patch pins is new i c.install-2.ensures.same came brought named)
+    (followed setup g k s at going right offered some patch pins is new i c.install-2.ensures.same came brought named))
+
+pub returns-in-Ok-CannotMove-clause-made : goal.returns-in-Ok-CannotMove-clause-made
+returns-in-Ok-CannotMove-clause-made c = λ setup g at going right offered some is.
+    let s = c.args.self.now in
+    let k = c.args.k in
+    let patch = c.args.patch in
+    let pins = c.args.pins.now in
+    let new = c.install-2.new.self in
+    let p = last_text (versions_by (texts_of setup) at.run.moves) in
+    let q = slice_index_or (texts_of setup) k [] in
+    let came = subst (CameBy (texts_of setup) setup.limits at.run.moves (Install k) new) c.in-Ok-CannotMove.field-0-is
+    (c.in-Ok-CannotMove.ensures.made (texts_of setup) setup.limits at.run.moves at.run.run
+    (subst (λ cs. map name_of cs ≡ changing p q) (sym c.deref-2.ensures.value) (changing_is setup g k s at going right offered some patch pins is))
+    (subst (All (IsChange p q)) (sym c.deref-2.ensures.value) (transforms_are setup g k s at going right offered some patch pins is))) in
+    subst (λ i. Stayed setup (Decide k) g (record s { run = new; installed = i }))
+    (sym (c.take_back.ensures s.installed c.in_ok-replaced.ensures.replaced))
+    (cannot setup g k s at going right offered some patch pins is new c.install-2.ensures.same came.0 came.1)
+
+pub returns-clause-stays : goal.returns-clause-stays
+returns-clause-stays c = λ setup g at.
+    let s = c.args.self.now in
+    let new = c.install-2.new.self in
+    subst (λ i. IsStateAt setup g (record s { run = new; installed = i }))
+    (sym (c.take_back-in-Err.ensures s.installed c.in_ok-replaced.ensures.replaced))
+    (unmoved setup g s at new c.install-2.ensures.same (c.in-Err.ensures.stays (texts_of setup) setup.limits at.run.moves at.run.run))

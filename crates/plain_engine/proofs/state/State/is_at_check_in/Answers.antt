@@ -1,0 +1,11 @@
+use Rattle.std.proofs.Common.{◌<◌, arith, length}
+use Rattle.std.proofs.lemmas.Option.{slice_get-get_or}
+use Rattle.plain_engine.proofs.Standing.{inside_is}
+use Rattle.plain_engine.proofs.state.State.is_at_check_in.Goals as goal
+
+pub returns-clause-value : goal.returns-clause-value
+returns-clause-value c = λ g are going.
+    let s = c.args.self.now in
+    let below : c.args.slot < 16 = omega (arith, c.if-slot-ge-SLOTS.false) in
+    let there : c.args.slot < length s.seats = omega arith in
+    inside_is g s.run s.seats c.args.slot _ are going below (slice_get-get_or s.seats c.args.slot _ there)

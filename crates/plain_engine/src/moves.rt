@@ -1,0 +1,84 @@
+//! The slots after a move.
+ghost use Rattle.std.specs.Prelude.{◌≡◌, ◌==◌, ◌&&◌, List, Some};
+ghost use Rattle.c_tree.specs.BareDef.{BareDef};
+ghost use Rattle.source_model.specs.Runs.{SourceMove as Made, is_live};
+ghost use Rattle.source_model.specs.Worlds.{Limits, World, in_slot, is_over};
+ghost use Rattle.source_model.specs.Guards.{in_transaction};
+ghost use Rattle.source_runner.specs.SourceRuns.{IsRun, words_of, world_after};
+ghost use Rattle.plain_engine.specs.Kept.{AreAfter, IsAfter, IsMoved, IsOther, is_there};
+
+use crate::seat::Seat;
+use source_runner::SourceRun;
+
+/// Whether a thread that was pinned still is: a pin doesn't outlive its transaction.
+fn stays_pinned(run: &SourceRun, slot: u8, pinned: bool) -> bool
+    ensures { (texts : List (List BareDef)) (limits : Limits) (moves : List Made) (w : World)
+        → IsRun texts limits moves run.now → world_after texts limits moves ≡ Some w
+        → result ≡ (pinned && in_transaction (in_slot w slot)) }
+{
+    if pinned {
+        run.in_transaction(slot)
+    } else {
+        false
+    }
+}
+
+/// The slot of the thread that moved, by whether the move led to a check-in.
+fn moved(run: &SourceRun, seat: Seat, slot: u8, leads: bool) -> Seat
+    ensures { (texts : List (List BareDef)) (limits : Limits) (moves : List Made) (w : World)
+        → IsRun texts limits moves run.now → world_after texts limits moves ≡ Some w
+        → IsMoved (in_slot w slot) leads seat result }
+{
+    if !run.is_live(slot) {
+        return Seat::empty();
+    }
+    Seat {
+        kept: seat.kept,
+        at_check_in: leads,
+        pinned: stays_pinned(run, slot, seat.pinned),
+    }
+}
+
+/// Another slot: a thread that lives there stays, and one may be new.
+fn other(run: &SourceRun, seat: Seat, slot: u8) -> Seat
+    ensures { (texts : List (List BareDef)) (limits : Limits) (moves : List Made) (w : World)
+        → IsRun texts limits moves run.now → world_after texts limits moves ≡ Some w
+        → IsOther (is_there seat.kept) (is_live (in_slot w slot)) (words_of run.now) (is_over w)
+        (in_slot w slot) seat result }
+{
+    if seat.is_there() {
+        return seat;
+    }
+    if run.is_live(slot) {
+        Seat::started(run.entering(slot))
+    } else {
+        Seat::empty()
+    }
+}
+
+/// A slot after a move of the thread in slot `mover`.
+fn after(run: &SourceRun, seat: Seat, slot: u8, mover: u8, leads: bool) -> Seat
+    ensures { (texts : List (List BareDef)) (limits : Limits) (moves : List Made) (w : World)
+        → IsRun texts limits moves run.now → world_after texts limits moves ≡ Some w
+        → IsAfter (words_of run.now) (is_over w) (in_slot w slot) (slot == mover) leads seat result }
+{
+    if slot == mover {
+        moved(run, seat, slot, leads)
+    } else {
+        other(run, seat, slot)
+    }
+}
+
+/// The slots after a move of the thread in slot `mover`, by whether the move led to a check-in.
+pub(crate) fn seats_after(run: &SourceRun, seats: &[Seat; 16], mover: u8, leads: bool) -> [Seat; 16]
+    ensures { (texts : List (List BareDef)) (limits : Limits) (moves : List Made) (w : World)
+        → IsRun texts limits moves run.now → world_after texts limits moves ≡ Some w
+        → AreAfter (words_of run.now) w mover leads seats.now result }
+{
+    let mut seats_after = [Seat::empty(); 16];
+    for slot in 0..16u8 {
+        let seat = seats[slot as usize];
+        seats_after[slot as usize] = after(run, seat, slot, mover, leads);
+    }
+    seats_after
+}
