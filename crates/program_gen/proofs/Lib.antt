@@ -1,0 +1,4 @@
+mod Examples
+pub mod Drawing
+pub mod Growing
+pub mod Middle
