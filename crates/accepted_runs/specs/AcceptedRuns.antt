@@ -1,0 +1,23 @@
+-- Runs whose texts are accepted.
+use Rattle.std.specs.Prelude.{◌≡◌, ℕ, false, List, Some}
+use Rattle.bytecode.specs.declared.run.Event.{Event}
+use Rattle.source_model.specs.Guards.{Guard, Offer, Rules, Setup, offer_at}
+use Rattle.source_model.specs.Journals.{guard_after}
+use Rattle.frame_bodies.specs.AcceptedTexts.{IsAccepted}
+use Rattle.admission_laws.specs.Rules.{AreRows}
+use Rattle.admission_laws.specs.SoundTexts.{AllSound}
+
+-- the texts that a run is given are accepted: the first, and that of each offer
+pub record TextsAreAccepted (setup : Setup) : Type 0 where
+  pub first : IsAccepted setup.first
+  pub offered : (k : ℕ) (o : Offer) → offer_at setup k ≡ Some o → IsAccepted o.text
+
+-- then all texts that the run can come to are sound
+abbrev pub AcceptedRunsAreSound : Type 0
+AcceptedRunsAreSound = (setup : Setup) → TextsAreAccepted setup → AllSound setup
+
+-- and no move misuses a definition, for each guard that a legal journal comes to
+abbrev pub NoRunMisuses : Type 0
+NoRunMisuses =
+    (rules : Rules) (setup : Setup) (events : List Event) (g : Guard)
+    → AreRows rules → TextsAreAccepted setup → guard_after rules setup events ≡ Some g → g.world.misused ≡ false

@@ -1,0 +1,27 @@
+-- The shape of a skeleton: where a body begins and ends, and from which of its points control goes on.
+use Rattle.std.specs.Prelude.{◌≡◌, ◌≢◌, ℕ, suc, IsTrue, [], ◌∷◌, length, Some}
+use Rattle.bytecode.specs.CheckIns.{CheckInKind, Entry}
+use Rattle.bytecode.specs.Skeleton.{PointKind, Point, Skeleton, CheckIn, Return, after, check_in_after, entry, kind_at, point_at, successors}
+use Rattle.c_semantics.specs.Leaving.{leaves_at_ends}
+use Rattle.c_semantics.specs.Resolved.{Statements}
+use Rattle.c_semantics.specs.Skeletons.{skeleton}
+
+-- the first point is the entry check-in, the last one a return, each in no transaction
+abbrev pub BeginsAndEnds : Type 0
+BeginsAndEnds =
+    (body : Statements)
+    → (point_at (skeleton body) entry ≡ Some (record { kind = CheckIn Entry; depth = 0 }))
+    × ((last : ℕ) × (length (skeleton body).points ≡ suc last)
+    × (point_at (skeleton body) last ≡ Some (record { kind = Return; depth = 0 })))
+
+-- from a stop that leads to a check-in control goes to it alone, from a return nowhere, and from each other point somewhere
+pub record GoesOn (s : Skeleton) (n : ℕ) (k : PointKind) : Type 0 where
+  pub passes : (c : CheckInKind) → check_in_after k ≡ Some c → successors s n ≡ after n ∷ []
+  pub returns : k ≡ Return → successors s n ≡ []
+  pub stays : k ≢ Return → successors s n ≢ []
+
+-- so it is in each body whose transactions are left at their ends, and whose loops are by `break` and `continue`
+abbrev pub EachGoesOn : Type 0
+EachGoesOn =
+    (body : Statements) (n : ℕ) (k : PointKind)
+    → IsTrue (leaves_at_ends body) → kind_at (skeleton body) n ≡ Some k → GoesOn (skeleton body) n k
