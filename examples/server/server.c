@@ -20,16 +20,21 @@ struct request *next_request(void) {
   return r;
 }
 
+int pay(int client, int kept) {
+  mtx_lock(&guard);
+  balance[client] += kept;
+  answered++;
+  printf("client %d: %d\n", client, balance[client]);
+  mtx_unlock(&guard);
+  return kept;
+}
+
 int work(int id) {
   struct request *r = next_request();
   while (r) {
     dsu_tx {
       int kept = r->amount - fee(r->amount);
-      mtx_lock(&guard);
-      balance[r->client] += kept;
-      answered++;
-      printf("client %d: %d\n", r->client, balance[r->client]);
-      mtx_unlock(&guard);
+      pay(r->client, kept);
     }
     free(r);
     dsu_update();
