@@ -1,1 +1,2 @@
+pub mod StoredBodies
 pub mod SoundRuns

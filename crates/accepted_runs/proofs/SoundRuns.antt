@@ -3,10 +3,10 @@ use Rattle.std.proofs.Common.{◌≡◌, ℕ, zero, suc, true, List, [], ◌∷�
 use Rattle.std.specs.Prelude.{slice_get}
 use Rattle.std.specs.Option.{is_some, option_and_then}
 use Rattle.std.proofs.lemmas.List.{length-map}
-use Rattle.std.proofs.lemmas.List.Elements.{All-nil, All-cons, All-append}
+use Rattle.std.proofs.lemmas.List.Elements.{All-nil, All-cons, All-append, All-head, All-tail}
 use Rattle.bytecode.specs.Skeleton.{Point, Skeleton, Call, Spawn, direct_use, kind_at}
 use Rattle.c_tree.specs.BareExpr.{Bytes}
-use Rattle.c_tree.specs.BareDef.{BareDef, Function}
+use Rattle.c_tree.specs.BareDef.{BareDef}
 use Rattle.c_tree.specs.declared.name.CType.{CType}
 use Rattle.c_tree.specs.declared.def.Def.{Def}
 use Rattle.c_types.specs.Lookup.{Meaning, definition_of, meaning_in, name_of}
@@ -24,20 +24,15 @@ use Rattle.typed_uses.proofs.Lookups.{look}
 use Rattle.typed_uses.proofs.Points.{EachPoint, OfName}
 use Rattle.typed_uses.proofs.Uses.{accepted_texts_define_their_uses}
 use Rattle.frame_bodies.specs.AcceptedTexts.{AreAccepted, IsAccepted, looked_up}
-use Rattle.frame_bodies.specs.AcceptedTexts as accepted_texts
 use Rattle.frame_bodies.proofs.AcceptedFacts.{bare_of, facts_in, named_is_defined}
 use Rattle.frame_bodies.proofs.CallPoints.{called_are_functions, spawned_are_functions}
-use Rattle.frame_bodies.proofs.Lists.{each_point_has_it}
+use Rattle.frame_bodies.proofs.Lists.{each_point_has_it, none_in}
 use Rattle.frame_bodies.proofs.Stores.{each_has_a_body}
 use Rattle.frame_bodies.proofs.TypedExpressions.{function_of}
-use Rattle.admission_laws.specs.SoundTexts.{InForceNow, IsSound, TextsOf, definitions_of, first, is_function, newest, next, now_in}
+use Rattle.admission_laws.specs.SoundTexts.{BodiesStay, InForceNow, IsSound, TextsOf, definitions_of, first, is_function, newest, next, now_in}
 use Rattle.admission_laws.proofs.LaterTexts.{definitions_more}
 use Rattle.accepted_runs.specs.AcceptedRuns.{AcceptedRunsAreSound, TextsAreAccepted}
-
--- a function is one by either definition
-same_function : (o : Option BareDef) → accepted_texts.is_function o ≡ is_function o
-same_function (Some (Function result name parameters body)) = refl
-same_function _ = refl
+use Rattle.accepted_runs.proofs.StoredBodies.{all_shaped, bodies_stay, same_function}
 
 -- ---- main
 
@@ -89,13 +84,22 @@ Uses ds =
     (f name : Bytes) (n : ℕ) → option_and_then direct_use (kind_at (skeleton_of (definition ds) (definition ds f)) n) ≡ Some name
     → is_some (definition ds name) ≡ true
 
+-- each name that a function uses is defined
+abbrev DefinesUses : List BareDef → Type 0
+DefinesUses ds =
+    (f u : Bytes) → Contains (direct_uses (skeleton_of (definition ds) (definition ds f))) u → is_some (definition ds u) ≡ true
+
+defines_in : (text : Text) → IsAccepted text → DefinesUses text.definitions
+defines_in text a f u h =
+    let named : Names f text.definitions = subst (Names f) (bare_of text a) (accepted_texts_define_their_uses a.bytes text.tree a.accepted f) in
+    named_is_defined text.definitions u (named u h)
+
 uses_in : (text : Text) → IsAccepted text → Uses text.definitions
 uses_in text a f name n is =
     let ds = text.definitions in
     let s : Skeleton = skeleton_of (definition ds) (definition ds f) in
-    let named : Names f ds = subst (Names f) (bare_of text a) (accepted_texts_define_their_uses a.bytes text.tree a.accepted f) in
     let Defined : Bytes → Type 0 = λ used. is_some (definition ds used) ≡ true in
-    use_at Defined s.points n name (each_point_has_it Defined s (λ used h. named_is_defined ds used (named used h))) is
+    use_at Defined s.points n name (each_point_has_it Defined s (λ used h. defines_in text a f used h)) is
 
 -- ---- calls and spawns
 
@@ -145,6 +149,32 @@ body_in_force texts f all fun =
     let b = each_has_a_body texts (newest texts) f all (same_function (now_in texts f) ∙ fun) in
     record { body = b.body; found = b.found; function_is = b.function_is; generation_is = b.generation_is; skeleton_is = b.skeleton_is }
 
+-- the texts before a last one, and it
+former : (texts : List Text) (q : Text) → AreAccepted (texts ++ q ∷ []) → AreAccepted texts
+former [] q all = All-nil IsAccepted
+former (t ∷ texts) q all =
+    All-cons IsAccepted t texts (All-head IsAccepted t (texts ++ q ∷ []) all) (former texts q (All-tail IsAccepted t (texts ++ q ∷ []) all))
+
+last_one : (texts : List Text) (q : Text) → AreAccepted (texts ++ q ∷ []) → IsAccepted q
+last_one [] q all = All-head IsAccepted q [] all
+last_one (t ∷ texts) q all = last_one texts q (All-tail IsAccepted t (texts ++ q ∷ []) all)
+
+newest_in : (t : Text) (texts : List Text) → AreAccepted (t ∷ texts) → Newest (t ∷ texts)
+newest_in t [] all = record { text = t; accepted = All-head IsAccepted t [] all; is = refl }
+newest_in t (u ∷ texts) all =
+    let rest = newest_in u texts (All-tail IsAccepted t (u ∷ texts) all) in
+    record { text = rest.text; accepted = rest.accepted; is = rest.is }
+
+defines_now : (texts : List Text) → AreAccepted texts → DefinesUses (text_in (definitions_of texts) (newest texts))
+defines_now [] all = λ f u h. absurd (none_in u h)
+defines_now (t ∷ texts) all =
+    let last = newest_in t texts all in subst DefinesUses last.is (defines_in last.text last.accepted)
+
+stay : (before : List Text) (q : Text) → AreAccepted (before ++ q ∷ []) → BodiesStay before q
+stay before q all =
+    let some = former before q all in
+    bodies_stay before q (last_one before q all) (defines_now before some) (λ f fun. body_in_force before f some fun)
+
 sound : (texts : List Text) → AreAccepted texts → Newest texts → IsSound texts
 sound texts all last = record {
   main = subst HasMain last.is (main_in last.text last.accepted);
@@ -152,6 +182,8 @@ sound texts all last = record {
   uses = subst Uses last.is (uses_in last.text last.accepted);
   calls = subst Calls last.is (calls_in last.text last.accepted);
   spawns = subst Spawns last.is (spawns_in last.text last.accepted);
+  shapes = all_shaped texts all;
+  stay = λ before q is. stay before q (subst AreAccepted is all);
 }
 
 pub accepted_runs_are_sound : AcceptedRunsAreSound

@@ -3,9 +3,11 @@ use Rattle.std.specs.Prelude.{◌≡◌, ℕ, false, List, Some}
 use Rattle.bytecode.specs.declared.run.Event.{Event}
 use Rattle.source_model.specs.Guards.{Guard, Offer, Rules, Setup, offer_at}
 use Rattle.source_model.specs.Journals.{guard_after}
+use Rattle.source_model.specs.Runs.{result}
 use Rattle.frame_bodies.specs.AcceptedTexts.{IsAccepted}
 use Rattle.admission_laws.specs.Rules.{AreRows}
 use Rattle.admission_laws.specs.SoundTexts.{AllSound}
+use Rattle.admission_laws.specs.AdmissionLaws.{IsVersionConsistent}
 
 -- the texts that a run is given are accepted: the first, and that of each offer
 pub record TextsAreAccepted (setup : Setup) : Type 0 where
@@ -21,3 +23,9 @@ abbrev pub NoRunMisuses : Type 0
 NoRunMisuses =
     (rules : Rules) (setup : Setup) (events : List Event) (g : Guard)
     → AreRows rules → TextsAreAccepted setup → guard_after rules setup events ≡ Some g → g.world.misused ≡ false
+
+-- and the definitions of each transaction share a version, of those that ended and of those in progress
+abbrev pub TransactionsShareAVersion : Type 0
+TransactionsShareAVersion =
+    (rules : Rules) (setup : Setup) (events : List Event) (g : Guard)
+    → AreRows rules → TextsAreAccepted setup → guard_after rules setup events ≡ Some g → IsVersionConsistent (result g.world)

@@ -1,5 +1,5 @@
 -- What a thread may still use in its transaction is in the future effect of its point, and changes little where it goes on.
-use Rattle.std.proofs.Common.{◌≡◌, ℕ, ◌<◌, ◌⊎◌, inl, inr, Bool, true, false, ◌&&◌, ◌==◌, List, [], ◌∷◌, find, cond, bytes_eq, slice_get, option_map, Option, Some, None, refl, sym, ap, subst, ◌∙◌}
+use Rattle.std.proofs.Common.{◌≡◌, ℕ, ◌⊎◌, inl, inr, Bool, true, false, ◌&&◌, ◌==◌, List, [], ◌∷◌, find, cond, bytes_eq, slice_get, option_map, Option, Some, None, refl, sym, ap, subst, ◌∙◌}
 use Rattle.std.specs.Option.{option_and_then}
 use Rattle.std.proofs.lemmas.Bool.{and_parts}
 use Rattle.std.proofs.lemmas.Option.{none-some, same_Some}
@@ -7,8 +7,8 @@ use Rattle.std.proofs.lemmas.Slice.Eq.{bytes_eq-Decides}
 use Rattle.bytecode.specs.Skeleton.{Point, PointKind, Call, Return, direct_use, kind_at, point_at}
 use Rattle.c_tree.specs.BareExpr.{Bytes}
 use Rattle.c_semantics.specs.SourceTexts.{Text}
-use Rattle.c_semantics.specs.Store.{Body, store, generation_by, body_in}
-use Rattle.effects.specs.Sites.{Site, IsOf, IsCall, Next, Uses, point_in, after_call}
+use Rattle.c_semantics.specs.Store.{Body, store, body_in}
+use Rattle.effects.specs.Sites.{Site, IsOf, IsCall, Next, Uses, after_call}
 use Rattle.effects.specs.Standard.{Standard, Adds}
 use Rattle.effects.specs.Standard as standard
 use Rattle.effects.specs.Nested.{GoesOn}
@@ -16,13 +16,12 @@ use Rattle.effects.specs.Nested as nested
 use Rattle.effects.specs.Contextual.{Future}
 use Rattle.effects.specs.Contextual as contextual
 use Rattle.effects.proofs.Points.{IsPoint, uses_is_point, kind_is_point, next_is_from_point, next_is_to_point}
-use Rattle.admission_laws.specs.SoundTexts.{is_function, newest, now_in}
+use Rattle.admission_laws.specs.SoundTexts.{IsInForce, is_function, now_in}
 use Rattle.admission_laws.specs.Stacks.{Level, Stacked}
-use Rattle.admission_laws.specs.Closures.{IsInForce, ToUse, GoesFurther, Ahead}
+use Rattle.admission_laws.specs.Closures.{ToUse, GoesFurther, Ahead}
 use Rattle.admission_laws.specs.Closures as closure
-use Rattle.admission_laws.proofs.PointFacts.{has_kind, is_kind_at, is_of_at, uses_by_kind, point_of, kind_of_site}
+use Rattle.admission_laws.proofs.PointFacts.{has_kind, is_kind_at, is_of_at, uses_by_kind, point_of, kind_of_site, place_of}
 use Rattle.admission_laws.proofs.StackUses.{above_of, stacked_at}
-use Rattle.admission_laws.proofs.Enters.{place_of}
 use Rattle.admission_laws.proofs.RecordedNames.{nested_by}
 
 -- a body in force is of its function

@@ -1,20 +1,19 @@
 -- What holds at the start and after each event holds of each guard that a journal comes to. Each event with what is known
 -- when it happens.
-use Rattle.std.proofs.Common.{◌≡◌, ℕ, Bool, true, false, ◌&&◌, ◌||◌, not, List, [], ◌∷◌, map, option_map, option_and_then, Option, Some, None, refl, sym, ap, subst, ◌∙◌, if◌then◌else◌}
+use Rattle.std.proofs.Common.{◌≡◌, ℕ, Bool, true, false, ◌&&◌, ◌||◌, not, List, [], ◌∷◌, map, option_map, option_and_then, Option, Some, None, refl, if◌then◌else◌}
 use Rattle.std.specs.Prelude.{is_none}
 use Rattle.std.proofs.lemmas.Bool.{or_parts, and_parts, not-true}
 use Rattle.bytecode.specs.declared.run.Event.{Event}
 use Rattle.bytecode.specs.declared.run.Event.TheVariants.{Move, CheckIn, Offer, Decide, Withdraw}
 use Rattle.con_freeness.specs.Verdicts.{Verdict, Admitted, Refused}
-use Rattle.con_freeness.specs.Rows.{Names, verdict}
-use Rattle.c_tree.specs.BareDef.{BareDef}
+use Rattle.con_freeness.specs.Rows.{verdict}
 use Rattle.c_semantics.specs.Changes.{changed, interface}
 use Rattle.source_model.specs.declared.patch.NotPatch.{NotPatch}
 use Rattle.source_model.specs.Worlds.{World, is_over}
 use Rattle.source_model.specs.Moves.{move}
 use Rattle.source_model.specs.Installs.{installed}
 use Rattle.source_model.specs.Answers.{Answer, RefusedFor, NoPatch, Withdrawn}
-use Rattle.source_model.specs.Patches.{last_definitions, not_patch}
+use Rattle.source_model.specs.Patches.{last_definitions}
 use Rattle.source_model.specs.Guards.{Guard, Setup, Rules, first_guard, has_ended, bodies_of, seat_of, moved, checked_in, offer_at, can_open, is_open, decide, decided, decided_by, answered, installed_over, in_force}
 use Rattle.source_model.specs.Guards as guard
 use Rattle.source_model.specs.Journals.{happens, play, guard_after, guard_if}

@@ -1,10 +1,11 @@
 -- Where a thread stands after an enter.
-use Rattle.std.proofs.Common.{◌≡◌, ℕ, zero, suc, ◌⊎◌, inl, inr, Bool, true, false, List, [], ◌∷◌, find, cond, slice_get, le_refl, is_some, option_map, Option, Some, None, refl, sym, ap, subst, ◌∙◌}
+use Rattle.std.proofs.Common.{◌≡◌, ℕ, inl, inr, Bool, true, false, ◌&&◌, List, [], ◌∷◌, slice_get, le_refl, is_some, option_map, Some, None, refl, sym, ap, subst, ◌∙◌}
 use Rattle.std.specs.Option.{option_and_then}
+use Rattle.std.specs.Prelude.{nat_lt}
 use Rattle.std.proofs.lemmas.List.{length-map}
-use Rattle.std.proofs.lemmas.Option.{none-some, same_Some}
 use Rattle.bytecode.specs.CheckIns as check_in
-use Rattle.bytecode.specs.Skeleton.{Point, CheckIn, direct_use, kind_at, point_at, entry}
+use Rattle.bytecode.specs.Skeleton as kind
+use Rattle.bytecode.specs.Skeleton.{CheckIn, direct_use, kind_at, point_at, entry}
 use Rattle.c_tree.specs.BareExpr.{Bytes}
 use Rattle.c_semantics.specs.Texts.{result_type}
 use Rattle.c_semantics.specs.Resolution.{resolved_body}
@@ -14,40 +15,33 @@ use Rattle.c_semantics.specs.SkeletonLaws as along
 use Rattle.c_semantics.specs.SourceTexts.{Text}
 use Rattle.c_semantics.specs.Standing.{stands_at}
 use Rattle.c_semantics.specs.Store.{Body, Mark, Start, store}
-use Rattle.c_semantics.specs.Threads.{Frame, Enter, entered}
+use Rattle.c_semantics.specs.Threads.{Frame, Enter, Record, entered}
 use Rattle.c_semantics.specs.Values.{Value}
 use Rattle.effects.specs.Sites.{Site, IsOf, IsEntry, Next, Passes, Uses, after_call}
 use Rattle.effects.specs.Rows.{Covered}
 use Rattle.effects.specs.Rows as rows
-use Rattle.effects.proofs.Points.{uses_is_point}
 use Rattle.source_model.specs.Versions.{Table, current, in_version}
-use Rattle.source_model.specs.Uses.{is_right}
+use Rattle.source_model.specs.Uses.{is_right, recorded_at, use_of}
 use Rattle.source_model.specs.Worlds.{World, now}
 use Rattle.source_model.specs.Moves.{frame_of}
 use Rattle.source_model.specs.Guards.{Seat}
 use Rattle.version_laws.specs.Histories.{Alike, IsHistory}
 use Rattle.version_laws.proofs.EntersAlike.{enters_alike}
 use Rattle.version_laws.proofs.TableHistories.{last_as_current}
-use Rattle.admission_laws.specs.SoundTexts.{IsSound, is_function, definitions_of, version_in, newest, now_in, skeleton_now}
+use Rattle.admission_laws.specs.SoundTexts.{IsSound, IsInForce, is_function, definitions_of, newest, now_in}
 use Rattle.admission_laws.specs.Stacks.{Level, AtCall, Stacked, MayUse}
 use Rattle.admission_laws.specs.Stacks as stacks
 use Rattle.admission_laws.specs.Standing.{Sits, Wait, Behind, Placed, StandsAt, Starting, FramesStand}
 use Rattle.admission_laws.specs.Standing as standing
-use Rattle.admission_laws.proofs.PointFacts.{point_of, is_of_at, is_kind_at, passes_kind, has_kind}
-use Rattle.admission_laws.proofs.StackUses.{UsedThere, UsedBelow, own_or_below}
+use Rattle.admission_laws.specs.Transactions.{HasDepth}
+use Rattle.admission_laws.specs.InTransactions.{InTransaction, keeps_depth}
+use Rattle.admission_laws.proofs.PointFacts.{point_of, is_of_at, is_kind_at, passes_kind, has_kind, place_of, use_of_kind}
+use Rattle.admission_laws.proofs.StackUses.{UsedThere, own_or_below}
 use Rattle.admission_laws.proofs.Covering.{into, covered_of}
-use Rattle.admission_laws.proofs.RightUses.{last_by_name, current_right, function_now}
-use Rattle.admission_laws.proofs.FrameSteps.{at_point}
-
--- what is found is at a place
-pub place_of : (bodies : List Body) (test : Body → Bool) (b : Body) → find test bodies ≡ Some b → (i : ℕ) × (slice_get bodies i ≡ Some b)
-place_of [] test b e = absurd (none-some b e)
-place_of (x ∷ bodies) test b e = by (test x) e (place_of bodies test b)
-  where
-    by : (t : Bool) → cond t (Some x) (find test bodies) ≡ Some b → (find test bodies ≡ Some b → (i : ℕ) × (slice_get bodies i ≡ Some b))
-        → (i : ℕ) × (slice_get (x ∷ bodies) i ≡ Some b)
-    by true h rest = (0, h)
-    by false h rest = let r = rest h in (suc r.0, r.1)
+use Rattle.admission_laws.proofs.RightUses.{last_by_name, current_right, defined_alike, function_defined}
+use Rattle.admission_laws.proofs.Depths.{check_in_still, further_still}
+use Rattle.admission_laws.proofs.TransactionSteps.{enters_there, starts_there}
+use Rattle.admission_laws.proofs.TransactionMoves.{Within}
 
 -- the frame of a function that is entered in the newest version
 abbrev pub entered_now : List Text → Bytes → List Value → Frame
@@ -89,6 +83,18 @@ module _ (texts : List Text) (sound : IsSound texts) (function : Bytes) (argumen
         code_is = refl;
       }
 
+  -- the body that is in force
+  pub entry_in_force : (a : AtEntry texts function arguments) → IsInForce texts function a.sits.body
+  entry_in_force a = record { found = a.sits.found }
+
+  -- in no transaction of its text
+  pub entry_depth : (a : AtEntry texts function arguments) → HasDepth (store texts) (entry_of a.place) 0
+  entry_depth a = record {
+    has_depth = ap (option_map (λ at. at.depth))
+        (point_of (store texts) (entry_of a.place) a.sits.body a.sits.stored ∙ ap (λ s. point_at s entry) a.sits.skeleton_is
+        ∙ ap (λ c. point_at (skeleton c) entry) a.code_is);
+  }
+
   -- its kind, and its function
   entry_kind : (a : AtEntry texts function arguments) → kind_at a.sits.body.skeleton entry ≡ Some (CheckIn check_in.Entry)
   entry_kind a = ap (λ s. kind_at s entry) a.sits.skeleton_is ∙ ap (λ c. kind_at (skeleton c) entry) a.code_is
@@ -113,12 +119,8 @@ module _ (texts : List Text) (sound : IsSound texts) (function : Bytes) (argumen
       sound.uses function name p.point
       (subst (λ s. option_and_then direct_use (kind_at s p.point) ≡ Some name)
       (a.sits.skeleton_is ∙ ap skeleton a.code_is)
-      (kind_use (point_at a.sits.body.skeleton p.point) ∙ by_point))
+      (use_of_kind (point_at a.sits.body.skeleton p.point) ∙ by_point))
     where
-      kind_use : (o : Option Point) → option_and_then direct_use (option_map (λ at. at.kind) o) ≡ option_and_then (λ at. direct_use at.kind) o
-      kind_use None = refl
-      kind_use (Some at) = refl
-
       by_point : option_and_then (λ at. direct_use at.kind) (point_at a.sits.body.skeleton p.point) ≡ Some name
       by_point =
           ap (option_and_then (λ at. direct_use at.kind))
@@ -150,17 +152,21 @@ module _ (texts : List Text) (sound : IsSound texts) (table : Table) (h : IsHist
   entered_at = at_entry texts sound e.function e.arguments is
 
   -- a call's, above the frame that called
-  pub call_entered : (f : Frame) (fs : List Frame) (place : ℕ) (seat seat' : Seat) (levels : List Level) (mark : Mark)
+  pub call_entered : (f : Frame) (fs : List Frame) (place depth : ℕ) (uses : Record) (seat seat' : Seat) (levels : List Level) (mark : Mark)
       → (c : Site) → c ≡ (standing.level_of f place).site → Sits texts f place → Wait texts fs levels → Stacked (store texts) c levels
       → Behind (store texts) mark c → AtCall (store texts) c e.function
       → ((u : ℕ) (name : Bytes) → MayUse (store texts) c f.version levels u name → is_right table u name ≡ true)
-      → seat'.mark ≡ Some mark → seat'.at_check_in ≡ true
-      → StandsAt texts table (entered_now texts e.function e.arguments) (f ∷ fs) None seat'
-  call_entered f fs place seat seat' levels mark c here sits wait stacked behind call right marked coming_there =
+      → seat'.mark ≡ Some mark → seat'.at_check_in ≡ true → seat'.pinned ≡ (seat.pinned && nat_lt 0 depth)
+      → Within texts table depth uses seat.pinned c (Some e) levels
+      → StandsAt texts table (entered_now texts e.function e.arguments) (f ∷ fs) None depth (recorded_at depth uses (use_of table e.function)) seat'
+  call_entered f fs place depth uses seat seat' levels mark c here sits wait stacked behind call right marked coming_there same_pin within =
       let bodies = store texts in
       let lower = standing.level_of f place in
       let call' : AtCall bodies lower.site e.function = subst (λ s. AtCall bodies s e.function) here call in
       let a = entered_at in
+      let is_defined = defined_alike texts table h e.function ∙ function_defined (now_in texts e.function) is in
+      let within' = subst (λ s. Within texts table depth uses seat.pinned s (Some e) levels) here within in
+      let stacked' = subst (λ s. Stacked bodies s levels) here stacked in
       record {
         site = entry_of a.place;
         sits = a.sits;
@@ -169,7 +175,7 @@ module _ (texts : List Text) (sound : IsSound texts) (table : Table) (h : IsHist
         wait = standing.one f fs place levels sits wait;
         stacked =
             stacks.above (entry_of a.place) e.function lower levels (is_entry texts sound e.function e.arguments is a).is_of call'
-            (subst (λ s. Stacked bodies s levels) here stacked);
+            stacked';
         mark = mark;
         marked = marked;
         placed =
@@ -184,6 +190,15 @@ module _ (texts : List Text) (sound : IsSound texts) (table : Table) (h : IsHist
               | inl y ↦ own_right texts sound e.function e.arguments is table h a u name y
               | inr y ↦ after_right lower.site call'.next (subst (λ s. (u : ℕ) (name : Bytes) → MayUse bodies s f.version levels u name → is_right table u name ≡ true) here right) u name y
             ];
+        still = check_in_still bodies (entry_of a.place) (is_check_in texts sound e.function e.arguments is a);
+        own = 0;
+        transaction =
+            subst (λ b. InTransaction texts table depth (recorded_at depth uses (use_of table e.function)) b (entry_of a.place) 0 None (lower ∷ levels))
+            (sym same_pin)
+            (enters_there texts table depth uses seat.pinned lower (entry_of a.place) within'.0 e a.sits.body levels within'.1 stacked' call'
+            (further_still bodies lower.site levels (passes_kind bodies lower.site (kind.Call e.function) keeps_depth call'.call refl))
+            (is_entry texts sound e.function e.arguments is a) (entry_depth texts sound e.function e.arguments is a)
+            (entry_in_force texts sound e.function e.arguments is a) a.sits.stored is is_defined);
       }
     where
       entry_stands : (a : AtEntry texts e.function e.arguments)
@@ -196,9 +211,10 @@ module _ (texts : List Text) (sound : IsSound texts) (table : Table) (h : IsHist
       after_right s next right u name y = right u name (stacks.later s (after_call s) f.version levels u name next y)
 
   -- that of a thread that was started
-  pub start_entered : (seat' : Seat) → seat'.mark ≡ Some (Start e.function) → seat'.at_check_in ≡ true
-      → StandsAt texts table (entered_now texts e.function e.arguments) [] None seat'
-  start_entered seat' marked coming_there =
+  pub start_entered : (depth : ℕ) (uses : Record) (seat' : Seat) → seat'.mark ≡ Some (Start e.function) → seat'.at_check_in ≡ true
+      → depth ≡ 0 → uses ≡ [] → seat'.pinned ≡ false
+      → StandsAt texts table (entered_now texts e.function e.arguments) [] None depth uses seat'
+  start_entered depth uses seat' marked coming_there outside none unpinned =
       let bodies = store texts in
       let a = entered_at in
       record {
@@ -219,6 +235,11 @@ module _ (texts : List Text) (sound : IsSound texts) (table : Table) (h : IsHist
               | inl y ↦ own_right texts sound e.function e.arguments is table h a u name y
               | inr y ↦ absurd y
             ];
+        still = check_in_still bodies (entry_of a.place) (is_check_in texts sound e.function e.arguments is a);
+        own = 0;
+        transaction =
+            starts_there texts table depth uses seat'.pinned (entry_of a.place) outside none unpinned
+            (entry_depth texts sound e.function e.arguments is a);
       }
 
 -- the frame that a world gives an enter is that of the newest text

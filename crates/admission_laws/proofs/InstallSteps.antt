@@ -1,18 +1,17 @@
 -- What is known of a thread in a transaction stays so where an admitted patch is installed.
-use Rattle.std.proofs.Common.{◌≡◌, ℕ, suc, ◌+◌, ◌<◌, ◌⊎◌, inl, inr, Bool, true, false, not, ◌&&◌, ◌||◌, List, [], ◌∷◌, ◌++◌, All, Contains, slice_get, is_some, option_map, Option, Some, None, refl, sym, ap, ap₂, subst, ◌∙◌}
-use Rattle.std.specs.Prelude.{nat_lt}
+use Rattle.std.proofs.Common.{◌≡◌, ℕ, suc, ◌⊎◌, inl, inr, Bool, true, false, not, ◌&&◌, ◌||◌, List, [], ◌∷◌, ◌++◌, All, Contains, slice_get, is_some, option_map, Option, Some, None, refl, sym, ap, ap₂, subst, ◌∙◌}
 use Rattle.std.specs.Option.{option_and_then}
-use Rattle.std.proofs.lemmas.Bool.{false≢true, lt-ltb, ltb-true, and_parts}
-use Rattle.std.proofs.lemmas.List.Elements.{All-weaker, All-contains, All-contains_itself, All-from_recursion}
-use Rattle.std.proofs.lemmas.Option.{none-some, same_Some}
-use Rattle.bytecode.specs.Skeleton.{PointKind, Call, Return, direct_use, kind_at}
+use Rattle.std.proofs.lemmas.Bool.{false≢true}
+use Rattle.std.proofs.lemmas.List.Elements.{All-weaker, All-contains, All-contains_itself}
+use Rattle.std.proofs.lemmas.Option.{same_Some}
+use Rattle.bytecode.specs.Skeleton.{Call, Return, direct_use, kind_at}
 use Rattle.c_tree.specs.BareExpr.{Bytes}
 use Rattle.c_tree.specs.BareDef.{BareDef, Function}
 use Rattle.c_semantics.specs.Changes.{changed, same_definition, agree}
 use Rattle.c_semantics.specs.Texts.{definition}
 use Rattle.c_semantics.specs.SourceTexts.{Text}
 use Rattle.c_semantics.specs.Store.{Body, store}
-use Rattle.c_semantics.specs.Threads.{Enter, Record, Use}
+use Rattle.c_semantics.specs.Threads.{Enter, Record}
 use Rattle.name_sets.specs.NameLists.{is_among}
 use Rattle.effects.specs.Sites.{Site, IsCall, IsKind, Next, Passes, Uses, after_call, is_outer_end}
 use Rattle.effects.specs.Standard.{Adds}
@@ -25,21 +24,20 @@ use Rattle.source_model.specs.Uses.{HasVersion, use_of}
 use Rattle.version_laws.specs.Histories.{last_text}
 use Rattle.version_laws.proofs.DefinedNames.{stays_where_same, among_names}
 use Rattle.version_laws.proofs.TableHistories.{last_is_next}
-use Rattle.admission_laws.specs.SoundTexts.{IsSound, is_function, definitions_of, now_in, skeleton_now}
+use Rattle.admission_laws.specs.SoundTexts.{IsSound, BodiesStay, is_function, definitions_of, now_in}
 use Rattle.admission_laws.specs.Stacks.{Level, Stacked, MayUse}
 use Rattle.admission_laws.specs.Stacks as stacks
 use Rattle.admission_laws.specs.Transactions.{HasDepth, Depth, Known, KnownBelow}
 use Rattle.admission_laws.specs.Transactions as transaction
-use Rattle.admission_laws.specs.Closures.{IsInForce, ToUse, GoesFurther, Ahead, BodiesStay}
+use Rattle.admission_laws.specs.Closures.{ToUse, GoesFurther, Ahead}
 use Rattle.admission_laws.specs.Closures as closure
-use Rattle.admission_laws.specs.InTransactions.{LowerDepth, Shares, AreVersioned, InTransaction}
+use Rattle.admission_laws.specs.InTransactions.{LowerDepth, Shares, AreVersioned}
 use Rattle.admission_laws.proofs.PointFacts.{uses_by_kind}
 use Rattle.admission_laws.proofs.StackUses.{above_of, stacked_at}
 use Rattle.admission_laws.proofs.LargerStores.{is_kind as kind_more, uses_more, stored_at, kind_before, next_before, same_point, uses_before, passes_before}
-use Rattle.admission_laws.proofs.LaterTexts.{Grows, grows, definitions_more}
+use Rattle.admission_laws.proofs.LaterTexts.{grows, definitions_more}
 use Rattle.admission_laws.proofs.RightUses.{last_by_name}
 use Rattle.admission_laws.proofs.EntryVersions.{version_stays, version_follows, stays_by, use_stays, current_has, current_defined}
-use Rattle.admission_laws.proofs.ClosureFacts.{ahead_is_point}
 
 -- a name that a text leaves as it is
 abbrev pub Left : List Text → Text → Bytes → Type 0
@@ -59,6 +57,30 @@ depth_before bodies more _ _ _ (transaction.above p d c below n has rest) stacke
     transaction.above p d c below n
     (record { has_depth = ap (option_map (λ at. at.depth)) (sym (same_point bodies more p b.body b.stored)) ∙ has.has_depth })
     (depth_before bodies more c.site below n rest a.under)
+
+has_depth_more : (bodies more : List Body) (p : Site) (b : Body) (d : ℕ) → slice_get bodies p.body ≡ Some b → HasDepth bodies p d
+    → HasDepth (bodies ++ more) p d
+has_depth_more bodies more p b d stored has =
+    record { has_depth = ap (option_map (λ at. at.depth)) (same_point bodies more p b stored) ∙ has.has_depth }
+
+depth_more : (bodies more : List Body) (p : Site) (below : List Level) (n : ℕ) → Depth bodies p below n → Stacked bodies p below
+    → Depth (bodies ++ more) p below n
+depth_more bodies more _ _ _ (transaction.bottom p d has) stacked =
+    let b = stored_at bodies p [] stacked in transaction.bottom p d (has_depth_more bodies more p b.body d b.stored has)
+depth_more bodies more _ _ _ (transaction.above p d c below n has rest) stacked =
+    let b = stored_at bodies p (c ∷ below) stacked in
+    let a = above_of bodies p c below stacked in
+    transaction.above p d c below n (has_depth_more bodies more p b.body d b.stored has) (depth_more bodies more c.site below n rest a.under)
+
+pub own_more : (bodies more : List Body) (p : Site) (below : List Level) (d : ℕ) → Stacked bodies p below → HasDepth bodies p d
+    → HasDepth (bodies ++ more) p d
+own_more bodies more p below d stacked has =
+    let b = stored_at bodies p below stacked in has_depth_more bodies more p b.body d b.stored has
+
+pub lower_more : (bodies more : List Body) (p : Site) (below : List Level) (n : ℕ) → Stacked bodies p below → LowerDepth bodies below n
+    → LowerDepth (bodies ++ more) below n
+lower_more bodies more p [] n stacked e = e
+lower_more bodies more p (c ∷ below) n stacked depth = depth_more bodies more c.site below n depth (above_of bodies p c below stacked).under
 
 -- ---- what is ahead, before
 

@@ -4,7 +4,7 @@ use Rattle.std.specs.Ordering.{int_eq}
 use Rattle.std.proofs.lemmas.Bool.{false≢true, and_parts}
 use Rattle.std.proofs.lemmas.Bool.Decides.{Decides-int_eq}
 use Rattle.c_ints.specs.Number.{value_of}
-use Rattle.c_tree.specs.BareExpr.{Bytes, BareType}
+use Rattle.c_tree.specs.BareExpr.{BareType}
 use Rattle.c_tree.specs.BareDef.{BareBinding, BareDef, Struct, Forward, Mutex, Function, Prototype, Global, Array, TransformStruct, TransformGlobal}
 use Rattle.c_semantics.specs.Same.{same_list, same_option, same_type}
 use Rattle.c_semantics.specs.Changes.{same_layout, same_interface, agree}

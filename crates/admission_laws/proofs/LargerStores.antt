@@ -5,7 +5,7 @@ use Rattle.std.specs.Option.{option_and_then}
 use Rattle.bytecode.specs.Skeleton.{Point, PointKind, Return, direct_use, point_at}
 use Rattle.c_tree.specs.BareExpr.{Bytes}
 use Rattle.c_semantics.specs.Store.{Body, Mark}
-use Rattle.effects.specs.Sites.{Site, IsOf, Passes, IsKind, IsReturn, IsEntry, Next, Uses, point_in, function_in, after_call}
+use Rattle.effects.specs.Sites.{Site, IsOf, Passes, IsKind, IsReturn, IsEntry, Next, Uses, point_in, after_call}
 use Rattle.effects.specs.Rows.{Edge, Covers, IsCheckIn, Covered}
 use Rattle.effects.specs.Rows as rows
 use Rattle.effects.proofs.Points.{IsPoint, of_is_point, next_is_to_point}
@@ -13,7 +13,7 @@ use Rattle.admission_laws.specs.Stacks.{Level, AtCall, Stacked, bottom, above, M
 use Rattle.admission_laws.specs.Stacks as stacks
 use Rattle.admission_laws.specs.Standing.{Behind}
 use Rattle.admission_laws.proofs.PointFacts.{Found, found}
-use Rattle.admission_laws.proofs.StackUses.{Above, above_of, stacked_at, may_use_is_point}
+use Rattle.admission_laws.proofs.StackUses.{above_of, stacked_at, may_use_is_point}
 
 pub body_kept : (bodies more : List Body) (i : ℕ) (b : Body) → slice_get bodies i ≡ Some b → slice_get (bodies ++ more) i ≡ Some b
 body_kept [] more i b e = cc

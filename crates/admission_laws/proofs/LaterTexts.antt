@@ -1,6 +1,6 @@
 -- A later text adds bodies to the store and leaves those in force in the versions so far.
-use Rattle.std.proofs.Common.{◌≡◌, ℕ, zero, suc, ◌+◌, ◌<◌, ◌≤◌, max, Bool, true, false, List, [], ◌∷◌, ◌++◌, map, length, append-nil, append_assoc, filter_map, find, slice_get, bytes_eq, Option, Some, None, refl, sym, ap, ◌∙◌, subst, arith, if◌then◌else◌, cond}
-use Rattle.std.specs.Prelude.{◌==◌, ◌&&◌, nat_le}
+use Rattle.std.proofs.Common.{◌≡◌, ℕ, suc, ◌+◌, ◌<◌, ◌≤◌, max, Bool, true, false, List, [], ◌∷◌, ◌++◌, length, append-nil, append_assoc, filter_map, find, slice_get, bytes_eq, Option, Some, None, refl, sym, ap, ◌∙◌, subst, arith, if◌then◌else◌, cond}
+use Rattle.std.specs.Prelude.{◌&&◌, nat_le}
 use Rattle.std.specs.List.{cons_option}
 use Rattle.std.proofs.lemmas.Bool.{and_right, cond-false}
 use Rattle.std.proofs.lemmas.Bool.Decides.{nat_tests}
@@ -122,7 +122,7 @@ body_later texts q f generation b e =
 more_versions : (v n : ℕ) → v ≤ n → v ≤ suc n
 more_versions v n h = omega (arith, h)
 
-longer : (texts : List Text) (q : Text) → length (texts ++ q ∷ []) ≡ suc (length texts)
+pub longer : (texts : List Text) (q : Text) → length (texts ++ q ∷ []) ≡ suc (length texts)
 longer [] q = refl
 longer (t ∷ texts) q = ap suc (longer texts q)
 

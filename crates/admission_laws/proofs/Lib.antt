@@ -10,16 +10,21 @@ pub mod RightUses
 pub mod AdmittedRows
 pub mod EachEvent
 pub mod SeatsAfter
+pub mod Depths
+pub mod EntryVersions
+pub mod RecordedNames
+pub mod ClosureFacts
+pub mod TransactionFacts
+pub mod TransactionSteps
+pub mod InstallSteps
+pub mod TransactionMoves
+pub mod WholeRecords
 pub mod FrameSteps
 pub mod Enters
 pub mod LaterStands
+pub mod LaterTransactions
 pub mod MovedSlots
 pub mod MovesStand
 pub mod Induction
 pub mod Covered
-pub mod EntryVersions
-pub mod RecordedNames
-pub mod ClosureFacts
-pub mod TransactionSteps
-pub mod InstallSteps
-pub mod TransactionFacts
+mod NeededParts

@@ -1,20 +1,19 @@
 -- The slots of a world and their seats after a move.
-use Rattle.std.proofs.Common.{◌≡◌, ◌≢◌, ℕ, ◌≤◌, ◌<◌, ◌⊎◌, inl, inr, Bool, true, false, ◌==◌, List, [], ◌∷◌, length, length-set, get_or-set_same, get_or-set_other, Option, Some, None, refl, sym, ap, subst, ◌∙◌}
+use Rattle.std.proofs.Common.{◌≡◌, ℕ, ◌≤◌, ◌<◌, inl, inr, Bool, true, false, List, length, length-set, get_or-set_same, get_or-set_other, refl, sym, ap, subst, ◌∙◌}
 use Rattle.std.specs.Prelude.{slice_index_or, slice_set}
-use Rattle.std.proofs.lemmas.Bool.{false≢true, cases_eq, cases_lt, ne_eqb, eq-eqb}
+use Rattle.std.proofs.lemmas.Bool.{false≢true, cases_eq, cases_lt}
 use Rattle.std.proofs.lemmas.List.{get_or_past, set_past as set_out}
-use Rattle.c_tree.specs.BareExpr.{Bytes}
 use Rattle.c_semantics.specs.SourceTexts.{Text}
 use Rattle.c_semantics.specs.Stops.{Stop, Spawn}
 use Rattle.c_semantics.specs.Threads.{Enter, Thread, started}
 use Rattle.source_model.specs.Versions.{Table}
 use Rattle.source_model.specs.Uses.{is_right}
-use Rattle.source_model.specs.Worlds.{World, Slot, Free, Live, Over, in_slot}
+use Rattle.source_model.specs.Worlds.{Slot, Free, Live, Over, in_slot}
 use Rattle.source_model.specs.Runs.{is_live}
 use Rattle.source_model.specs.Moves.{Standing}
-use Rattle.source_model.specs.Guards.{Seat, empty_seat, started_seat, seat_after, moved_seat}
+use Rattle.source_model.specs.Guards.{Seat, seat_after}
 use Rattle.admission_laws.specs.SoundTexts.{is_function, version_in, newest}
-use Rattle.admission_laws.specs.Standing.{Starting, FramesStand, SlotStands}
+use Rattle.admission_laws.specs.Standing.{SlotStands}
 use Rattle.admission_laws.proofs.Outcomes.{Beside, untouched, freed, started_at}
 
 -- an enter by which a thread may start
@@ -45,9 +44,31 @@ starts : (texts : List Text) (table : Table) (leads : Bool) (n : ℕ) (e : Enter
     → MayStart texts table e → SlotStands texts table (Live (started n e)) (seat_after false leads x (Live (started n e)) seat)
 starts texts table leads n e (Live th) seat dead m = absurd (false≢true (sym dead))
 starts texts table leads n e Free seat dead m =
-    record { enter = e; is_due = refl; marked = refl; at_check_in = refl; version = m.version; function_is = m.function_is; right = m.right }
+    record {
+      enter = e;
+      is_due = refl;
+      marked = refl;
+      at_check_in = refl;
+      version = m.version;
+      function_is = m.function_is;
+      right = m.right;
+      outside = refl;
+      none_recorded = refl;
+      unpinned = refl;
+    }
 starts texts table leads n e (Over k v) seat dead m =
-    record { enter = e; is_due = refl; marked = refl; at_check_in = refl; version = m.version; function_is = m.function_is; right = m.right }
+    record {
+      enter = e;
+      is_due = refl;
+      marked = refl;
+      at_check_in = refl;
+      version = m.version;
+      function_is = m.function_is;
+      right = m.right;
+      outside = refl;
+      none_recorded = refl;
+      unpinned = refl;
+    }
 
 -- the slots beside the moved one
 module _ (texts : List Text) (table : Table) (leads : Bool) (s : Standing) (x : Stop)

@@ -1,5 +1,5 @@
 -- What a stop makes of a world, as far as frames, enters, records and slots go.
-use Rattle.std.proofs.Common.{◌≡◌, ℕ, zero, suc, Bool, true, false, ◌||◌, ◌⊎◌, inl, inr, List, [], ◌∷◌, ◌++◌, length, position, slice_get, slice_set, unwrap_or, unsigned_abs, Option, Some, None, is_some, length-set, refl, sym, ap, subst, ◌∙◌, if◌then◌else◌}
+use Rattle.std.proofs.Common.{◌≡◌, ℕ, zero, suc, Bool, true, false, ◌⊎◌, inl, inr, List, [], ◌∷◌, ◌++◌, length, position, slice_get, slice_set, unwrap_or, unsigned_abs, Option, Some, None, is_some, length-set, refl, ap, subst, ◌∙◌, if◌then◌else◌}
 use Rattle.std.specs.Prelude.{◌==◌}
 use Rattle.std.proofs.lemmas.List.Quantifiers.{position-Some}
 use Rattle.bytecode.specs.declared.trap.TrapKind.{TrapKind}
@@ -12,7 +12,7 @@ use Rattle.c_semantics.specs.Threads.{Frame, Enter, Thread, started}
 use Rattle.source_model.specs.Worlds.{World, Object, Slot, Live, Over, Closed, in_slot, with_slot, cells_of, with_cells, live_objects, released}
 use Rattle.source_model.specs.Worlds as world
 use Rattle.source_model.specs.Runs.{is_live}
-use Rattle.source_model.specs.Moves.{Standing, on_live, on_object, read_element, write_element, read_field, write_field, allocate, release, initialise, lock, unlock, start_in, spawn, join_slot, join, finish_thread, return_to, return, begin_at, end_at, write_global, print, call, perform, goes_on, gone_on, traps, is_free, in_bounds, new_object, arguments_of}
+use Rattle.source_model.specs.Moves.{Standing, on_live, on_object, read_element, write_element, read_field, write_field, allocate, release, initialise, lock, unlock, start_in, spawn, join_slot, join, finish_thread, return_to, return, begin_at, end_at, write_global, call, perform, goes_on, gone_on, traps, is_free, in_bounds, new_object, arguments_of}
 
 -- what no stop changes
 pub record Same (w after : World) : Type 0 where
@@ -46,7 +46,7 @@ pub data Records (s : Standing) (th : Thread) (closed : List Closed) : Stop → 
   begins : s.thread.depth ≡ 0 → th.depth ≡ 1 → th.uses ≡ [] → closed ≡ s.world.closed → Records s th closed Begin
   deeper : (d : ℕ) → s.thread.depth ≡ suc d → th.depth ≡ suc (suc d) → th.uses ≡ s.thread.uses → closed ≡ s.world.closed
       → Records s th closed Begin
-  close : s.thread.depth ≡ 1 → th.depth ≡ 0 → closed ≡ s.world.closed ++ record { slot = s.slot; uses = s.thread.uses } ∷ []
+  close : s.thread.depth ≡ 1 → th.depth ≡ 0 → th.uses ≡ [] → closed ≡ s.world.closed ++ record { slot = s.slot; uses = s.thread.uses } ∷ []
       → Records s th closed End
   shallower : (d : ℕ) → s.thread.depth ≡ suc (suc d) → th.depth ≡ suc d → th.uses ≡ s.thread.uses → closed ≡ s.world.closed
       → Records s th closed End
@@ -246,7 +246,7 @@ end_made : (s : Standing) (values : List Value) (depth : ℕ) → s.thread.depth
 end_made s values zero e = tt
 end_made s values (suc zero) e =
     goes (same s.world _ refl refl refl (length-set s.world.slots s.slot _)) refl refl (record (gone_on s values) { depth = 0; uses = [] }) values
-    refl refl (close e refl refl) _ untouched refl
+    refl refl (close e refl refl refl) _ untouched refl
 end_made s values (suc (suc d)) e =
     goes (same s.world _ refl refl refl (length-set s.world.slots s.slot _)) refl refl (record (gone_on s values) { depth = suc d }) values
     refl refl (shallower d e refl refl refl) _ untouched refl

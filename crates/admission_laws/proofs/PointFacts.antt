@@ -1,8 +1,8 @@
 -- What is said of a site, by the body in the list.
-use Rattle.std.proofs.Common.{◌≡◌, ℕ, Bool, true, List, Some, None, refl, ap, sym, ◌∙◌}
+use Rattle.std.proofs.Common.{◌≡◌, ℕ, suc, Bool, true, false, List, [], ◌∷◌, find, cond, Some, None, refl, ap, sym, ◌∙◌}
 use Rattle.std.specs.Prelude.{Option, option_map, slice_get}
 use Rattle.std.specs.Option.{option_and_then}
-use Rattle.std.proofs.lemmas.Option.{same_Some}
+use Rattle.std.proofs.lemmas.Option.{none-some, same_Some}
 use Rattle.bytecode.specs.Skeleton.{Skeleton, Point, PointKind, Leads, direct_use, point_at, kind_at}
 use Rattle.c_tree.specs.BareExpr.{Bytes}
 use Rattle.c_semantics.specs.Store.{Body}
@@ -94,6 +94,11 @@ uses_by_kind bodies p k name x h = by (point_in bodies p) refl x.is_kind
       uses = ap (option_and_then (λ at. direct_use at.kind)) e ∙ ap direct_use (same_Some _ _ is) ∙ h;
     }
 
+-- the use of a point is that of its kind
+pub use_of_kind : (o : Option Point) → option_and_then direct_use (option_map (λ at. at.kind) o) ≡ option_and_then (λ at. direct_use at.kind) o
+use_of_kind None = refl
+use_of_kind (Some at) = refl
+
 -- control goes between two points of a body
 pub next_at : (bodies : List Body) (p q : Site) (b : Body) (from to : Point) → slice_get bodies p.body ≡ Some b → q.body ≡ p.body
     → Leads b.skeleton p.point q.point → point_at b.skeleton p.point ≡ Some from → point_at b.skeleton q.point ≡ Some to → Next bodies p q
@@ -107,3 +112,13 @@ next_at bodies p q b from to stored same leads is_from is_to = record {
   is_from = is_from;
   is_to = is_to;
 }
+
+-- what is found is at a place
+pub place_of : (bodies : List Body) (test : Body → Bool) (b : Body) → find test bodies ≡ Some b → (i : ℕ) × (slice_get bodies i ≡ Some b)
+place_of [] test b e = absurd (none-some b e)
+place_of (x ∷ bodies) test b e = by (test x) e (place_of bodies test b)
+  where
+    by : (t : Bool) → cond t (Some x) (find test bodies) ≡ Some b → (find test bodies ≡ Some b → (i : ℕ) × (slice_get bodies i ≡ Some b))
+        → (i : ℕ) × (slice_get (x ∷ bodies) i ≡ Some b)
+    by true h rest = (0, h)
+    by false h rest = let r = rest h in (suc r.0, r.1)

@@ -1,6 +1,6 @@
 -- Uses that are right: of the names of the current version, and after a patch that leaves their interfaces.
-use Rattle.std.proofs.Common.{◌≡◌, ℕ, suc, ◌<◌, ◌≤◌, ◌⊎◌, inl, inr, Bool, true, false, not, ◌&&◌, List, [], ◌∷◌, ◌++◌, map, length, is_some, Option, Some, None, refl, sym, ap, subst, ◌∙◌, arith}
-use Rattle.std.proofs.lemmas.Bool.{false≢true, and_from, not_from_false, false_from_ne_true, true_from_ne_false, cases_lt}
+use Rattle.std.proofs.Common.{◌≡◌, ℕ, ◌≤◌, inl, inr, Bool, true, false, not, List, [], ◌∷◌, ◌++◌, length, is_some, Option, Some, None, refl, sym, ap, subst, ◌∙◌}
+use Rattle.std.proofs.lemmas.Bool.{false≢true, and_from, not_from_false, cases_lt}
 use Rattle.std.proofs.lemmas.List.{length-map}
 use Rattle.c_tree.specs.BareExpr.{Bytes}
 use Rattle.c_tree.specs.BareDef.{BareDef, Function}
@@ -8,12 +8,12 @@ use Rattle.name_sets.specs.NameLists.{name_set, is_among}
 use Rattle.c_semantics.specs.Texts.{definition, names}
 use Rattle.c_semantics.specs.Changes.{same_interface, agree, interface}
 use Rattle.c_semantics.specs.SourceTexts.{Text}
-use Rattle.source_model.specs.Versions.{Table}
+use Rattle.source_model.specs.Versions.{Table, current, in_version}
 use Rattle.source_model.specs.Uses.{is_right}
-use Rattle.version_laws.specs.Histories.{IsHistory, text_in, last_text}
+use Rattle.version_laws.specs.Histories.{Alike, IsHistory, text_in, last_text}
 use Rattle.version_laws.proofs.DefinedNames.{among_names, among_set, among_filtered, found_defines}
 use Rattle.version_laws.proofs.SameDefinitions.{interface_is_itself}
-use Rattle.version_laws.proofs.TableHistories.{right_by_texts, text_as_before, last_is_next, no_text_later}
+use Rattle.version_laws.proofs.TableHistories.{right_by_texts, text_as_before, last_as_current, last_is_next, no_text_later}
 use Rattle.admission_laws.specs.SoundTexts.{is_function, definitions_of, version_in, newest, now_in}
 use Rattle.admission_laws.proofs.Interfaces.{agree_through}
 use Rattle.admission_laws.proofs.LaterTexts.{definitions_more}
@@ -22,12 +22,30 @@ use Rattle.admission_laws.proofs.LaterTexts.{definitions_more}
 pub last_by_name : (texts : List Text) (name : Bytes) → definition (last_text (definitions_of texts)) name ≡ now_in texts name
 last_by_name texts name = ap (λ n. definition (text_in (definitions_of texts) n) name) (length-map texts (λ t. t.definitions))
 
+-- a function is defined
+pub function_defined : (o : Option BareDef) → is_function o ≡ true → is_some o ≡ true
+function_defined None h = h
+function_defined (Some d) h = refl
+
+alike_defined : (a b : Option BareDef) → Alike a b → is_some a ≡ is_some b
+alike_defined None None h = refl
+alike_defined (Some a) (Some b) h = refl
+alike_defined (Some a) None h = absurd h
+alike_defined None (Some b) h = absurd h
+
+-- what the current version defines the newest text does
+pub defined_alike : (texts : List Text) (table : Table) → IsHistory (definitions_of texts) table → (name : Bytes)
+    → is_some (in_version table (current table) name) ≡ is_some (now_in texts name)
+defined_alike texts table h name =
+    alike_defined (in_version table (current table) name) (now_in texts name)
+    (subst (Alike (in_version table (current table) name)) (last_by_name texts name) (last_as_current (definitions_of texts) table h name))
+
 pub right_now : (texts : List Text) (table : Table) → IsHistory (definitions_of texts) table → (n : ℕ) (name : Bytes)
     → is_right table n name ≡ agree same_interface (version_in texts n name) (now_in texts name)
 right_now texts table h n name =
     right_by_texts (definitions_of texts) table h n name ∙ ap (agree same_interface (version_in texts n name)) (last_by_name texts name)
 
-agrees_itself : (text : List BareDef) (name : Bytes) → is_some (definition text name) ≡ true
+pub agrees_itself : (text : List BareDef) (name : Bytes) → is_some (definition text name) ≡ true
     → agree same_interface (definition text name) (definition text name) ≡ true
 agrees_itself text name h = by (definition text name) refl h
   where
@@ -88,6 +106,12 @@ within texts n name h = elim (cases_lt (length texts) n) [
   | inl less ↦ absurd (false≢true (sym (ap (λ text. is_some (definition text name)) (no_text_later texts n less)) ∙ h))
   | inr le ↦ le
 ]
+
+-- what is rightly used is defined now
+pub defined_now : (texts : List Text) (table : Table) → IsHistory (definitions_of texts) table → (n : ℕ) (name : Bytes)
+    → is_right table n name ≡ true → is_some (now_in texts name) ≡ true
+defined_now texts table h n name right =
+    agree_second (version_in texts n name) (now_in texts name) (sym (right_now texts table h n name) ∙ right)
 
 -- after a text that leaves the interface of a name, a right use of it stays right
 pub right_later : (texts : List Text) (q : Text) (table next : Table) → IsHistory (definitions_of texts) table

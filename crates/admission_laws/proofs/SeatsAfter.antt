@@ -1,13 +1,13 @@
 -- The seat of a slot after an event.
-use Rattle.std.proofs.Common.{◌≡◌, ℕ, zero, suc, ◌+◌, ◌≤◌, Bool, true, false, ◌==◌, List, [], ◌∷◌, length, refl, sym, ap, subst, ◌∙◌, arith, zero-le, if◌then◌else◌}
+use Rattle.std.proofs.Common.{◌≡◌, ℕ, zero, suc, ◌+◌, ◌<◌, ◌≤◌, Bool, true, false, ◌&&◌, ◌||◌, ◌==◌, List, [], ◌∷◌, length, refl, sym, ap, subst, ◌∙◌, arith, zero-le, if◌then◌else◌}
 use Rattle.std.specs.Prelude.{slice_index_or}
 use Rattle.std.proofs.lemmas.Bool.{false≢true}
 use Rattle.std.proofs.lemmas.List.{get_or_past}
 use Rattle.c_semantics.specs.Store.{Body}
-use Rattle.con_freeness.specs.Rows.{Names}
+use Rattle.con_freeness.specs.Rows.{Names, meets}
 use Rattle.source_model.specs.Worlds.{World, Slot, Free, Live, Over, in_slot, alive_in, is_finished}
 use Rattle.source_model.specs.Runs.{is_live}
-use Rattle.source_model.specs.Guards.{Guard, Seat, Rules, empty_seat, seat_of, move_leads, seat_after, seats_from, moved, pinned_from}
+use Rattle.source_model.specs.Guards.{Guard, Seat, Rules, empty_seat, seat_of, move_leads, seat_after, seats_from, moved, pinned_from, in_transaction, row_in_force}
 
 dead_seat : (b leads : Bool) (x y : Slot) (s : Seat) → is_live y ≡ false → seat_after b leads x y s ≡ empty_seat
 dead_seat b leads x (Live th) s h = absurd (false≢true (sym h))
@@ -68,6 +68,25 @@ pub check_in_kept : (rules : Rules) (bodies : List Body) (names : Names) (w : Wo
 check_in_kept rules bodies names w n [] i = refl
 check_in_kept rules bodies names w n (s ∷ ss) zero = refl
 check_in_kept rules bodies names w n (s ∷ ss) (suc i) = check_in_kept rules bodies names w (suc n) ss i
+
+from_empty : (i : ℕ) → i < 0 → ⊥
+from_empty i h = omega (arith, h)
+
+less_by_one : (i n : ℕ) → suc i < suc n → i < n
+less_by_one i n h = omega (arith, h)
+
+-- the pin is set of a thread in a transaction whose prior set meets the names
+pub pin_set : (rules : Rules) (bodies : List Body) (names : Names) (w : World) (n : ℕ) (ss : List Seat) (i : ℕ) → i < length ss
+    → (slice_index_or (pinned_from rules bodies names w n ss) i empty_seat).pinned
+    ≡ ((slice_index_or ss i empty_seat).pinned
+    || (in_transaction (alive_in w (n + i)) && meets names (row_in_force rules bodies (slice_index_or ss i empty_seat).mark).prior))
+pin_set rules bodies names w n [] i inside = absurd (from_empty i inside)
+pin_set rules bodies names w n (s ∷ ss) zero inside =
+    ap (λ k. s.pinned || (in_transaction (alive_in w k) && meets names (row_in_force rules bodies s.mark).prior)) (from_zero n)
+pin_set rules bodies names w n (s ∷ ss) (suc i) inside =
+    pin_set rules bodies names w (suc n) ss i (less_by_one i (length ss) inside)
+    ∙ ap (λ k. (slice_index_or ss i empty_seat).pinned
+    || (in_transaction (alive_in w k) && meets names (row_in_force rules bodies (slice_index_or ss i empty_seat).mark).prior)) (one_further n i)
 
 pub length_pinned : (rules : Rules) (bodies : List Body) (names : Names) (w : World) (n : ℕ) (ss : List Seat)
     → length (pinned_from rules bodies names w n ss) ≡ length ss

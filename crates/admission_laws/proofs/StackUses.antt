@@ -4,7 +4,7 @@ use Rattle.std.proofs.Common.{◌≡◌, ℕ, ◌⊎◌, inl, inr, List, [], ◌
 use Rattle.bytecode.specs.Skeleton.{Return}
 use Rattle.c_tree.specs.BareExpr.{Bytes}
 use Rattle.c_semantics.specs.Store.{Body}
-use Rattle.effects.specs.Sites.{Site, IsOf, Next, Uses, after_call}
+use Rattle.effects.specs.Sites.{Site, IsOf, Uses, after_call}
 use Rattle.effects.specs.Concrete.{Concrete}
 use Rattle.effects.specs.Concrete as concrete
 use Rattle.effects.proofs.Points.{IsPoint, uses_is_point, kind_is_point, next_is_from_point, next_is_to_point}

@@ -1,5 +1,5 @@
 -- The laws of transactions, from the lemmas on their parts.
-use Rattle.std.proofs.Common.{◌≡◌, ℕ, suc, ◌<◌, Bool, true, false, List, All, Contains, is_some, arith}
+use Rattle.std.proofs.Common.{◌≡◌, ℕ, suc, ◌<◌, true, false, Contains, is_some, arith}
 use Rattle.std.proofs.lemmas.List.Elements.{All-weaker, All-contains, All-contains_itself}
 use Rattle.c_semantics.specs.Changes.{changed}
 use Rattle.c_semantics.specs.Texts.{definition}

@@ -1,5 +1,5 @@
 -- What is known of a thread in a transaction stays so where it goes on.
-use Rattle.std.proofs.Common.{◌≡◌, ℕ, zero, suc, pred, ◌+◌, ◌<◌, ◌≤◌, ◌⊎◌, inl, inr, Bool, true, false, not, ◌&&◌, ◌==◌, List, [], ◌∷◌, ◌++◌, All, slice_get, is_some, option_map, Option, Some, None, refl, sym, ap, subst, ◌∙◌, arith, add-zero, zero-add}
+use Rattle.std.proofs.Common.{◌≡◌, ℕ, zero, suc, ◌+◌, ◌<◌, Bool, true, false, ◌&&◌, List, [], ◌∷◌, All, slice_get, is_some, Option, Some, None, refl, sym, ap, subst, ◌∙◌, arith, add-zero, zero-add}
 use Rattle.std.specs.Prelude.{nat_lt}
 use Rattle.std.proofs.lemmas.Bool.{false≢true, and_parts, lt-ltb, ltb-true}
 use Rattle.std.proofs.lemmas.List.Elements.{All-nil, All-push, All-weaker}
@@ -14,15 +14,14 @@ use Rattle.source_model.specs.Versions.{Table, current, in_version}
 use Rattle.source_model.specs.Uses.{HasVersion, use_of, recorded_at}
 use Rattle.bytecode.specs.Skeleton.{Return}
 use Rattle.bytecode.specs.Skeleton as kind
-use Rattle.admission_laws.specs.SoundTexts.{is_function, now_in}
+use Rattle.admission_laws.specs.SoundTexts.{IsInForce, is_function, now_in}
 use Rattle.admission_laws.specs.Stacks.{Level, AtCall, Stacked}
 use Rattle.admission_laws.specs.Transactions.{HasDepth, Depth, Known}
 use Rattle.admission_laws.specs.Transactions as transaction
-use Rattle.admission_laws.specs.Closures.{IsInForce, ToUse, GoesFurther, Ahead}
+use Rattle.admission_laws.specs.Closures.{GoesFurther, Ahead}
 use Rattle.admission_laws.specs.Closures as closure
-use Rattle.admission_laws.specs.InTransactions.{LowerDepth, Shares, AreVersioned, InTransaction, IsNoEnd}
+use Rattle.admission_laws.specs.InTransactions.{LowerDepth, AreVersioned, InTransaction}
 use Rattle.admission_laws.proofs.PointFacts.{uses_by_kind}
-use Rattle.admission_laws.proofs.StackUses.{above_of, stacked_at}
 use Rattle.admission_laws.proofs.RecordedNames.{inside_by, nested_by, function_at, used_here, known_next, known_entered, known_function, known_returned}
 use Rattle.admission_laws.proofs.ClosureFacts.{ahead_before_enter}
 use Rattle.admission_laws.proofs.EntryVersions.{current_has}
@@ -58,7 +57,7 @@ recorded_all : (P : Use → Type 0) (depth : ℕ) (uses : Record) (u : Use) → 
 recorded_all P zero uses u all new = all
 recorded_all P (suc depth) uses u all new = All-push P uses u all new
 
-none_recorded : (depth : ℕ) (uses : Record) (u : Use) → depth ≡ 0 → uses ≡ [] → recorded_at depth uses u ≡ []
+pub none_recorded : (depth : ℕ) (uses : Record) (u : Use) → depth ≡ 0 → uses ≡ [] → recorded_at depth uses u ≡ []
 none_recorded zero uses u e none = none
 none_recorded (suc depth) uses u e none = cc
 
@@ -98,7 +97,8 @@ moved_versioned texts table pinned depth p below uses h x =
 -- ---- to a stop
 
 module _ (texts : List Text) (table : Table) (depth : ℕ) (uses : Record) (pinned : Bool) (p n : Site) (own : ℕ) (below : List Level)
-    (x : InTransaction texts table depth uses pinned p own None below) (no_end : IsNoEnd texts p) (stacked : Stacked (store texts) n below)
+    (x : InTransaction texts table depth uses pinned p own None below) (further_p : GoesFurther (store texts) p below)
+    (stacked : Stacked (store texts) n below)
     (next : Next (store texts) p n) (here : HasDepth (store texts) n own) where
   inside_there : 0 < depth → Inside (store texts) n
   inside_there h =
@@ -106,7 +106,7 @@ module _ (texts : List Text) (table : Table) (depth : ℕ) (uses : Record) (pinn
       (subst (λ d. 0 < d) x.total h) stacked
 
   still_ahead : (name : Bytes) → Ahead texts n below name → Ahead texts p below name
-  still_ahead name a = closure.later p n below name (closure.no_end p below no_end) next a
+  still_ahead name a = closure.later p n below name further_p next a
 
   -- that uses no name
   pub to_stop : (due : Option Enter) → InTransaction texts table depth uses pinned n own due below
@@ -233,6 +233,23 @@ ends_there texts table depth uses pinned n q own behind due below x here sum = r
     none h = omega (arith, h)
 
 -- ---- into a function, and back
+
+-- a started thread, at the entry of its function
+pub starts_there : (texts : List Text) (table : Table) (depth : ℕ) (uses : Record) (pinned : Bool) (at : Site) → depth ≡ 0 → uses ≡ []
+    → pinned ≡ false → HasDepth (store texts) at 0 → InTransaction texts table depth uses pinned at 0 None []
+starts_there texts table depth uses pinned at outside none unpinned here = record {
+  here = here;
+  lower = 0;
+  lower_is = refl;
+  total = outside;
+  known = λ h. absurd (zero_depth depth outside h);
+  versioned = λ h. absurd (zero_depth depth outside h);
+  outside = λ h. none;
+  pin = λ h. absurd (false≢true (sym unpinned ∙ h));
+}
+  where
+    zero_depth : (d : ℕ) → d ≡ 0 → 0 < d → ⊥
+    zero_depth d e h = omega (arith, e, h)
 
 -- from a call to the entry of the function, whose use is recorded
 pub enters_there : (texts : List Text) (table : Table) (depth : ℕ) (uses : Record) (pinned : Bool) (c : Level) (at : Site) (own : ℕ) (e : Enter)

@@ -1,16 +1,19 @@
 -- Laws of admission, for each guard that a legal journal comes to, over rules whose rows are those of the effects.
-use Rattle.std.specs.Prelude.{◌≡◌, ℕ, false, List, [], ◌∷◌, Some, Option, slice_get}
+use Rattle.std.specs.Prelude.{◌≡◌, ℕ, true, false, List, [], ◌∷◌, All, Some, Option, slice_get}
 use Rattle.bytecode.specs.declared.run.Event.{Event}
 use Rattle.c_tree.specs.BareExpr.{Bytes}
+use Rattle.name_sets.specs.NameLists.{is_among}
 use Rattle.c_semantics.specs.Standing.{stands_at}
 use Rattle.c_semantics.specs.Store.{Body, Mark, Start, generation_by, body_in}
 use Rattle.c_semantics.specs.Threads.{Frame, Enter, Thread}
 use Rattle.effects.specs.Sites.{Site}
 use Rattle.effects.specs.Concrete.{Concrete}
 use Rattle.effects.specs.Rows.{Covered}
+use Rattle.source_model.specs.Uses.{IsConsistent}
 use Rattle.source_model.specs.Worlds.{Live, in_slot}
-use Rattle.source_model.specs.Guards.{Guard, Seat, Setup, Rules, has_ended, bodies_of, seat_of}
+use Rattle.source_model.specs.Guards.{Guard, Seat, Setup, Rules, has_ended, bodies_of, seat_of, in_force}
 use Rattle.source_model.specs.Journals.{guard_after}
+use Rattle.source_model.specs.Runs.{Result, result}
 use Rattle.admission_laws.specs.Rules.{AreRows}
 use Rattle.admission_laws.specs.SoundTexts.{AllSound}
 use Rattle.admission_laws.specs.Stacks.{Level, Stacked, MayUse}
@@ -60,3 +63,22 @@ abbrev pub UsesAreConcrete : Type 0
 UsesAreConcrete =
     (bodies : List Body) (p : Site) (version : ℕ) (below : List Level) (on_behalf : ℕ) (name : Bytes)
     → Stacked bodies p below → MayUse bodies p version below on_behalf name → Concrete bodies p name
+
+-- as long as the run goes on, what a thread recorded in its transaction is in the prior set of its row in force
+abbrev pub RecordedArePrior : Type 0
+RecordedArePrior =
+    (rules : Rules) (setup : Setup) (events : List Event) (g : Guard) (t : ℕ) (th : Thread)
+    → AreRows rules → AllSound setup → guard_after rules setup events ≡ Some g → has_ended g ≡ false → in_slot g.world t ≡ Live th
+    → All (λ u. is_among (in_force rules (bodies_of g) (seat_of g t)).row.prior u.name ≡ true) th.uses
+
+-- what a run gives is consistent with its versions: no definition was misused, and of each transaction, closed or open, the
+-- recorded definitions share a version (transactional version consistency, POPL 2008)
+pub record IsVersionConsistent (r : Result) : Type 0 where
+  pub unmisused : r.misused ≡ false
+  pub closed : All (λ c. IsConsistent r.world.table c.uses) r.closed
+  pub in_progress : All (IsConsistent r.world.table) r.open_records
+
+abbrev pub TransactionsShareAVersion : Type 0
+TransactionsShareAVersion =
+    (rules : Rules) (setup : Setup) (events : List Event) (g : Guard)
+    → AreRows rules → AllSound setup → guard_after rules setup events ≡ Some g → IsVersionConsistent (result g.world)

@@ -1,21 +1,14 @@
 -- What a thread may still use until its outermost transaction ends: the actual frames, and the bodies now in force of what
 -- they call.
-use Rattle.std.specs.Prelude.{◌≡◌, ℕ, ◌<◌, true, false, List, [], ◌∷◌, ◌++◌, Some, not}
+use Rattle.std.specs.Prelude.{◌≡◌, ℕ, ◌<◌, true, List, ◌∷◌, Some, not}
 use Rattle.bytecode.specs.Skeleton.{PointKind, Call, Return, direct_use, kind_at}
 use Rattle.c_tree.specs.BareExpr.{Bytes}
-use Rattle.name_sets.specs.NameLists.{is_among}
-use Rattle.c_semantics.specs.Changes.{changed}
 use Rattle.c_semantics.specs.SourceTexts.{Text}
-use Rattle.c_semantics.specs.Store.{Body, store, generation_by, body_in}
+use Rattle.c_semantics.specs.Store.{Body, store}
 use Rattle.effects.specs.Sites.{Site, IsCall, IsKind, Next, Passes, Uses, after_call, is_outer_end}
-use Rattle.version_laws.specs.Histories.{last_text}
-use Rattle.admission_laws.specs.SoundTexts.{is_function, definitions_of, newest, now_in}
+use Rattle.admission_laws.specs.SoundTexts.{IsInForce, is_function, now_in}
 use Rattle.admission_laws.specs.Stacks.{Level}
 use Rattle.admission_laws.specs.Transactions.{Depth}
-
--- the body of a function in force in the newest version
-pub record IsInForce (texts : List Text) (f : Bytes) (b : Body) : Type 0 where
-  pub found : body_in (store texts) f (generation_by f (newest texts) (store texts)) ≡ Some b
 
 -- a name that a call of f uses, over the bodies in force
 pub data ToUse (texts : List Text) : Bytes → Bytes → Type 0 where
@@ -40,13 +33,3 @@ pub data Ahead (texts : List Text) : Site → List Level → Bytes → Type 0 wh
       → GoesFurther (store texts) p below → Next (store texts) p q → Ahead texts q below name → Ahead texts p below name
   returned : (r : Site) (c : Level) (below : List Level) (name : Bytes)
       → IsKind (store texts) r Return → Ahead texts (after_call c.site) below name → Ahead texts r (c ∷ below) name
-
--- a function that a text leaves as it is, with all names that it uses, keeps its body in force
-abbrev pub BodiesStay : List Text → Text → Type 0
-BodiesStay texts q =
-    let names = changed (last_text (definitions_of texts)) q.definitions in
-    (f : Bytes) (b : Body)
-    → is_function (now_in texts f) ≡ true → is_among names f ≡ false
-    → ((a : Body) (n : ℕ) (k : PointKind) (name : Bytes)
-    → IsInForce texts f a → kind_at a.skeleton n ≡ Some k → direct_use k ≡ Some name → is_among names name ≡ false)
-    → IsInForce (texts ++ q ∷ []) f b → IsInForce texts f b

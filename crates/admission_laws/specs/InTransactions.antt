@@ -1,10 +1,11 @@
 -- What is known of a thread in a transaction: the names that it recorded, and versions that their entries share.
-use Rattle.std.specs.Prelude.{◌≡◌, ℕ, ◌+◌, ◌<◌, Bool, true, false, List, [], ◌∷◌, All, Option, not}
+use Rattle.std.specs.Prelude.{◌≡◌, ℕ, ◌+◌, ◌<◌, Bool, true, false, List, [], ◌∷◌, All, Option}
+use Rattle.bytecode.specs.Skeleton.{PointKind, Begin, End}
 use Rattle.c_tree.specs.BareExpr.{Bytes}
 use Rattle.c_semantics.specs.SourceTexts.{Text}
 use Rattle.c_semantics.specs.Store.{Body, store}
 use Rattle.c_semantics.specs.Threads.{Enter, Record}
-use Rattle.effects.specs.Sites.{Site, Passes, is_outer_end}
+use Rattle.effects.specs.Sites.{Site, Passes}
 use Rattle.source_model.specs.Versions.{Table, current}
 use Rattle.source_model.specs.Uses.{HasVersion, use_of}
 use Rattle.admission_laws.specs.Stacks.{Level}
@@ -39,6 +40,12 @@ pub record InTransaction (texts : List Text) (table : Table) (depth : ℕ) (uses
   pub outside : depth ≡ 0 → uses ≡ []
   pub pin : pinned ≡ true → 0 < depth
 
--- and the site is no outer end
-abbrev pub IsNoEnd : List Text → Site → Type 0
-IsNoEnd texts p = Passes (store texts) p (λ at. not (is_outer_end at))
+-- whether a thread is in as many transactions after a point as before
+abbrev pub keeps_depth : PointKind → Bool
+keeps_depth Begin = false
+keeps_depth End = false
+keeps_depth _ = true
+
+-- no transaction begins or ends at a site
+abbrev pub IsStill : List Body → Site → Type 0
+IsStill bodies p = Passes bodies p (λ at. keeps_depth at.kind)

@@ -1,9 +1,9 @@
 pub mod Rules
 pub mod SoundTexts
 pub mod Stacks
-pub mod Standing
-pub mod AdmissionLaws
 pub mod Transactions
 pub mod Closures
 pub mod InTransactions
+pub mod Standing
+pub mod AdmissionLaws
 pub mod TransactionLaws

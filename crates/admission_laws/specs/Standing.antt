@@ -8,7 +8,7 @@ use Rattle.c_semantics.specs.SkeletonLaws.{Comes}
 use Rattle.c_semantics.specs.SourceTexts.{Text}
 use Rattle.c_semantics.specs.Standing.{stands_at}
 use Rattle.c_semantics.specs.Store.{Body, Mark, Start, CheckInOf, store, generation_by, body_in}
-use Rattle.c_semantics.specs.Threads.{Frame, Enter}
+use Rattle.c_semantics.specs.Threads.{Frame, Enter, Record}
 use Rattle.effects.specs.Sites.{Site, Passes, stays}
 use Rattle.effects.specs.Rows.{Covers, Covered, IsCheckIn}
 use Rattle.source_model.specs.Versions.{Table}
@@ -17,6 +17,7 @@ use Rattle.source_model.specs.Worlds.{Slot, Free, Live, Over}
 use Rattle.source_model.specs.Guards.{Seat}
 use Rattle.admission_laws.specs.SoundTexts.{is_function, version_in, newest}
 use Rattle.admission_laws.specs.Stacks.{Level, AtCall, Stacked, MayUse}
+use Rattle.admission_laws.specs.InTransactions.{InTransaction, IsStill}
 
 -- a frame goes through a body of the store, the one at a place of the list: that which is in force in the frame's version.
 -- With the function's tree, through which the frame comes; what it calls or spawns is a function in that version
@@ -65,9 +66,10 @@ pub data Placed (bodies : List Body) (mark : Mark) (p : Site) (version : ℕ) : 
   stopped : Behind bodies mark p → Passes bodies p (λ at. not (is_check_in_kind at.kind)) → Passes bodies p (λ at. stays at.kind)
       → Placed bodies mark p version None false
 
--- where a thread with frames stands, the innermost frame first. Each name that they may still use has now the interface that
--- it has in the version on whose behalf it is used
-pub record StandsAt (texts : List Text) (table : Table) (f : Frame) (fs : List Frame) (due : Option Enter) (seat : Seat) : Type 0 where
+-- where a thread with frames stands, the innermost frame first, in so many transactions and with that record. Each name that
+-- its frames may still use has now the interface that it has in the version on whose behalf it is used
+pub record StandsAt (texts : List Text) (table : Table) (f : Frame) (fs : List Frame) (due : Option Enter) (depth : ℕ) (uses : Record)
+    (seat : Seat) : Type 0 where
   pub site : Site
   pub sits : Sits texts f site.body
   pub point : site.point ≡ stands_at (skeleton sits.code) due f
@@ -78,9 +80,12 @@ pub record StandsAt (texts : List Text) (table : Table) (f : Frame) (fs : List F
   pub marked : seat.mark ≡ Some mark
   pub placed : Placed (store texts) mark site f.version due seat.at_check_in
   pub right : (version : ℕ) (name : Bytes) → MayUse (store texts) site f.version levels version name → is_right table version name ≡ true
+  pub still : IsStill (store texts) site
+  pub own : ℕ
+  pub transaction : InTransaction texts table depth uses seat.pinned site own due levels
 
--- a thread that was started, whose function is to be entered: the row of its start is in force
-pub record Starting (texts : List Text) (table : Table) (due : Option Enter) (seat : Seat) : Type 0 where
+-- a thread that was started, whose function is to be entered: the row of its start is in force, and it is in no transaction
+pub record Starting (texts : List Text) (table : Table) (due : Option Enter) (depth : ℕ) (uses : Record) (seat : Seat) : Type 0 where
   pub enter : Enter
   pub is_due : due ≡ Some enter
   pub marked : seat.mark ≡ Some (Start enter.function)
@@ -88,13 +93,16 @@ pub record Starting (texts : List Text) (table : Table) (due : Option Enter) (se
   pub version : enter.version ≤ newest texts
   pub function_is : is_function (version_in texts enter.version enter.function) ≡ true
   pub right : is_right table enter.version enter.function ≡ true
+  pub outside : depth ≡ 0
+  pub none_recorded : uses ≡ []
+  pub unpinned : seat.pinned ≡ false
 
-abbrev pub FramesStand : List Text → Table → List Frame → Option Enter → Seat → Type 0
-FramesStand texts table [] due seat = Starting texts table due seat
-FramesStand texts table (f ∷ fs) due seat = StandsAt texts table f fs due seat
+abbrev pub FramesStand : List Text → Table → List Frame → Option Enter → ℕ → Record → Seat → Type 0
+FramesStand texts table [] due depth uses seat = Starting texts table due depth uses seat
+FramesStand texts table (f ∷ fs) due depth uses seat = StandsAt texts table f fs due depth uses seat
 
 -- a slot with its seat
 abbrev pub SlotStands : List Text → Table → Slot → Seat → Type 0
-SlotStands texts table (Live th) seat = FramesStand texts table th.frames th.entering seat
+SlotStands texts table (Live th) seat = FramesStand texts table th.frames th.entering th.depth th.uses seat
 SlotStands texts table Free seat = Unit {0}
 SlotStands texts table (Over serial result) seat = Unit {0}

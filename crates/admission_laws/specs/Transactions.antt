@@ -1,9 +1,9 @@
 -- The transactions that a thread is in, and what is known of the names that it recorded in the outermost one.
-use Rattle.std.specs.Prelude.{◌≡◌, ℕ, ◌+◌, ◌<◌, ◌⊎◌, List, [], ◌∷◌, Option, Some, None, option_map, not}
+use Rattle.std.specs.Prelude.{◌≡◌, ℕ, ◌+◌, ◌<◌, ◌⊎◌, List, [], ◌∷◌, Option, Some, None, option_map}
 use Rattle.c_tree.specs.BareExpr.{Bytes}
 use Rattle.c_semantics.specs.Store.{Body}
 use Rattle.c_semantics.specs.Threads.{Enter}
-use Rattle.effects.specs.Sites.{Site, Passes, Uses, point_in}
+use Rattle.effects.specs.Sites.{Site, Uses, point_in}
 use Rattle.effects.specs.Standard.{Adds}
 use Rattle.effects.specs.Contextual.{Prior}
 use Rattle.admission_laws.specs.Stacks.{Level}

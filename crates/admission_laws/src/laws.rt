@@ -1,6 +1,6 @@
 //! What the admission test promises of a run, each as the contract of a call that does nothing but cite what it rests on.
 
-ghost use Rattle.admission_laws.specs.AdmissionLaws.{EachPointIsCovered, EachStartIsMarked, EachThreadStands, NothingIsMisused, UsesAreConcrete};
+ghost use Rattle.admission_laws.specs.AdmissionLaws.{EachPointIsCovered, EachStartIsMarked, EachThreadStands, NothingIsMisused, RecordedArePrior, TransactionsShareAVersion, UsesAreConcrete};
 ghost use Rattle.admission_laws.specs.TransactionLaws.{AheadIsFuture, DeepIsInside, KnownIsPrior, LeftEntriesFollow, RecordsStayConsistent, VersionedIsConsistent};
 
 use c_semantics::frames_go_along_skeletons;
@@ -31,13 +31,26 @@ pub fn nothing_is_misused()
     least_slot_refuses();
 }
 
+/// The definitions that a transaction uses share a version: in a world that a run comes to, those of each record, of the
+/// transactions that ended and of those in progress, also of a run that has ended.
+pub fn transactions_share_a_version()
+    ensures { TransactionsShareAVersion }
+{
+    frames_go_along_skeletons();
+    least_slot_refuses();
+}
+
 /// What a thread may still use in its transaction is in the future effect of its point, and what it recorded is in the prior
-/// effect of each next point.
+/// effect of each next point; so as long as a run goes on it is in the prior set of the thread's row in force.
 pub fn transactions_are_in_their_effects()
     ensures ahead { AheadIsFuture }
     ensures inside { DeepIsInside }
     ensures recorded { KnownIsPrior }
-{}
+    ensures rows { RecordedArePrior }
+{
+    frames_go_along_skeletons();
+    least_slot_refuses();
+}
 
 /// A record that is consistent stays so at each install; entries that are current, of names that a text doesn't change, are
 /// current after it. A record so versioned is consistent.

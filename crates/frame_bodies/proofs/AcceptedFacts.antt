@@ -1,13 +1,10 @@
 -- What is known of an accepted text, said of its definitions.
-use Rattle.std.proofs.Common.{◌≡◌, ℕ, Bool, true, false, IsTrue, List, [], ◌∷◌, map, Option, Some, None, is_some, cond, bytes_eq, refl, sym, ap, subst, Contains, inl, inr, ◌∙◌}
+use Rattle.std.proofs.Common.{◌≡◌, Bool, true, false, List, [], ◌∷◌, map, Option, Some, None, is_some, cond, bytes_eq, refl, sym, ap, subst, Contains, inl, inr, ◌∙◌}
 use Rattle.std.specs.List.{cons_option}
 use Rattle.std.specs.Option.{option_map_or}
-use Rattle.bytecode.specs.Skeleton.{Skeleton}
 use Rattle.c_tree.specs.BareExpr.{Bytes}
 use Rattle.c_tree.specs.BareDef.{BareDef}
 use Rattle.c_tree.specs.Bare.{bare_def}
-use Rattle.c_tree.specs.declared.def.Def.{Def}
-use Rattle.c_tree.specs.declared.def.Program.{Program}
 use Rattle.c_semantics.specs.Texts.{Definitions, defined, definition, names}
 use Rattle.c_semantics.specs.Changes.{agree, same_interface}
 use Rattle.c_semantics.specs.Resolution.{resolved_body}
@@ -19,8 +16,8 @@ use Rattle.typed_uses.proofs.Points.{either_of}
 use Rattle.typed_uses.proofs.SoundTexts.{Facts, facts_of}
 use Rattle.typed_uses.proofs.Lookups.{itself, look}
 use Rattle.typed_uses.proofs.Uses.{accepted_texts_define_their_uses}
-use Rattle.frame_bodies.specs.AcceptedTexts.{IsAccepted, TextsOfProgramsAreAccepted, looked_up}
-use Rattle.frame_bodies.specs.ByUses.{ResolvedByUses, UsesAgree}
+use Rattle.frame_bodies.specs.AcceptedTexts.{IsAccepted, TextsOfProgramsAreAccepted}
+use Rattle.frame_bodies.specs.ByUses.{ResolvedByUses}
 use Rattle.frame_bodies.specs.Ends.{AcceptedLeaveAtEnds}
 use Rattle.frame_bodies.proofs.Lists.{each_point_has_it, none_in}
 use Rattle.frame_bodies.proofs.ResolvedSame.{body_same}

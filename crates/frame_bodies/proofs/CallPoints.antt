@@ -1,5 +1,5 @@
 -- In a sound body what is called and spawned at the points has the property that it has in the text.
-use Rattle.std.proofs.Common.{◌≡◌, ℕ, zero, suc, true, List, [], ◌∷◌, ◌++◌, map, option_map, unwrap_or, Option, Some, None, refl, sym, ap, subst, ◌∙◌}
+use Rattle.std.proofs.Common.{◌≡◌, ℕ, zero, suc, true, List, [], ◌∷◌, ◌++◌, map, option_map, unwrap_or, Option, Some, None, sym, subst}
 use Rattle.std.specs.Prelude.{slice_get}
 use Rattle.bytecode.specs.CheckIns as check_in
 use Rattle.bytecode.specs.Skeleton.{PointKind, Point, IsCall, kind_at}
@@ -12,7 +12,6 @@ use Rattle.c_tree.specs.BareExpr as e
 use Rattle.c_tree.specs.BareStmt.{BareStmt, BareStmts}
 use Rattle.c_tree.specs.BareStmt as s
 use Rattle.c_tree.specs.BareDef.{BareBinding, BareDef, Struct, Forward, Mutex, Function, Prototype, Global, Array, TransformStruct, TransformGlobal}
-use Rattle.c_tree.specs.Bare.{bare_def}
 use Rattle.c_semantics.specs.Texts.{Definitions, int, bound, definition, parameters_of}
 use Rattle.c_semantics.specs.Resolved.{Expression, Place}
 use Rattle.c_semantics.specs.Resolved as made

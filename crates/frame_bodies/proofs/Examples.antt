@@ -1,5 +1,5 @@
 -- Small texts: which bodies their versions bring, and why only what types is resolved by its uses.
-use Rattle.std.proofs.Common.{◌≡◌, ℕ, true, false, List, [], ◌∷◌, map, Option, Some, None, refl, ap, pos}
+use Rattle.std.proofs.Common.{◌≡◌, ℕ, List, [], ◌∷◌, map, Option, Some, None, refl, pos}
 use Rattle.std.specs.Prelude.{codes}
 use Rattle.c_ints.specs.declared.kind.Kind.{Kind}
 use Rattle.c_ints.specs.declared.kind.Kind.TheVariants.{I32, I64}

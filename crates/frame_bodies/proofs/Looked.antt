@@ -1,10 +1,10 @@
 -- What resolution looks up of definitions with the same interface.
-use Rattle.std.proofs.Common.{◌≡◌, Bool, true, false, ◌&&◌, List, [], ◌∷◌, map, Option, Some, None, refl, ap, ap₂, ◌∙◌}
+use Rattle.std.proofs.Common.{◌≡◌, true, List, [], ◌∷◌, map, Option, Some, None, refl, ap, ap₂, ◌∙◌}
 use Rattle.c_tree.specs.BareExpr.{Bytes, BareType}
 use Rattle.c_tree.specs.BareStmt.{BareStmts}
 use Rattle.c_tree.specs.BareDef.{BareBinding, BareDef, Struct, Mutex, Function, Global, Array}
 use Rattle.c_semantics.specs.Texts.{result_type}
-use Rattle.c_semantics.specs.Same.{same_list, same_option, same_type}
+use Rattle.c_semantics.specs.Same.{same_list, same_type}
 use Rattle.c_semantics.specs.Changes.{agree, same_interface}
 use Rattle.source_model.proofs.Same.{types as types_same, same_options}
 use Rattle.version_laws.proofs.Tests.{no, left_of, right_of}

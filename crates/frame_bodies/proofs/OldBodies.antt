@@ -1,5 +1,5 @@
 -- A function without a new body stays as it was.
-use Rattle.std.proofs.Common.{◌≡◌, ℕ, Bool, true, false, not, ◌&&◌, ◌||◌, List, [], ◌∷◌, Option, Some, None, is_some, bytes_eq, refl, sym, ap, ap₂, subst, Contains, inl, inr, ◌∙◌, find, cond}
+use Rattle.std.proofs.Common.{◌≡◌, Bool, true, false, not, ◌&&◌, ◌||◌, List, [], ◌∷◌, Option, Some, None, is_some, refl, sym, ap, ap₂, subst, Contains, inl, inr, ◌∙◌, find, cond}
 use Rattle.std.specs.List.{list_any}
 use Rattle.std.proofs.lemmas.Slice.Eq.{bytes_eq-Decides}
 use Rattle.std.proofs.lemmas.Option.{none-some, same_Some}
@@ -8,19 +8,17 @@ use Rattle.c_tree.specs.BareStmt.{BareStmts}
 use Rattle.c_tree.specs.BareDef.{BareBinding, BareDef, Struct, Forward, Mutex, Function, Prototype, Global, Array, TransformStruct, TransformGlobal}
 use Rattle.name_sets.specs.NameLists.{is_among, name_set}
 use Rattle.c_semantics.specs.Texts.{definition, defines, names}
-use Rattle.c_semantics.specs.Same.{same_option, same_type, same_list, same_binding, same_stmts}
-use Rattle.c_semantics.specs.Changes.{agree, changed, interface, same_definition, same_interface, same_layout}
+use Rattle.c_semantics.specs.Same.{same_type}
+use Rattle.c_semantics.specs.Changes.{agree, changed, interface, same_definition, same_interface}
 use Rattle.c_semantics.specs.Resolution.{resolved_body}
 use Rattle.c_semantics.specs.Skeletons.{skeleton_of, direct_uses}
-use Rattle.c_semantics.specs.SourceTexts.{Text}
 use Rattle.source_model.proofs.Same.{types as types_same, same_options, blocks_same}
 use Rattle.typed_uses.proofs.Points.{either_of}
-use Rattle.version_laws.proofs.Parts.{three}
 use Rattle.version_laws.proofs.Tests.{no, left_of, right_of}
 use Rattle.version_laws.proofs.SameDefinitions.{layouts_same}
 use Rattle.version_laws.proofs.DefinedNames.{among_names, among_set, among_filtered, stays_where_same}
-use Rattle.frame_bodies.specs.AcceptedTexts.{IsAccepted, is_function, looked_up}
-use Rattle.frame_bodies.specs.Unchanged.{OldBodiesStay, Stays}
+use Rattle.frame_bodies.specs.AcceptedTexts.{is_function, looked_up}
+use Rattle.frame_bodies.specs.Unchanged.{OldBodiesStay}
 use Rattle.frame_bodies.proofs.Lists.{none_in}
 use Rattle.frame_bodies.proofs.AcceptedFacts.{resolved_by_uses}
 
@@ -46,7 +44,7 @@ pub function_name : (text : List BareDef) (f : Bytes) (r : Option BareType) (nam
 function_name text f r name ps body h = (bytes_eq-Decides f name).0 (found_passes (defines f) text (Function r name ps body) h)
 
 -- definitions of one function that are the same are equal
-same_functions : (p q : List BareDef) (f : Bytes) (o u : Option BareDef) → definition p f ≡ o → definition q f ≡ u
+pub same_functions : (p q : List BareDef) (f : Bytes) (o u : Option BareDef) → definition p f ≡ o → definition q f ≡ u
     → is_function u ≡ true → agree same_definition o u ≡ true → o ≡ u
 same_functions p q f (Some (Function r name ps body)) (Some (Function s other qs code)) is was fun h =
     let own = function_name p f r name ps body is in

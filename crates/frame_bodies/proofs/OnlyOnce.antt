@@ -1,5 +1,5 @@
 -- A text that types defines no function under a name that it has already.
-use Rattle.std.proofs.Common.{◌≡◌, ℕ, Bool, true, false, IsTrue, List, [], ◌∷◌, ◌++◌, map, Option, Some, None, is_some, is_none, option_and_then, find, cond, bytes_eq, refl, sym, ap, subst, ◌∙◌}
+use Rattle.std.proofs.Common.{◌≡◌, ℕ, Bool, true, false, IsTrue, List, [], ◌∷◌, ◌++◌, map, Some, None, is_some, is_none, option_and_then, find, cond, bytes_eq, refl, sym, ap, subst, ◌∙◌}
 use Rattle.c_tree.specs.BareExpr.{Bytes}
 use Rattle.c_tree.specs.BareDef.{BareDef}
 use Rattle.c_tree.specs.BareDef as bare

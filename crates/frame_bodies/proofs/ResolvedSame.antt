@@ -1,5 +1,5 @@
 -- Two definitions that say the same of what a body uses resolve it alike.
-use Rattle.std.proofs.Common.{◌≡◌, ℕ, suc, Bool, true, List, [], ◌∷◌, ◌++◌, map, option_map, unwrap_or, Option, Some, None, refl, sym, ap, ap₂, subst, ◌∙◌}
+use Rattle.std.proofs.Common.{◌≡◌, ℕ, suc, List, [], ◌∷◌, ◌++◌, map, option_map, unwrap_or, Option, Some, None, refl, sym, ap, ap₂, subst, ◌∙◌}
 use Rattle.bytecode.specs.Skeleton.{PointKind, Point}
 use Rattle.bytecode.specs.Skeleton as kind
 use Rattle.bytecode.specs.CheckIns as check_in
@@ -16,9 +16,9 @@ use Rattle.c_semantics.specs.Names.{struct_name}
 use Rattle.c_semantics.specs.Texts.{Definitions, int, bound, bound_type, global_type, result_type, parameters_of, members_of}
 use Rattle.c_semantics.specs.Resolved.{Expression, Expressions, Place, Statement, Statements, ExpressionThen, NoExpressions, StatementThen}
 use Rattle.c_semantics.specs.Resolved as made
-use Rattle.c_semantics.specs.Resolution.{Resolved, value, kind, tag_of, side, common_type, binary, assignment, update, choice, step, variable, field, passed, handed, located, resolved, resolved_all, tree_of, declared_by, declared_by_all, declaration, statement, statements, as_locals, resolved_body}
+use Rattle.c_semantics.specs.Resolution.{Resolved, value, kind, tag_of, side, common_type, binary, assignment, update, choice, step, variable, field, passed, handed, located, resolved, resolved_all, tree_of, declared_by, declared_by_all, statement, statements, as_locals, resolved_body}
 use Rattle.c_semantics.specs.Points.{at_depth, reads, writes, of_expression, of_expressions, of_parts, evaluated, evaluated_if, of_statement, of_statements, of_body}
-use Rattle.typed_uses.proofs.Points.{Each, EachPoint, OfName, together, former, latter}
+use Rattle.typed_uses.proofs.Points.{Each, EachPoint, together, former, latter}
 use Rattle.frame_bodies.proofs.Lists.{points_former, points_latter, from_depth}
 use Rattle.frame_bodies.proofs.Sound.{IsPlace, Sound, AllSound, SoundIf, SoundStmt, SoundStmts}
 

@@ -1,5 +1,5 @@
 -- The body of a function that is in force in a version is that of the function in the version's text.
-use Rattle.std.proofs.Common.{◌≡◌, ℕ, zero, suc, ◌+◌, ◌<◌, ◌≤◌, ◌⊎◌, inl, inr, Bool, true, false, not, ◌||◌, List, [], ◌∷◌, ◌++◌, map, length, Option, Some, None, option_and_then, All, find, filter_map, cond, bytes_eq, get_or, refl, sym, ap, subst, ◌∙◌, append_assoc, arith, if◌then◌else◌}
+use Rattle.std.proofs.Common.{◌≡◌, ℕ, zero, suc, ◌+◌, ◌<◌, ◌≤◌, ◌⊎◌, inl, inr, Bool, true, false, List, [], ◌∷◌, ◌++◌, length, Option, Some, None, option_and_then, find, filter_map, cond, bytes_eq, get_or, refl, sym, ap, subst, ◌∙◌, append_assoc, arith, if◌then◌else◌}
 use Rattle.std.specs.Prelude.{◌==◌}
 use Rattle.std.specs.List.{cons_option}
 use Rattle.std.proofs.lemmas.List.Elements.{All-head, All-tail}
@@ -11,10 +11,10 @@ use Rattle.c_semantics.specs.Texts.{definition, defines}
 use Rattle.c_semantics.specs.Resolution.{resolved_body}
 use Rattle.c_semantics.specs.Skeletons.{skeleton, skeleton_of}
 use Rattle.c_semantics.specs.SourceTexts.{Text}
-use Rattle.c_semantics.specs.Store.{Body, is_new, tokens_of, body_of, body_if_new, brought_bodies, bodies_from, store, generation_by, body_in}
+use Rattle.c_semantics.specs.Store.{Body, is_new, tokens_of, body_of, brought_bodies, bodies_from, store, generation_by, body_in}
 use Rattle.version_laws.specs.Histories.{text_in}
 use Rattle.frame_bodies.specs.AcceptedTexts.{AreAccepted, IsAccepted, definitions_of, is_function, looked_up}
-use Rattle.frame_bodies.specs.InForce.{EachHasABody, InForce, LaterLeave, LaterTextsLeave, version_in}
+use Rattle.frame_bodies.specs.InForce.{EachHasABody, LaterTextsLeave}
 use Rattle.frame_bodies.proofs.OldBodies.{function_name, old_bodies_stay}
 use Rattle.frame_bodies.proofs.OnlyOnce.{Lone, NoFunction, alone_in}
 use Rattle.frame_bodies.proofs.BodyLists.{Gens, gens_together, gens_weaker, named, none_by, none_named, generation_stays, generation_rises, generation_of_all, generation_later, none_of_generation, differs_above, differs_below, body_stays, found_first, found_second, found_in_generation}

@@ -1,5 +1,5 @@
 -- Statements without faults are sound, and leave transactions at their ends alone.
-use Rattle.std.proofs.Common.{◌≡◌, ℕ, zero, suc, Bool, true, false, not, ◌&&◌, List, [], ◌∷◌, ◌++◌, map, Option, Some, None, is_some, option_map, unwrap_or, find, cond, refl, sym, subst, subst₂}
+use Rattle.std.proofs.Common.{◌≡◌, ℕ, suc, Bool, true, false, not, ◌&&◌, List, [], ◌∷◌, ◌++◌, map, Option, Some, None, option_map, unwrap_or, find, cond, refl, sym, subst, subst₂}
 use Rattle.std.specs.Prelude.{◌==◌}
 use Rattle.c_tree.specs.BareExpr.{Bytes, BareType}
 use Rattle.c_tree.specs.BareStmt.{BareStmt, BareStmts}
@@ -7,7 +7,6 @@ use Rattle.c_tree.specs.BareDef.{BareBinding, BareDef}
 use Rattle.c_tree.specs.Bare.{bare_binding, bare_block, bare_def, bare_expr, bare_kind, bare_stmt, bare_stmt_node, bare_type}
 use Rattle.c_tree.specs.declared.name.CType.{CType}
 use Rattle.c_tree.specs.declared.expr.Expr.{Expr}
-use Rattle.c_tree.specs.declared.stmt.Declaration.{Declaration}
 use Rattle.c_tree.specs.declared.stmt.Stmt.{Stmt, Stmt-F}
 use Rattle.c_tree.specs.declared.stmt.Stmt.TheFolds.{fold-roll-Stmt, ind-Stmt, map-Stmt}
 use Rattle.c_tree.specs.declared.stmt.StmtNode.{StmtNode}
@@ -15,17 +14,16 @@ use Rattle.c_tree.specs.declared.stmt.StmtNode.TheVariants.{Block, Empty, Evalua
 use Rattle.c_tree.specs.declared.def.Def.{Def}
 use Rattle.c_tree.specs.declared.def.DefKind.{DefKind}
 use Rattle.c_tree.specs.declared.def.DefKind.TheVariants as kind
-use Rattle.c_types.specs.declared.fault.Fault.{Fault}
 use Rattle.c_types.specs.declared.fault.TypeKind.TheVariants.{LeavesTransaction}
 use Rattle.c_types.specs.declared.found.Found.{Found}
 use Rattle.c_types.specs.declared.lookup.Position.TheVariants.{InFunction}
 use Rattle.c_types.specs.declared.statement.Loop.{Loop}
 use Rattle.c_types.specs.declared.statement.Loop.TheVariants.{Outside, Within, Beyond}
 use Rattle.c_types.specs.Found.{is_evaluated}
-use Rattle.c_types.specs.Lookup.{Names, Scopes, declare}
+use Rattle.c_types.specs.Lookup.{Scopes, declare}
 use Rattle.c_types.specs.Expressions.{fits, is_condition}
 use Rattle.c_types.specs.Definitions.{inside}
-use Rattle.c_types.specs.Statements.{Around, Walked, behind, beyond, expression_faults, in_a_transaction, in_block, in_loop, in_order, jump_faults, leaving_faults, optional_faults, part_in, return_faults, stmt_node, value_return_faults, walk, walk_declaration}
+use Rattle.c_types.specs.Statements.{Around, Walked, behind, beyond, expression_faults, in_a_transaction, in_block, in_loop, in_order, jump_faults, leaving_faults, optional_faults, part_in, return_faults, stmt_node, value_return_faults, walk}
 use Rattle.c_semantics.specs.Texts.{Definitions, defines, int}
 use Rattle.c_semantics.specs.Resolution.{as_locals, declared_by, declared_by_all, resolved_body, statement, statements}
 use Rattle.c_semantics.specs.Leaving.{stays, all_stay, leaves_at_ends}

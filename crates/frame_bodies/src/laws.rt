@@ -6,7 +6,7 @@ ghost use Rattle.frame_bodies.specs.CalledFunctions.{CalledAreFunctions, Spawned
 ghost use Rattle.frame_bodies.specs.Ends.{AcceptedLeaveAtEnds};
 ghost use Rattle.frame_bodies.specs.FramesOfTexts.{FramesHaveBodiesInForce, FramesHaveBodiesOfTexts};
 ghost use Rattle.frame_bodies.specs.InForce.{EachHasABody, LaterTextsLeave};
-ghost use Rattle.frame_bodies.specs.Shapes.{BeginsAndEnds, EachGoesOn};
+ghost use Rattle.frame_bodies.specs.Shapes.{BeginsAndEnds, EachDepthFollows, EachGoesOn};
 ghost use Rattle.frame_bodies.specs.Unchanged.{OldBodiesStay};
 
 /// The text of a program that is accepted is an accepted one.
@@ -59,4 +59,10 @@ pub fn bodies_begin_and_end()
 /// From a stop that leads to a check-in control goes there alone, from a return nowhere, and from each other point somewhere.
 pub fn each_point_goes_on()
     ensures { EachGoesOn }
+{}
+
+/// Control goes from a point only to points that as many transactions enclose as a thread is in after it; an end is in one, and
+/// a return in none.
+pub fn transactions_enclose_where_control_goes()
+    ensures { EachDepthFollows }
 {}
