@@ -18,4 +18,4 @@ mod source;
 mod tests;
 
 pub use journal::{JOURNAL_LIMIT, journal_of};
-pub use source::{Source, TEXT_LIMIT, source_of};
+pub use source::{Source, TEXT_LIMIT, source_of, tree_of};

@@ -34,8 +34,8 @@ fn line_of(text: &[u8], wrong: FaultKind, at: usize) -> FaultLine
     FaultLine::Place(place.line, place.column, wrong)
 }
 
-// The tree of a text, or the line of its first fault.
-fn tree_of(alloc: Global, text: &[u8]) -> Result<Typed, FaultLine>
+/// The tree of a text, or the line of its first fault.
+pub fn tree_of(alloc: Global, text: &[u8]) -> Result<Typed, FaultLine>
     requires { length text.now ≤ TEXT_LIMIT }
     ensures accepted { IfOk result (λ typed. Accepted text.now typed) }
     ensures refused { IfErr result (λ line. (line ≡ FaultLine.Memory) ⊎ IsFirstLine text.now line) }

@@ -54,6 +54,17 @@ fn files_of(alloc: Global, text: &[u8], failing: &[u64]) -> Result<MemoryFiles, 
     Ok(MemoryFiles::of(held, failing.to_vec(alloc)?))
 }
 
+/// The line of the fault of a program's file, where it has one. All tests ask here: each place at which a tree is dropped is dear
+/// to prove.
+fn program_fault(alloc: Global, files: &mut MemoryFiles, name: &str) -> Option<FaultLine> {
+    source_of(alloc, files, name).err()
+}
+
+/// The line of the fault of a journal's file, where it has one.
+fn journal_fault(alloc: Global, files: &mut MemoryFiles, name: &str) -> Option<FaultLine> {
+    journal_of(alloc, files, name).err()
+}
+
 #[test]
 fn a_right_text_is_read_with_its_tree(rt: HostRuntime) -> Result<(), Fail> {
     let mut files = files_of(rt.alloc(), RIGHT.as_bytes(), &[])?;
@@ -71,11 +82,11 @@ fn a_right_text_is_read_with_its_tree(rt: HostRuntime) -> Result<(), Fail> {
 #[test]
 fn a_missing_file_and_a_failed_read_are_unread(rt: HostRuntime) -> Result<(), Fail> {
     let mut files = files_of(rt.alloc(), RIGHT.as_bytes(), &[2])?;
-    let missing = source_of(rt.alloc(), &mut files, "y").err();
+    let missing = program_fault(rt.alloc(), &mut files, "y");
     assert_eq!(rt; missing, Some(FaultLine::Unread));
-    let failed = source_of(rt.alloc(), &mut files, "x").err();
+    let failed = program_fault(rt.alloc(), &mut files, "x");
     assert_eq!(rt; failed, Some(FaultLine::Unread));
-    let read = source_of(rt.alloc(), &mut files, "x").err();
+    let read = program_fault(rt.alloc(), &mut files, "x");
     assert_eq!(rt; read, None);
     Ok(())
 }
@@ -86,11 +97,11 @@ fn a_text_has_at_most_its_limit_of_bytes(rt: HostRuntime) -> Result<(), Fail> {
     let mut text = RIGHT.as_bytes().to_vec(alloc)?;
     text.resize(TEXT_LIMIT, b' ')?;
     let mut files = files_of(alloc, &text, &[])?;
-    let longest = source_of(alloc, &mut files, "x").err();
+    let longest = program_fault(alloc, &mut files, "x");
     assert_eq!(rt; longest, None);
     text.push(b' ')?;
     let mut files = files_of(alloc, &text, &[])?;
-    let longer = source_of(alloc, &mut files, "x").err();
+    let longer = program_fault(alloc, &mut files, "x");
     assert_eq!(rt; longer, Some(FaultLine::TooLong));
     Ok(())
 }
@@ -99,7 +110,7 @@ fn a_text_has_at_most_its_limit_of_bytes(rt: HostRuntime) -> Result<(), Fail> {
 fn the_first_fault_has_its_line_and_column(rt: HostRuntime) -> Result<(), Fail> {
     for case in &CASES {
         let mut files = files_of(rt.alloc(), case.text.as_bytes(), &[])?;
-        let line = source_of(rt.alloc(), &mut files, "x").err();
+        let line = program_fault(rt.alloc(), &mut files, "x");
         assert_eq!(rt; line, Some(case.line));
     }
     Ok(())
@@ -135,11 +146,11 @@ static NO_JOURNALS: [(&str, FaultLine); 3] = [
 fn other_texts_have_the_line_of_their_fault(rt: HostRuntime) -> Result<(), Fail> {
     for (text, line) in &NO_JOURNALS {
         let mut files = files_of(rt.alloc(), text.as_bytes(), &[])?;
-        let answer = journal_of(rt.alloc(), &mut files, "x").err();
+        let answer = journal_fault(rt.alloc(), &mut files, "x");
         assert_eq!(rt; answer, Some(*line));
     }
     let mut files = files_of(rt.alloc(), b"", &[])?;
-    let missing = journal_of(rt.alloc(), &mut files, "y").err();
+    let missing = journal_fault(rt.alloc(), &mut files, "y");
     assert_eq!(rt; missing, Some(FaultLine::Unread));
     Ok(())
 }

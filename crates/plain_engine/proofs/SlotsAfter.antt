@@ -1,6 +1,6 @@
 -- The slots after a move are what the definitions make of them.
-use Rattle.std.proofs.Common.{◌≡◌, ℕ, zero, suc, ◌+◌, Bool, true, false, List, [], ◌∷◌, length, slice_get, Option, Some, None, refl, sym, ◌∙◌, ap, subst, arith}
-use Rattle.std.specs.Prelude.{◌≢◌, ◌==◌, ◌&&◌, ◌||◌, option_map, if◌then◌else◌}
+use Rattle.std.proofs.Common.{◌≡◌, ℕ, zero, suc, ◌+◌, ◌<◌, Bool, true, false, List, [], ◌∷◌, length, slice_get, Option, Some, None, refl, sym, ◌∙◌, ap, subst, arith}
+use Rattle.std.specs.Prelude.{◌≢◌, ◌==◌, ◌&&◌, ◌||◌, option_map, slice_set, if◌then◌else◌}
 use Rattle.std.specs.Option.{is_some}
 use Rattle.std.proofs.lemmas.Bool.{true≢false, false≢true}
 use Rattle.std.proofs.lemmas.Bool.Decides.{nat_tests}
@@ -146,6 +146,14 @@ pub differs : (n m : ℕ) → n ≢ m → (n == m) ≡ false
 differs n m apart = grind (arith, nat_tests, apart)
 
 -- ---- all slots
+
+-- an item that is set leaves the later ones
+pub later_same : {A : Type 0} (xs : List A) (k n : ℕ) (x : A) → k < n → slice_get (slice_set xs k x) n ≡ slice_get xs n
+later_same [] k n x below = refl
+later_same (y ∷ xs) zero zero x below = absurd (omega (arith, below))
+later_same (y ∷ xs) zero (suc n) x below = refl
+later_same (y ∷ xs) (suc k) zero x below = absurd (omega (arith, below))
+later_same (y ∷ xs) (suc k) (suc n) x below = later_same xs k n x (omega (arith, below))
 
 -- what a list of them has after a move
 after_at : (k mover : ℕ) (leads : Bool) (before after : World) (ss : List guard.Seat) (i n : ℕ) (now : guard.Seat) → k + i ≡ n

@@ -1,7 +1,7 @@
 //! The engine: its state and its output.
 ghost use Rattle.std.specs.Prelude.{◌≡◌, ◌≤◌, length, map, IfOk, IfErr};
 ghost use Rattle.source_model.specs.Answers.{answer_seen};
-ghost use Rattle.source_model.specs.Guards.{Guard, Setup, first_guard};
+ghost use Rattle.source_model.specs.Guards.{Guard, Setup, first_guard, lines_written};
 ghost use Rattle.source_model.specs.Journals.{answers};
 ghost use Rattle.dsu_runs.specs.Setups.{setup_of};
 ghost use Rattle.plain_engine.specs.Plain.{IsAt};
@@ -72,5 +72,13 @@ impl<S: Sink> PlainEngine<S> {
     {
         let (answers, names) = self.state.into_parts();
         (self.sink, answers, names)
+    }
+
+    /// How many lines were printed.
+    pub fn lines_written(&self) -> usize
+        ensures { (setup : Setup) (g : Guard) → IsAt setup g self.now.state self.now.printed self.now.written
+            → result ≡ lines_written g.world }
+    {
+        self.written
     }
 }

@@ -69,16 +69,14 @@ fn after(run: &SourceRun, seat: Seat, slot: u8, mover: u8, leads: bool) -> Seat
     }
 }
 
-/// The slots after a move of the thread in slot `mover`, by whether the move led to a check-in.
-pub(crate) fn seats_after(run: &SourceRun, seats: &[Seat; 16], mover: u8, leads: bool) -> [Seat; 16]
+/// Makes the slots those after a move of the thread in slot `mover`, by whether the move led to a check-in.
+pub(crate) fn follow_move(run: &SourceRun, seats: &mut [Seat; 16], mover: u8, leads: bool)
     ensures { (texts : List (List BareDef)) (limits : Limits) (moves : List Made) (w : World)
         → IsRun texts limits moves run.now → world_after texts limits moves ≡ Some w
-        → AreAfter (words_of run.now) w mover leads seats.now result }
+        → AreAfter (words_of run.now) w mover leads seats.old seats.new }
 {
-    let mut seats_after = [Seat::empty(); 16];
     for slot in 0..16u8 {
         let seat = seats[slot as usize];
-        seats_after[slot as usize] = after(run, seat, slot, mover, leads);
+        seats[slot as usize] = after(run, seat, slot, mover, leads);
     }
-    seats_after
 }

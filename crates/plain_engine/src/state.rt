@@ -10,7 +10,7 @@ ghost use Rattle.plain_engine.specs.declared.seat.Kept.TheVariants.{Passed};
 ghost use Rattle.plain_engine.specs.Plain.{AreSeats, IsRunAt, IsStateAt};
 ghost use Rattle.plain_engine.specs.Steps.{ComesTo, MovesTo};
 
-use crate::moves::seats_after;
+use crate::moves::follow_move;
 use crate::seat::{Kept, Seat};
 use c_types::Typed;
 use dsu_runs::Book;
@@ -117,7 +117,7 @@ impl State {
         match self.run.step(SourceMove::Move(slot))? {
             Stepped::CannotMove => Ok(false),
             Stepped::Done => {
-                self.seats = seats_after(&self.run, &self.seats, slot, leads);
+                follow_move(&self.run, &mut self.seats, slot, leads);
                 Ok(true)
             }
         }

@@ -25,5 +25,5 @@ returns-in-Done c = λ setup g at.
     (c.in_ok-step.was ∙ ap Ok c.in-Done.is) (c.step.ensures.stepped (texts_of setup) setup.limits at.run.moves at.run.run) in
     made setup g s at new slot c.leads-leads.result c.step.ensures.same
     (λ going. sym (c.is_at_check_in.ensures.value g at.seats going) ∙ c.if-is_at_check_in.false) came
-    (c.leads-leads.ensures (texts_of setup) setup.limits at.run.moves at.run.run) c.seats_after-self.result
-    (c.seats_after-self.ensures (texts_of setup) setup.limits (at.run.moves ++ source.Move slot ∷ []) came.world came came.ran)
+    (c.leads-leads.ensures (texts_of setup) setup.limits at.run.moves at.run.run) c.follow_move.new.seats
+    (c.follow_move.ensures (texts_of setup) setup.limits (at.run.moves ++ source.Move slot ∷ []) came.world came came.ran)

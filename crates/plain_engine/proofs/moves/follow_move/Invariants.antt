@@ -1,4 +1,4 @@
-use Rattle.std.proofs.Common.{◌≡◌, ◌==◌, List, Some, length}
+use Rattle.std.proofs.Common.{◌≡◌, ◌==◌, ◌≤◌, ℕ, List, Some, length}
 use Rattle.std.specs.Prelude.{slice_get}
 use Rattle.c_tree.specs.BareDef.{BareDef}
 use Rattle.source_model.specs.Runs.{SourceMove as Made}
@@ -7,12 +7,13 @@ use Rattle.source_runner.specs.SourceRuns.{IsRun, words_of, world_after}
 use Rattle.offer_decision.proofs.Filled.{AreFilled}
 use Rattle.plain_engine.specs.declared.seat.Seat.{Seat}
 use Rattle.plain_engine.specs.Kept.{IsAfter}
-use Rattle.plain_engine.proofs.moves.seats_after.Given as goal
+use Rattle.plain_engine.proofs.moves.follow_move.Given as goal
 
 abbrev pub invariant-loop-slot : goal.invariant-loop-slot
 invariant-loop-slot l =
-    (length l.seats_after ≡ 16)
+    (length l.seats ≡ 16)
+    × ((n : ℕ) → l.slot ≤ n → slice_get l.seats n ≡ slice_get l.initial.seats n)
     × ((texts : List (List BareDef)) (limits : Limits) (moves : List Made) (w : World) → IsRun texts limits moves l.run
     → world_after texts limits moves ≡ Some w
-    → AreFilled (λ n new. (old : Seat) × (slice_get l.seats n ≡ Some old)
-    × IsAfter (words_of l.run) (is_over w) (in_slot w n) (n == l.mover) l.leads old new) l.slot l.seats_after)
+    → AreFilled (λ n new. (old : Seat) × (slice_get l.initial.seats n ≡ Some old)
+    × IsAfter (words_of l.run) (is_over w) (in_slot w n) (n == l.mover) l.leads old new) l.slot l.seats)
