@@ -2,6 +2,10 @@ mod Printing
 mod Planned
 mod Reporting
 mod Reading
+mod Accepting
 mod Answering
 mod Offered
 mod Outcomes
+mod Generating
+mod Unmarking
+mod Summing

@@ -75,7 +75,7 @@ ending_done (Trap kind thread) = omega arith
 ending_done Deadlock = omega arith
 ending_done Cut = omega arith
 
-done_by : (status : ℕ) (e : Ending) → status ≡ status_of_ending e → status ≤ 3
+pub done_by : (status : ℕ) (e : Ending) → status ≡ status_of_ending e → status ≤ 3
 done_by status e is = let small = ending_done e in omega (arith, is, small)
 
 -- where no event of the plan is impossible, the run is done or excused

@@ -7,6 +7,7 @@ use Rattle.source_model.specs.Guards.{Guard, Setup}
 use Rattle.source_model.specs.Journals.{answers}
 use Rattle.source_model.specs.JournalLaws.{JournalIsARun, SeatsAlwaysFit}
 use Rattle.source_model.specs.Runs.{result}
+use Rattle.accepted_runs.specs.AcceptedRuns.{TransactionsShareAVersion, TextsAreAccepted}
 use Rattle.dsu_report.specs.declared.fault.FaultLine.TheVariants as fault
 use Rattle.dsu_report.specs.declared.fault.LineWord.TheVariants as word
 use Rattle.dsu_report.specs.Faults.{fault_line}
@@ -30,18 +31,20 @@ pub record Faulted (line : List ℕ) (status : ℕ) (finish : Finish) (err : Out
   pub shown : Writes err line
 
 module _ {T : Type 0} (plan : Plan) (setup : Setup) (is_at : Guard → T → Type 0) (told : T → Option (List ℕ)) (faults : T → ℕ)
-    (engine : T) (r : Ran T) (exist : RulesExist) (run : JournalIsARun) (by : RanBy plan setup is_at told faults engine r) where
-  abbrev made : Made plan setup r.history.items
+    (engine : T) (r : Ran T) (exist : RulesExist) (run : JournalIsARun) (whole : TransactionsShareAVersion) (accepted : TextsAreAccepted setup)
+    (by : RanBy plan setup is_at told faults engine r) where
+  abbrev pub made : Made plan setup r.history.items
   made = record {
     guard = by.guard;
     machine = result by.guard.world;
     legal = by.legal;
     same = refl;
     moved = ap (option_map result) (run exist.0 setup r.history.items by.guard (by.legal exist.0 exist.1));
+    consistent = whole exist.0 setup r.history.items by.guard exist.1 accepted (by.legal exist.0 exist.1);
     follows = by.follows;
   }
 
-  stopped : (cause : StopCause) → r.cause ≡ cause → StoppedBy plan setup is_at told faults engine r by.guard cause
+  pub stopped : (cause : StopCause) → r.cause ≡ cause → StoppedBy plan setup is_at told faults engine r by.guard cause
   stopped cause is = subst (StoppedBy plan setup is_at told faults engine r by.guard) is by.stopped
 
   -- nothing is handed back without an ending

@@ -1,5 +1,5 @@
 -- What a job came to.
-use Rattle.std.specs.Prelude.{◌≡◌, ◌⊎◌, ◌≤◌, ℕ, false, List, []}
+use Rattle.std.specs.Prelude.{◌≡◌, ◌⊎◌, ◌≤◌, ℕ, false, List, [], Some}
 use Rattle.bytecode.specs.declared.run.Event.{Event}
 use Rattle.c_tree.specs.declared.def.Program.{Program}
 use Rattle.c_types.specs.Definitions.{names_of}
@@ -11,13 +11,15 @@ use Rattle.dsu_report.specs.Faults.{fault_line}
 use Rattle.dsu_runs.specs.Setups.{setup_of}
 use Rattle.effects_report.specs.EffectsText.{IsEffectsText}
 use Rattle.changes_report.specs.ChangesText.{changes_text}
+use Rattle.program_gen.specs.Generated.{program_text, offer_text}
 use Rattle.input_files.specs.Sources.{HoldsProgram, IsSource}
 use Rattle.input_files.specs.Journals.{HoldsEvents}
 use Rattle.dsu_commands.specs.Calls.{Call, NoEnd, Shows, ShowsPrefix, Stopped, Untouched, Writes}
 use Rattle.dsu_commands.specs.Plans.{BySchedule, ByJournal}
 use Rattle.dsu_commands.specs.Reports.{names_line}
 use Rattle.dsu_commands.specs.Runs.{Came}
-use Rattle.dsu_commands.specs.Jobs.{AreSources, Contents, FileStops, lines_of}
+use Rattle.dsu_commands.specs.Generated.{SummaryFailed, Summed, generated_setup}
+use Rattle.dsu_commands.specs.Jobs.{AreSources, Contents, FileStops, IsKnownProgram, lines_of}
 
 -- the number of a text's names was printed
 pub record Checked (names : ℕ) (call : Call) : Type 0 where
@@ -92,10 +94,13 @@ Does (Changes old new) content call =
     (program : Program) × HoldsProgram (content old) program
     × (text : List ℕ) × (next : Program) × IsSource (content new) text next
     × (ChangesShown program next text call ⊎ ChangesFailed program next text call)
-Does (Gen seed size) content call = ⊥
+Does (Gen seed size) content call =
+    (program : Program) × IsKnownProgram (Some (program_text seed size)) program
+    × (next : Program) × IsKnownProgram (Some (offer_text seed size)) next
+    × (Summed seed size (generated_setup size program next) call ⊎ SummaryFailed seed size (generated_setup size program next) call)
 
 -- what a job came to: it was done as far as outputs, journal and memory let it, a file of it has a fault, or memory ran
--- out before it began
+-- out before anything was printed
 pub data Answers (job : Job) (content : Contents) (counted count : ℕ) (call : Call) : Type 0 where
   did : Does job content call → Answers job content counted count call
   stopped : (line : FaultLine) (file : List ℕ) → FileStops job content counted count line file → Stopped line file call

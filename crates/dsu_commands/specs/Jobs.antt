@@ -1,5 +1,5 @@
 -- The jobs that are built, and what their files have.
-use Rattle.std.specs.Prelude.{◌≡◌, ◌⊎◌, ◌≤◌, ◌<◌, ℕ, ⊤, Bool, true, false, List, [], ◌∷◌, length, map, Option, Some, Ok, Err}
+use Rattle.std.specs.Prelude.{◌≡◌, ◌⊎◌, ◌≤◌, ◌<◌, ℕ, ⊤, Bool, true, List, [], ◌∷◌, length, map, codes, Option, Some, Ok, Err}
 use Rattle.std.specs.Option.{is_none}
 use Rattle.dsu_io.specs.Causes.{Rose}
 use Rattle.bytecode.specs.declared.run.Event.{Event}
@@ -17,6 +17,7 @@ use Rattle.dsu_report.specs.declared.fault.FaultLine.TheVariants.{Unread, TooLon
 use Rattle.dsu_runs.specs.Rows.{AreRows}
 use Rattle.dsu_runs.specs.Replays.{events_of}
 use Rattle.dsu_runs.specs.Setups.{setup_of}
+use Rattle.program_gen.specs.Generated.{program_text, offer_text}
 use Rattle.input_files.specs.Files.{Exceeds}
 use Rattle.input_files.specs.Sources.{HoldsProgram, IsFirstLine, IsFirstOf, IsSource, text_limit}
 use Rattle.input_files.specs.Journals.{HoldsEvents, IsNoJournal, journal_limit, line_of_journal}
@@ -25,14 +26,14 @@ use Rattle.input_files.specs.Journals.{HoldsEvents, IsNoJournal, journal_limit, 
 abbrev pub Contents : Type 0
 Contents = List ℕ → Option (List ℕ)
 
--- the command is built, and so are its options: `--workers` isn't
+-- the job is built: `--workers` isn't
 abbrev pub is_built : Job → Bool
 is_built (Run job) = is_none job.workers
 is_built (Replay job) = true
 is_built (Check file) = true
 is_built (Effects file) = true
 is_built (Changes old new) = true
-is_built (Gen seed size) = false
+is_built (Gen seed size) = true
 
 -- ---- offers
 
@@ -46,6 +47,28 @@ AreSources content [] [] [] = ⊤
 AreSources content (o ∷ offers) (text ∷ texts) (program ∷ programs) =
     IsSource (content o.file) text program × AreSources content offers texts programs
 AreSources content _ _ _ = ⊥
+
+-- ---- texts that are known
+
+-- a known text that is accepted as a program
+pub record IsKnownProgram (content : Option (List ℕ)) (program : Program) : Type 0 where
+  pub text : List ℕ
+  pub known : content ≡ Some text
+  pub fits : length text ≤ text_limit
+  pub accepted : Accepted text program
+
+-- a known text is too long for a program, or it has this first fault
+pub data KnownProgramFault (content : Option (List ℕ)) : FaultLine → Type 0 where
+  long : (text : List ℕ) → content ≡ Some text → text_limit < length text → KnownProgramFault content TooLong
+  first : (text : List ℕ) (line : FaultLine) → content ≡ Some text → length text ≤ text_limit → IsFirstLine text line
+      → KnownProgramFault content line
+
+-- the first fault of the texts of a generated program and its offer, and the name by which it is reported
+abbrev pub GeneratedFault : List ℕ → List ℕ → FaultLine → List ℕ → Type 0
+GeneratedFault text offer line file =
+    ((file ≡ codes "generated program") × KnownProgramFault (Some text) line)
+    ⊎ ((program : Program) × IsKnownProgram (Some text) program
+    × (file ≡ codes "generated offer") × KnownProgramFault (Some offer) line)
 
 -- ---- the first fault of the files
 
@@ -79,7 +102,7 @@ JournalStops journal offers content counted count line file =
     ⊎ ((lines : List (ℕ × Event)) × HoldsEvents (content journal) lines × OfferStops offers content counted count line file)
 
 -- the first file of a job with a fault, and that fault; a journal is read after its program, offers after both, in the order
--- of the words, and a newer text after the older one
+-- of the words, and a newer text after the older one; generated texts are read in the place of files
 abbrev pub FileStops : Job → Contents → ℕ → ℕ → FaultLine → List ℕ → Type 0
 FileStops (Run job) content counted count line file =
     ProgramStops job.file content counted count line file
@@ -93,16 +116,10 @@ FileStops (Effects named) content counted count line file = ProgramStops named c
 FileStops (Changes old new) content counted count line file =
     ProgramStops old content counted count line file
     ⊎ ((program : Program) × HoldsProgram (content old) program × ProgramStops new content counted count line file)
-FileStops (Gen seed size) content counted count line file = ⊥
+FileStops (Gen seed size) content counted count line file =
+    GeneratedFault (program_text seed size) (offer_text seed size) line file
 
 -- ---- files whose contents are known
-
--- a known text that is accepted as a program
-pub record IsKnownProgram (content : Option (List ℕ)) (program : Program) : Type 0 where
-  pub text : List ℕ
-  pub known : content ≡ Some text
-  pub fits : length text ≤ text_limit
-  pub accepted : Accepted text program
 
 -- a known text that is a journal
 pub record IsKnownJournal (content : Option (List ℕ)) (lines : List (ℕ × Event)) : Type 0 where
@@ -118,7 +135,8 @@ AreKnownPrograms content (o ∷ offers) (program ∷ programs) =
     IsKnownProgram (content o.file) program × AreKnownPrograms content offers programs
 AreKnownPrograms content _ _ = ⊥
 
--- the files of a job are known and have no fault, and each event of its journal can happen when it comes
+-- the files of a job, or its generated texts, are known and have no fault, and each event of its journal can happen when it
+-- comes
 abbrev pub IsReady : Job → Contents → Type 0
 IsReady (Run job) content =
     ((program : Program) × IsKnownProgram (content job.file) program)
@@ -133,13 +151,9 @@ IsReady (Check file) content = (program : Program) × IsKnownProgram (content fi
 IsReady (Effects file) content = (program : Program) × IsKnownProgram (content file) program
 IsReady (Changes old new) content =
     ((program : Program) × IsKnownProgram (content old) program) × ((next : Program) × IsKnownProgram (content new) next)
-IsReady (Gen seed size) content = ⊥
-
--- a known text is too long for a program, or it has this first fault
-pub data KnownProgramFault (content : Option (List ℕ)) : FaultLine → Type 0 where
-  long : (text : List ℕ) → content ≡ Some text → text_limit < length text → KnownProgramFault content TooLong
-  first : (text : List ℕ) (line : FaultLine) → content ≡ Some text → length text ≤ text_limit → IsFirstLine text line
-      → KnownProgramFault content line
+IsReady (Gen seed size) content =
+    ((program : Program) × IsKnownProgram (Some (program_text seed size)) program)
+    × ((next : Program) × IsKnownProgram (Some (offer_text seed size)) next)
 
 -- a known text is too long for a journal, or it is none
 pub data KnownJournalFault (content : Option (List ℕ)) : FaultLine → Type 0 where
@@ -174,4 +188,5 @@ IsKnownFault (Effects named) content line file = (file ≡ named) × KnownProgra
 IsKnownFault (Changes old new) content line file =
     ((file ≡ old) × KnownProgramFault (content old) line)
     ⊎ ((program : Program) × IsKnownProgram (content old) program × (file ≡ new) × KnownProgramFault (content new) line)
-IsKnownFault (Gen seed size) content line file = ⊥
+IsKnownFault (Gen seed size) content line file =
+    GeneratedFault (program_text seed size) (offer_text seed size) line file

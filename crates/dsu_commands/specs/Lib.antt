@@ -2,6 +2,7 @@ pub mod Calls
 pub mod Plans
 pub mod Runs
 pub mod Schedules
+pub mod Generated
 pub mod Reports
 pub mod Jobs
 pub mod Offers

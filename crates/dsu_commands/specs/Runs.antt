@@ -8,6 +8,7 @@ use Rattle.source_model.specs.Guards.{Guard, Rules, Setup}
 use Rattle.source_model.specs.Journals.{answers, guard_after, moves}
 use Rattle.source_model.specs.JournalLaws.{texts_of}
 use Rattle.source_model.specs.Endings.{ending as ending_of, int_ending}
+use Rattle.admission_laws.specs.AdmissionLaws.{IsVersionConsistent}
 use Rattle.dsu_report.specs.declared.fault.FaultLine.TheVariants.{Line, Write, Memory}
 use Rattle.dsu_report.specs.declared.fault.LineWord.TheVariants.{CannotHappen}
 use Rattle.dsu_report.specs.Faults.{fault_line}
@@ -20,13 +21,14 @@ use Rattle.dsu_commands.specs.Plans.{Plan, Follows, Ends, Impossible}
 use Rattle.dsu_commands.specs.Reports.{run_text}
 
 -- the events of a run so far are a legal journal and those of the plan; the source machine, moved by them, comes to this
--- result: its world is the guard's
+-- result: its world is the guard's, no definition was misused, and those that each transaction recorded share a version
 pub record Made (plan : Plan) (setup : Setup) (history : List Event) : Type 0 where
   pub guard : Guard
   pub machine : Result
   pub legal : (rules : Rules) → AreRows rules → guard_after rules setup history ≡ Some guard
   pub same : machine.world ≡ guard.world
   pub moved : source_run (texts_of setup) setup.limits (moves guard.answers history) ≡ Some machine
+  pub consistent : IsVersionConsistent machine
   pub follows : Follows plan setup history guard
 
 -- what is handed back of the versions of a run: the number of the one in force, the names, and an answer to each offer, whose

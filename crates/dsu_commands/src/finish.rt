@@ -2,6 +2,7 @@ ghost use Rattle.std.specs.Prelude.{◌≡◌, List as ListOf, Option, length, N
 ghost use Rattle.source_model.specs.declared.answer.OfferAnswer.{OfferAnswer};
 ghost use Rattle.source_model.specs.Guards.{Guard, Setup};
 ghost use Rattle.source_model.specs.Journals.{answers};
+ghost use Rattle.accepted_runs.specs.AcceptedRuns.{TextsAreAccepted};
 ghost use Rattle.dsu_report.specs.Faults.{fault_line};
 ghost use Rattle.dsu_report.specs.Statuses.{status_of_line};
 ghost use Rattle.dsu_commands.specs.Calls.{Writes, output_of, run_call};
@@ -12,6 +13,7 @@ ghost use Rattle.dsu_commands.specs.Schedules.{Hands, IsReported, RanBy};
 ghost use Rattle.dsu_commands.specs.declared.outcome.InForce.{InForce};
 
 use crate::report::write_run;
+use accepted_runs::accepted_runs_are_version_consistent;
 use bytecode::Ending;
 use dsu_io::{List, Sink};
 use dsu_report::{FaultLine, LineWord, ending_status, write_fault};
@@ -36,7 +38,8 @@ pub(crate) fn report_run<T: Engine, E: Sink>(
     file: &str,
     err: &mut E,
 ) -> Finish
-    ensures { (plan : Plan) (setup : Setup) (engine : T) → RanBy plan setup (T.is_at setup) T.told T.faults engine ran.now
+    ensures { (plan : Plan) (setup : Setup) (engine : T) → TextsAreAccepted setup
+        → RanBy plan setup (T.is_at setup) T.told T.faults engine ran.now
         → (given : ListOf OfferAnswer) (installed : Option InForce)
         → Hands setup (λ g. T.is_at setup g ran.now.engine) result.ending given installed
         → Came plan setup texts.now journal file.now (run_call result ran.now given installed
@@ -44,6 +47,7 @@ pub(crate) fn report_run<T: Engine, E: Sink>(
 {
     rules_exist();
     journal_is_a_run();
+    accepted_runs_are_version_consistent();
     seats_fit_their_slots();
     match ran.cause {
         StopCause::Ended(ending) => report_end(ran, ending, journal, texts, err),

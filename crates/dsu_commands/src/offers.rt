@@ -51,7 +51,7 @@ pub(crate) fn offers_in<'a, F: Files>(
 }
 
 /// No offer.
-fn no_offers(alloc: Global) -> Offers
+pub(crate) fn no_offers(alloc: Global) -> Offers
     ensures texts { result.texts.items ≡ [] }
     ensures programs { result.programs.items ≡ [] }
     ensures lines { result.lines.items ≡ [] }
@@ -88,7 +88,7 @@ fn read_offer<F: Files>(
 }
 
 /// Adds an offer to those that were read.
-fn add_offer(read: &mut Offers, source: Source, lines: u32) -> Result<(), AllocError>
+pub(crate) fn add_offer(read: &mut Offers, source: Source, lines: u32) -> Result<(), AllocError>
     ensures texts { OnOk result (read.new.texts.items ≡ read.old.texts.items ++ source.text.items ∷ []) }
     ensures programs { OnOk result (read.new.programs.items ≡ read.old.programs.items ++ source.typed ∷ []) }
     ensures lines { OnOk result (read.new.lines.items ≡ read.old.lines.items ++ lines ∷ []) }

@@ -1,9 +1,11 @@
 ghost use Rattle.std.specs.Prelude.{◌⊎◌, ◌≡◌, ◌≤◌, ℕ, List as ListOf, [], Option, false, length};
 ghost use Rattle.bytecode.specs.declared.run.Event.{Event as Made};
 ghost use Rattle.c_tree.specs.declared.def.Program.{Program};
+ghost use Rattle.c_front.specs.Accepted.{Accepted};
 ghost use Rattle.source_model.specs.declared.answer.OfferAnswer.{OfferAnswer};
 ghost use Rattle.source_model.specs.Guards.{Rules, Setup, first_guard};
 ghost use Rattle.source_model.specs.Journals.{IsLegal};
+ghost use Rattle.accepted_runs.specs.AcceptedRuns.{TextsAreAccepted};
 ghost use Rattle.dsu_cli.specs.declared.job.Job.TheVariants.{Replay};
 ghost use Rattle.dsu_report.specs.declared.fault.FaultLine.{FaultLine as Line};
 ghost use Rattle.dsu_runs.specs.Rows.{AreRows};
@@ -29,6 +31,7 @@ use dsu_cli::ReplayJob;
 use dsu_io::{Files, List, Sink};
 use dsu_report::FaultLine;
 use dsu_runs::{Engine, Ran, replay, rules_exist};
+use frame_bodies::texts_of_programs_are_accepted;
 use plain_engine::PlainEngine;
 use std::alloc::Global;
 
@@ -66,6 +69,7 @@ fn replay_program<F: Files, O: Sink, E: Sink>(
     err: &mut E,
 ) -> Outcome<O>
     requires few { length job.now.offers ≤ 63 }
+    requires accepted { (text : ListOf ℕ) × Accepted text program }
     ensures answers { ((lines : ListOf (ℕ × Made)) × HoldsEvents (F.content files.old job.now.journal) lines
         × (texts : ListOf (ListOf ℕ)) × (programs : ListOf Program) × AreSources (F.content files.old) job.now.offers texts programs
         × Came (ByJournal lines) (setup_of program programs (lines_of job.now.offers) job.now.objects) texts false job.now.journal
@@ -102,6 +106,7 @@ fn replay_with_offers<F: Files, O: Sink, E: Sink>(
     err: &mut E,
 ) -> Outcome<O>
     requires few { length job.now.offers ≤ 63 }
+    requires accepted { (text : ListOf ℕ) × Accepted text program }
     ensures answers { ((texts : ListOf (ListOf ℕ)) × (programs : ListOf Program) × AreSources (F.content files.old) job.now.offers texts programs
         × Came (ByJournal lines.now) (setup_of program programs (lines_of job.now.offers) job.now.objects) texts false job.now.journal
         (call_of result (output_of O.told O.faults out result.out) (output_of E.told E.faults err.old err.new)))
@@ -118,6 +123,7 @@ fn replay_with_offers<F: Files, O: Sink, E: Sink>(
     ensures later { F.faults files.old ≤ F.faults files.new }
 {
     rules_exist();
+    texts_of_programs_are_accepted();
     match offers_in(alloc, files, job.offers.as_slice()) {
         Ok(offers) => replay_events(alloc, program, offers, lines, job, out, err),
         Err((line, file)) => stop(alloc, line, file, out, err),
@@ -136,6 +142,7 @@ fn replay_events<O: Sink, E: Sink>(
 ) -> Outcome<O>
     requires equal { length offers.programs.items ≡ length offers.lines.items }
     requires few { length offers.lines.items ≤ 63 }
+    requires accepted { TextsAreAccepted (setup_of program offers.programs.items offers.lines.items job.now.objects) }
     ensures { Came (ByJournal lines.now) (setup_of program offers.programs.items offers.lines.items job.now.objects)
         offers.texts.items false job.now.journal
         (call_of result (output_of O.told O.faults out result.out) (output_of E.told E.faults err.old err.new))
@@ -168,7 +175,8 @@ fn replay_engine<T: Engine, E: Sink>(
     file: &str,
     err: &mut E,
 ) -> (Ran<T>, Finish)
-    ensures { (setup : Setup) → T.is_at setup (first_guard setup) engine → (given : ListOf OfferAnswer) (installed : Option Installed)
+    ensures { (setup : Setup) → TextsAreAccepted setup → T.is_at setup (first_guard setup) engine
+        → (given : ListOf OfferAnswer) (installed : Option Installed)
         → Hands setup (λ g. T.is_at setup g result.0.engine) result.1.ending given installed
         → Came (ByJournal lines.now) setup texts.now false file.now (run_call result.1 result.0 given installed
         (output_of T.told T.faults engine result.0.engine) (output_of E.told E.faults err.old err.new)) }

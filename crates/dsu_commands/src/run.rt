@@ -1,7 +1,9 @@
 ghost use Rattle.std.specs.Prelude.{◌⊎◌, ◌≡◌, ◌≤◌, ℕ, List as ListOf, [], Option, length};
 ghost use Rattle.c_tree.specs.declared.def.Program.{Program};
+ghost use Rattle.c_front.specs.Accepted.{Accepted};
 ghost use Rattle.source_model.specs.declared.answer.OfferAnswer.{OfferAnswer};
 ghost use Rattle.source_model.specs.Guards.{Setup, first_guard};
+ghost use Rattle.accepted_runs.specs.AcceptedRuns.{TextsAreAccepted};
 ghost use Rattle.dsu_cli.specs.declared.job.Job.TheVariants.{Run};
 ghost use Rattle.dsu_report.specs.declared.fault.FaultLine.{FaultLine as Line};
 ghost use Rattle.dsu_runs.specs.Setups.{setup_of};
@@ -23,6 +25,7 @@ use dsu_cli::RunJob;
 use dsu_io::{Files, List, Sink};
 use dsu_report::FaultLine;
 use dsu_runs::{Engine, Ran, solo};
+use frame_bodies::texts_of_programs_are_accepted;
 use plain_engine::PlainEngine;
 use source_model::solo_schedule_is_prompt;
 use std::alloc::Global;
@@ -61,6 +64,7 @@ fn run_with_offers<F: Files, O: Sink, E: Sink>(
     err: &mut E,
 ) -> Outcome<O>
     requires few { length job.now.offers ≤ 63 }
+    requires accepted { (text : ListOf ℕ) × Accepted text program }
     ensures answers { ((texts : ListOf (ListOf ℕ)) × (programs : ListOf Program) × AreSources (F.content files.old) job.now.offers texts programs
         × Came (BySchedule job.now.moves) (setup_of program programs (lines_of job.now.offers) job.now.objects) texts job.now.journal []
         (call_of result (output_of O.told O.faults out result.out) (output_of E.told E.faults err.old err.new)))
@@ -74,6 +78,7 @@ fn run_with_offers<F: Files, O: Sink, E: Sink>(
         (call_of result (output_of O.told O.faults out result.out) (output_of E.told E.faults err.old err.new)) }
     ensures later { F.faults files.old ≤ F.faults files.new }
 {
+    texts_of_programs_are_accepted();
     match offers_in(alloc, files, job.offers.as_slice()) {
         Ok(offers) => run_program(alloc, program, offers, job, out, err),
         Err((line, file)) => stop(alloc, line, file, out, err),
@@ -91,6 +96,7 @@ fn run_program<O: Sink, E: Sink>(
 ) -> Outcome<O>
     requires equal { length offers.programs.items ≡ length offers.lines.items }
     requires few { length offers.lines.items ≤ 63 }
+    requires accepted { TextsAreAccepted (setup_of program offers.programs.items offers.lines.items job.now.objects) }
     ensures { Came (BySchedule job.now.moves) (setup_of program offers.programs.items offers.lines.items job.now.objects)
         offers.texts.items job.now.journal []
         (call_of result (output_of O.told O.faults out result.out) (output_of E.told E.faults err.old err.new))
@@ -121,7 +127,8 @@ fn run_engine<T: Engine, E: Sink>(
     job: &RunJob,
     err: &mut E,
 ) -> (Ran<T>, Finish)
-    ensures { (setup : Setup) → T.is_at setup (first_guard setup) engine → (given : ListOf OfferAnswer) (installed : Option Installed)
+    ensures { (setup : Setup) → TextsAreAccepted setup → T.is_at setup (first_guard setup) engine
+        → (given : ListOf OfferAnswer) (installed : Option Installed)
         → Hands setup (λ g. T.is_at setup g result.0.engine) result.1.ending given installed
         → Came (BySchedule job.now.moves) setup texts.now job.now.journal [] (run_call result.1 result.0 given installed
         (output_of T.told T.faults engine result.0.engine) (output_of E.told E.faults err.old err.new)) }

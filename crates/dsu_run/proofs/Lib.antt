@@ -1,2 +1,2 @@
-mod Built
-mod Few
+mod Ranges
+mod Asking

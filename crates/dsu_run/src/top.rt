@@ -9,15 +9,17 @@ ghost use Rattle.dsu_run.specs.Words.{asked};
 
 use crate::words::job_in;
 use dsu_cli::Job;
-use dsu_commands::{Outcome, changes_files, check_file, effects_file, replay_file, run_file, stop};
+use dsu_commands::{
+    Outcome, changes_files, check_file, effects_file, replay_file, run_file, run_generated, stop,
+};
 use dsu_io::{Files, Sink, Text};
 use dsu_report::FaultLine;
 use std::alloc::Global;
 
 /// Does what the words of a command line ask for; they are those after the program's name. `run FILE` runs the program of
 /// the file, `replay FILE JOURNAL` makes the events of the journal, and both print on `out` and report on `err`;
-/// `check FILE` prints on `out` how many names the text has, `effects FILE` what its threads may use, and `changes OLD NEW`
-/// what changes from one text to another.
+/// `check FILE` prints on `out` how many names the text has, `effects FILE` what its threads may use, `changes OLD NEW` what
+/// changes from one text to another, and `gen SEED SIZE` a summary of the run of a program that it makes.
 ///
 /// What `out` holds at the end is given back with it. `dsu_commands` has the words of the clauses, in
 /// `specs/Answers.antt`.
@@ -31,7 +33,7 @@ pub fn dsu_main<F: Files, O: Sink, E: Sink>(
     // Words that fit no command are answered with the usage text.
     ensures usage { job_of words.now ≡ None → Stopped FaultLine.Usage []
         (call_of result (output_of O.told O.faults out result.out) (output_of E.told E.faults err.old err.new)) }
-    // So are those of a command that isn't built, unless memory fails.
+    // So are those of an option that isn't built, unless memory fails.
     ensures unbuilt { asked words.now ≡ None
         → Stopped FaultLine.Usage [] (call_of result (output_of O.told O.faults out result.out) (output_of E.told E.faults err.old err.new))
         ⊎ Stopped FaultLine.Memory [] (call_of result (output_of O.told O.faults out result.out) (output_of E.told E.faults err.old err.new)) }
@@ -56,8 +58,7 @@ pub fn dsu_main<F: Files, O: Sink, E: Sink>(
         Ok(Job::Changes(old, new)) => {
             changes_files(alloc, old.as_str(), new.as_str(), files, out, err)
         }
-        // It isn't built, so no words ask for it.
-        Ok(Job::Gen(_, _)) => stop(alloc, FaultLine::Usage, "", out, err),
+        Ok(Job::Gen(seed, size)) => run_generated(alloc, seed, size, out, err),
         Err(fault) => stop(alloc, fault, "", out, err),
     }
 }

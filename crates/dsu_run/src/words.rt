@@ -1,19 +1,19 @@
 ghost use Rattle.std.specs.Prelude.{◌≡◌, ◌⊎◌, IfOk, IfErr, IsErrOf, None, Some};
 ghost use Rattle.dsu_cli.specs.Words.{job_of};
 ghost use Rattle.dsu_commands.specs.Jobs.{is_built};
-ghost use Rattle.dsu_run.specs.Words.{HasFewOffers, asked};
+ghost use Rattle.dsu_run.specs.Words.{IsInRange, asked};
 
 use dsu_cli::{CliFault, Job, read_words};
 use dsu_io::Text;
 use dsu_report::FaultLine;
 use std::alloc::Global;
 
-/// The job that words ask for, where it is built. Words that fit no command, and those of one that isn't built, are
+/// The job that words ask for, where it is built. Words that fit no command, and those with an option that isn't built, are
 /// `Usage`.
-#[tactic(auto, using(crate::proofs::Few::few_offers))]
+#[tactic(auto, using(crate::proofs::Ranges::in_range))]
 pub fn job_in(alloc: Global, words: &[Text]) -> Result<Job, FaultLine>
     ensures job { IfOk result (λ job. asked words.now ≡ Some job) }
-    ensures few { IfOk result HasFewOffers }
+    ensures range { IfOk result IsInRange }
     ensures unfit { job_of words.now ≡ None → IsErrOf result FaultLine.Usage }
     ensures usage { IsErrOf result FaultLine.Usage → asked words.now ≡ None }
     ensures faults { IfErr result (λ fault. (fault ≡ FaultLine.Usage) ⊎ (fault ≡ FaultLine.Memory)) }
@@ -31,13 +31,14 @@ pub fn job_in(alloc: Global, words: &[Text]) -> Result<Job, FaultLine>
     }
 }
 
-/// Whether a command is built, with its options.
+/// Whether a job is built.
 fn is_built(job: &Job) -> bool
     ensures { result ≡ is_built job.now }
 {
     match job {
         Job::Run(job) => job.workers.is_none(),
-        Job::Replay(_) | Job::Check(_) | Job::Effects(_) | Job::Changes(_, _) => true,
-        Job::Gen(_, _) => false,
+        Job::Replay(_) | Job::Check(_) | Job::Effects(_) | Job::Changes(_, _) | Job::Gen(_, _) => {
+            true
+        }
     }
 }

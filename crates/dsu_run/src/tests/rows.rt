@@ -165,7 +165,7 @@ static REPLAYS: [Row; 9] = [
 ];
 
 /// Faults of the program, which come before those of the journal.
-static FAULTS: [Row; 15] = [
+static FAULTS: [Row; 16] = [
     (
         "run x.c --offer y.c@1",
         SUM,
@@ -181,6 +181,14 @@ static FAULTS: [Row; 15] = [
         11,
         "",
         "x.j:1:25: unknown name\n",
+    ),
+    (
+        "run x.c --offer x.j@0",
+        SUM,
+        "",
+        11,
+        "",
+        "x.j:1:1: no main\n",
     ),
     (
         "replay x.c x.j --offer y.c@0",
@@ -340,8 +348,44 @@ static UNREAD_PAIRS: [Row; 6] = [
     ("changes y.c x.j", "", UNKNOWN, 12, "", "y.c: read fault\n"),
 ];
 
-/// Command lines that fit no command, or one that isn't built.
-static UNFIT: [&str; 14] = [
+/// Generated programs.
+static GENERATED: [Row; 4] = [
+    (
+        "gen 7 1",
+        "",
+        "",
+        0,
+        "gen 7 1\nlines 1\noffer 1 installed as version 2\nfinished 0\n",
+        "",
+    ),
+    (
+        "gen 007 0000001",
+        "",
+        "",
+        0,
+        "gen 7 1\nlines 1\noffer 1 installed as version 2\nfinished 0\n",
+        "",
+    ),
+    (
+        "gen 9223372036854775807 2",
+        "",
+        "",
+        0,
+        "gen 9223372036854775807 2\nlines 2\noffer 1 refused: thread 0 both f1 f1\nfinished 0\n",
+        "",
+    ),
+    (
+        "gen 7 200",
+        "",
+        "",
+        0,
+        "gen 7 200\nlines 200\noffer 1 installed as version 2\nfinished 0\n",
+        "",
+    ),
+];
+
+/// Command lines that fit no command, or have an option that isn't built.
+static UNFIT: [&str; 17] = [
     "",
     "run",
     "run --help",
@@ -355,7 +399,10 @@ static UNFIT: [&str; 14] = [
     "replay x.c --offer x.c@1",
     "check --journal x.c",
     "changes x.c",
-    "gen 7 1",
+    "gen 7",
+    "gen 7 0",
+    "gen 7 201",
+    "gen 9223372036854775808 1",
 ];
 
 #[test]
@@ -403,6 +450,12 @@ fn effects_are_printed(rt: HostRuntime) -> Result<(), Fail> {
 #[test]
 fn changes_are_printed(rt: HostRuntime) -> Result<(), Fail> {
     assert_eq!(rt; wrong_row(rt.alloc(), &CHANGES)?, None);
+    Ok(())
+}
+
+#[test]
+fn generated_programs_run(rt: HostRuntime) -> Result<(), Fail> {
+    assert_eq!(rt; wrong_row(rt.alloc(), &GENERATED)?, None);
     Ok(())
 }
 

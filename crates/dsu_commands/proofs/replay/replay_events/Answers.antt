@@ -27,6 +27,6 @@ returns-in-Ok g c =
     c.as_str-file.ensures
     (subst {A = List (List ℕ)} (λ ts. Came plan setup ts false c.as_str-file.result.now
     (run_call ran.result.1 ran.result.0 done.result.answers.items done.result.installed run_out err))
-    c.deref.ensures.value (ran.ensures setup c.in-Ok.ensures.start done.result.answers.items done.result.installed
+    c.deref.ensures.value (ran.ensures setup c.requires.accepted c.in-Ok.ensures.start done.result.answers.items done.result.installed
     (hands_back setup _ ran.result.1.ending parts.result.1.items done.result.answers.items _ done.result.installed done.ensures.versions
     (c.version-version.ensures setup) (parts.ensures.answered setup))))))

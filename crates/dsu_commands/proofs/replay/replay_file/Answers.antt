@@ -10,6 +10,9 @@ use Rattle.dsu_commands.proofs.Answering.{answered, at_program, first_before, kn
 use Rattle.dsu_commands.proofs.Reading.{is_answered, later_fault, no_answer}
 use Rattle.dsu_commands.proofs.replay.replay_file.Goals as goal
 
+pub replay_program-requires-clause-accepted : goal.replay_program-requires-clause-accepted
+replay_program-requires-clause-accepted g c = (c.in-Ok.ensures.read.0, c.in-Ok.ensures.read.1.accepted)
+
 pub returns-in-Ok-clause-answers : goal.returns-in-Ok-clause-answers
 returns-in-Ok-clause-answers g c =
     let content = g.F.Files.content c.args.files.now in

@@ -3,9 +3,16 @@ use Rattle.dsu_cli.specs.declared.job.Offer.{Offer}
 use Rattle.dsu_report.specs.declared.fault.FaultLine.TheVariants.{Memory}
 use Rattle.dsu_commands.specs.Jobs.{AreKnownPrograms, AreSources, KnownOfferFault, OfferStops, lines_of}
 use Rattle.dsu_commands.specs.Plans.{ByJournal}
+use Rattle.dsu_commands.proofs.Accepting.{texts_are_accepted}
 use Rattle.dsu_commands.proofs.Answering.{excused, first_stopped_at, offers_run, offers_stop}
 use Rattle.dsu_commands.proofs.Outcomes.{replayed_done}
 use Rattle.dsu_commands.proofs.replay.replay_with_offers.Goals as goal
+
+pub replay_events-requires-clause-accepted : goal.replay_events-requires-clause-accepted
+replay_events-requires-clause-accepted g c =
+    let offers = c.in-Ok.offers in
+    texts_are_accepted c.texts_of_programs_are_accepted.ensures (g.F.Files.content c.args.files.now) c.args.program c.requires.accepted
+    c.as_slice.result.now offers.texts.items offers.programs.items offers.lines.items c.args.job.now.objects c.in-Ok.ensures.read
 
 pub returns-in-Ok-clause-answers : goal.returns-in-Ok-clause-answers
 returns-in-Ok-clause-answers g c =

@@ -3,9 +3,9 @@ use Rattle.dsu_commands.proofs.Planned.{ran_by_schedule}
 use Rattle.dsu_commands.proofs.run.run_engine.Goals as goal
 
 pub returns : goal.returns
-returns g c = λ setup at given installed hands.
+returns g c = λ setup accepted at given installed hands.
     let e = g.T.Engine in
     let moves = c.args.job.now.moves in
-    c.report_run-finish.ensures (BySchedule moves) setup c.args.engine
+    c.report_run-finish.ensures (BySchedule moves) setup c.args.engine accepted
     (ran_by_schedule setup (e.is_at setup) e.told e.faults c.args.engine c.solo_schedule_is_prompt.ensures.prompt moves c.solo-ran.result
     (c.solo-ran.ensures setup at)) given installed hands

@@ -6,6 +6,9 @@ use Rattle.dsu_commands.proofs.Answering.{answered, at_program, fault_known_sinc
 use Rattle.dsu_commands.proofs.Reading.{is_answered, later_fault, no_answer}
 use Rattle.dsu_commands.proofs.run.run_file.Goals as goal
 
+pub run_with_offers-requires-clause-accepted : goal.run_with_offers-requires-clause-accepted
+run_with_offers-requires-clause-accepted g c = (c.in-Ok.ensures.read.0, c.in-Ok.ensures.read.1.accepted)
+
 pub returns-in-Ok-clause-answers : goal.returns-in-Ok-clause-answers
 returns-in-Ok-clause-answers g c =
     let content = g.F.Files.content c.args.files.now in

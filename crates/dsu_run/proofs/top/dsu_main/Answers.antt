@@ -1,9 +1,9 @@
-use Rattle.std.proofs.Common.{◌∙◌, List, ℕ, ap, subst, sym}
+use Rattle.std.proofs.Common.{◌∙◌, List, ℕ, subst, sym}
 use Rattle.std.proofs.lemmas.Option.{same_Some}
 use Rattle.dsu_cli.specs.declared.job.Job.{Job as Asked}
 use Rattle.dsu_cli.specs.declared.job.Job.TheVariants.{Changes}
-use Rattle.dsu_commands.specs.Jobs.{IsKnownFault, is_built}
-use Rattle.dsu_run.proofs.Built.{never_unbuilt}
+use Rattle.dsu_commands.specs.Jobs.{IsKnownFault}
+use Rattle.dsu_run.proofs.Asking.{answers_asked, ready_as_asked}
 use Rattle.dsu_run.proofs.top.dsu_main.Goals as goal
 
 pub returns-in-Ok-Replay-clause-first : goal.returns-in-Ok-Replay-clause-first
@@ -27,4 +27,17 @@ returns-in-Ok-Changes-clause-first g c = λ asked line file is fault.
 pub returns-in-Ok-Gen-clause-answers : goal.returns-in-Ok-Gen-clause-answers
 returns-in-Ok-Gen-clause-answers g c = λ asked is.
     let job = c.in-Ok-Gen in
-    absurd (never_unbuilt c.args.words.now job.field-0 job.ensures.job (ap is_built job.field-0-is))
+    answers_asked asked _ _ _ _ _ (same_Some asked job.field-0 (sym is ∙ job.ensures.job) ∙ job.field-0-is) c.run_generated.ensures.answers
+
+pub returns-in-Ok-Gen-clause-complete : goal.returns-in-Ok-Gen-clause-complete
+returns-in-Ok-Gen-clause-complete g c = λ asked is ready.
+    let job = c.in-Ok-Gen in
+    c.run_generated.ensures.complete (g.F.Files.content c.args.files.now)
+    (ready_as_asked asked _ _ (same_Some asked job.field-0 (sym is ∙ job.ensures.job) ∙ job.field-0-is) ready)
+
+pub returns-in-Ok-Gen-clause-first : goal.returns-in-Ok-Gen-clause-first
+returns-in-Ok-Gen-clause-first g c = λ asked line file is fault.
+    let job = c.in-Ok-Gen in
+    c.run_generated.ensures.first (g.F.Files.content c.args.files.now) line file
+    (subst {A = Asked} (λ j. IsKnownFault j (g.F.Files.content c.args.files.now) line file)
+    (same_Some asked job.field-0 (sym is ∙ job.ensures.job) ∙ job.field-0-is) fault)

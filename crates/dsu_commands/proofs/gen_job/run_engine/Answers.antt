@@ -1,0 +1,14 @@
+use Rattle.std.proofs.Common.{inr}
+use Rattle.dsu_commands.proofs.Planned.{ran_by_schedule}
+use Rattle.dsu_commands.proofs.Summing.{summarized}
+use Rattle.dsu_commands.proofs.gen_job.run_engine.Goals as goal
+
+pub returns-in-Ended : goal.returns-in-Ended
+returns-in-Ended g c = λ setup accepted at one.
+    summarized setup _ _ _ c.args.engine c.solo-ran.result c.rules_exist.ensures c.journal_is_a_run.ensures
+    c.accepted_runs_are_version_consistent.ensures accepted
+    (ran_by_schedule setup _ _ _ c.args.engine c.solo_schedule_is_prompt.ensures.prompt 1000000 c.solo-ran.result (c.solo-ran.ensures setup at))
+    c.args.seed c.args.size c.args.texts.now one c.in-Ended.ending c.in-Ended.is c.seats_fit_their_slots.ensures _ (c.summarize.ensures setup)
+
+pub returns-in-SinkFailed : goal.returns-in-SinkFailed
+returns-in-SinkFailed g c = λ setup accepted at one. inr (inr c.stop.ensures)

@@ -1,0 +1,184 @@
+ghost use Rattle.std.specs.Prelude.{◌⊎◌, ◌≡◌, ◌<◌, ◌≤◌, ◌/◌, ℕ, List as ListOf, [], ◌∷◌, false, length};
+ghost use Rattle.c_front.specs.Accepted.{Accepted};
+ghost use Rattle.c_tree.specs.declared.def.Program.{Program};
+ghost use Rattle.source_model.specs.Guards.{Guard, Setup, first_guard};
+ghost use Rattle.source_model.specs.Journals.{answers};
+ghost use Rattle.accepted_runs.specs.AcceptedRuns.{TextsAreAccepted};
+ghost use Rattle.dsu_cli.specs.declared.job.Job.TheVariants.{Gen};
+ghost use Rattle.dsu_report.specs.declared.fault.FaultLine.{FaultLine as Line};
+ghost use Rattle.plain_engine.specs.Plain.{IsAt};
+ghost use Rattle.program_gen.specs.Generated.{offer_text};
+ghost use Rattle.dsu_commands.specs.Answers.{Answers, IsDone, IsExcused};
+ghost use Rattle.dsu_commands.specs.Calls.{Stopped, call_of, output_of};
+ghost use Rattle.dsu_commands.specs.Generated.{Printed, SummaryFailed, Summed, Unprinted, generated_setup, lines_in, summary_text};
+ghost use Rattle.dsu_commands.specs.Jobs.{Contents, IsKnownFault, IsReady};
+ghost use Rattle.dsu_commands.specs.Offers.{IsOnlyOffer};
+ghost use Rattle.dsu_commands.specs.Reports.{run_text};
+
+use crate::finish::Finish;
+use crate::generated::generated;
+use crate::offers::Offers;
+use crate::outcome::{InForce, Outcome, outcome_of};
+use crate::stopped::{stop, stop_after};
+use crate::summary::summary_of;
+use accepted_runs::accepted_runs_are_version_consistent;
+use bytecode::Ending;
+use c_types::Typed;
+use dsu_io::{List, NullSink, Sink, put};
+use dsu_report::{FaultLine, ending_status};
+use dsu_runs::{Ran, StopCause, rules_exist, solo};
+use frame_bodies::texts_of_programs_are_accepted;
+use plain_engine::PlainEngine;
+use source_model::{journal_is_a_run, seats_fit_their_slots, solo_schedule_is_prompt};
+use std::alloc::Global;
+
+/// The most moves that a generated program makes.
+const MOVES: u32 = 1_000_000;
+
+/// The most objects that live at once.
+const OBJECTS: u32 = 4096;
+
+/// Makes the program of a seed and a size with its offer, runs it by the solo schedule, and prints on `out` a summary of the run.
+/// What the program prints is counted, and goes nowhere.
+pub fn run_generated<O: Sink, E: Sink>(
+    alloc: Global,
+    seed: u64,
+    size: u32,
+    out: O,
+    err: &mut E,
+) -> Outcome<O>
+    requires some { 0 < size }
+    ensures answers { (content : Contents) (counted count : ℕ) → Answers (Gen seed size) content counted count
+        (call_of result (output_of O.told O.faults out result.out) (output_of E.told E.faults err.old err.new)) }
+    ensures complete { (content : Contents) → IsReady (Gen seed size) content → IsDone result.status ⊎ IsExcused result.status }
+    ensures first { (content : Contents) (line : Line) (file : ListOf ℕ) → IsKnownFault (Gen seed size) content line file
+        → IsExcused result.status ⊎ Stopped line file
+        (call_of result (output_of O.told O.faults out result.out) (output_of E.told E.faults err.old err.new)) }
+{
+    match generated(alloc, seed, size) {
+        Ok((program, offers)) => run_offered(alloc, seed, size, program, offers, out, err),
+        Err((line, file)) => stop(alloc, line, file, out, err),
+    }
+}
+
+/// Runs a generated program with its offer, and prints the summary.
+fn run_offered<O: Sink, E: Sink>(
+    alloc: Global,
+    seed: u64,
+    size: u32,
+    program: Typed,
+    offers: Offers,
+    out: O,
+    err: &mut E,
+) -> Outcome<O>
+    requires equal { length offers.programs.items ≡ length offers.lines.items }
+    requires few { length offers.lines.items ≤ 63 }
+    requires accepted { (text : ListOf ℕ) × Accepted text program }
+    requires offer { IsOnlyOffer (offer_text seed size) (size / 2) offers }
+    ensures { (next : Program) → offers.programs.items ≡ next ∷ [] → Summed seed size (generated_setup size program next)
+        (call_of result (output_of O.told O.faults out result.out) (output_of E.told E.faults err.old err.new))
+        ⊎ SummaryFailed seed size (generated_setup size program next)
+        (call_of result (output_of O.told O.faults out result.out) (output_of E.told E.faults err.old err.new))
+        ⊎ Stopped FaultLine.Memory [] (call_of result (output_of O.told O.faults out result.out) (output_of E.told E.faults err.old err.new)) }
+{
+    texts_of_programs_are_accepted();
+    let Offers {
+        texts,
+        programs,
+        lines,
+    } = offers;
+    match PlainEngine::new(alloc, program, programs, lines, OBJECTS, NullSink::new()) {
+        Ok(engine) => run_engine(alloc, seed, size, engine, &texts, out, err),
+        Err(_) => stop(alloc, FaultLine::Memory, "", out, err),
+    }
+}
+
+/// Runs an engine by the solo schedule, and prints the summary. `texts` has the one that is offered.
+fn run_engine<O: Sink, E: Sink>(
+    alloc: Global,
+    seed: u64,
+    size: u32,
+    engine: PlainEngine<NullSink>,
+    texts: &[List<u8>],
+    out: O,
+    err: &mut E,
+) -> Outcome<O>
+    ensures { (setup : Setup) → TextsAreAccepted setup → IsAt setup (first_guard setup) engine.state engine.printed engine.written
+        → texts.now ≡ offer_text seed size ∷ [] → Summed seed size setup
+        (call_of result (output_of O.told O.faults out result.out) (output_of E.told E.faults err.old err.new))
+        ⊎ SummaryFailed seed size setup
+        (call_of result (output_of O.told O.faults out result.out) (output_of E.told E.faults err.old err.new))
+        ⊎ Stopped FaultLine.Memory [] (call_of result (output_of O.told O.faults out result.out) (output_of E.told E.faults err.old err.new)) }
+{
+    solo_schedule_is_prompt();
+    rules_exist();
+    journal_is_a_run();
+    accepted_runs_are_version_consistent();
+    seats_fit_their_slots();
+    let ran = solo(alloc, engine, MOVES);
+    match ran.cause {
+        StopCause::Ended(ending) => summarize(alloc, seed, size, ran, ending, texts, out, err),
+        // The sink takes all bytes, and the schedule has no event that can't happen.
+        StopCause::SinkFailed | StopCause::CannotHappen(_) | StopCause::Memory => {
+            stop(alloc, FaultLine::Memory, "", out, err)
+        }
+    }
+}
+
+/// Prints the summary of a run that ended.
+fn summarize<O: Sink, E: Sink>(
+    alloc: Global,
+    seed: u64,
+    size: u32,
+    ran: Ran<PlainEngine<NullSink>>,
+    ending: Ending,
+    texts: &[List<u8>],
+    out: O,
+    err: &mut E,
+) -> Outcome<O>
+    ensures { (setup : Setup) (g : Guard) → IsAt setup g ran.engine.state ran.engine.printed ran.engine.written
+        → length g.seats ≡ length g.world.slots
+        → let summary = summary_text seed size (lines_in g.world.output) (run_text false [] (answers setup g) texts.now ending g.world) in
+        Printed setup (λ x. IsAt setup x ran.engine.state ran.engine.printed ran.engine.written) ran.history.items ending summary
+        (call_of result (output_of O.told O.faults out result.out) (output_of E.told E.faults err.old err.new))
+        ⊎ Unprinted summary
+        (call_of result (output_of O.told O.faults out result.out) (output_of E.told E.faults err.old err.new))
+        ⊎ Stopped FaultLine.Memory [] (call_of result (output_of O.told O.faults out result.out) (output_of E.told E.faults err.old err.new)) }
+{
+    let lines = ran.engine.lines_written();
+    match summary_of(alloc, seed, size, lines, texts, ending, &ran.engine) {
+        Ok(summary) => print_summary(alloc, ran, ending, &summary, out, err),
+        Err(_) => stop(alloc, FaultLine::Memory, "", out, err),
+    }
+}
+
+/// Prints a summary, and hands back the run.
+fn print_summary<O: Sink, E: Sink>(
+    alloc: Global,
+    ran: Ran<PlainEngine<NullSink>>,
+    ending: Ending,
+    summary: &[u8],
+    out: O,
+    err: &mut E,
+) -> Outcome<O>
+    ensures { (setup : Setup)
+        → Printed setup (λ x. IsAt setup x ran.engine.state ran.engine.printed ran.engine.written) ran.history.items ending summary.now
+        (call_of result (output_of O.told O.faults out result.out) (output_of E.told E.faults err.old err.new))
+        ⊎ Unprinted summary.now
+        (call_of result (output_of O.told O.faults out result.out) (output_of E.told E.faults err.old err.new)) }
+{
+    let mut out = out;
+    match put(&mut out, summary) {
+        Ok(()) => {
+            let finish = Finish {
+                status: ending_status(ending),
+                ending: Some(ending),
+            };
+            let version = ran.engine.version();
+            let (_, answers, names) = ran.engine.into_parts();
+            let in_force = InForce { version, names };
+            outcome_of(alloc, finish, out, ran.history, answers, in_force)
+        }
+        Err(_) => stop_after(alloc, Vec::new(alloc), FaultLine::Write, "", out, err),
+    }
+}
