@@ -17,6 +17,3 @@ mod store;
 pub use body::StoredBody;
 pub use laws::stores_are_exact;
 pub use store::{MOST_CHECK_INS, MOST_FUNCTION_TOKENS, Store, StoreFault};
-
-#[cfg(test)]
-mod tests;

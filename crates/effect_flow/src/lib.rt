@@ -15,6 +15,3 @@ mod laws;
 
 pub use flow::{Flow, FlowPoint, MOST_POINTS, Way};
 pub use laws::flows_are_exact;
-
-#[cfg(test)]
-mod tests;

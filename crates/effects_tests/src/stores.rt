@@ -1,30 +1,11 @@
-use super::*;
-use dsu_io::List;
+//! Stores of bodies that write a global: bodies that come one by one and together, that are taken out again, and one for
+//! which there is no room.
+use crate::bodies::writer;
+use code_store::{MOST_CHECK_INS, Store, StoreFault, StoredBody};
 use name_sets::NameId;
-use skeletons::{CheckInKind, Point, PointKind, Skeleton, Use};
-use std::alloc::{AllocError, Global};
+use skeletons::{CheckInKind, Point, PointKind, Skeleton};
+use std::alloc::Global;
 use std::test::Fail;
-
-fn point(kind: PointKind) -> Point {
-    Point { kind, depth: 0 }
-}
-
-/// The skeleton of a function that writes a global.
-fn writer(alloc: Global, name: NameId) -> Result<Skeleton, AllocError> {
-    let points = [
-        point(PointKind::CheckIn(CheckInKind::Entry)),
-        point(PointKind::Uses(Use::WriteGlobal, name)),
-        point(PointKind::Return),
-    ];
-    let mut next = Vec::new(alloc);
-    next.push(List::of(Vec::from_slice(alloc, &[1])?))?;
-    next.push(List::of(Vec::from_slice(alloc, &[2])?))?;
-    next.push(List::of(Vec::new(alloc)))?;
-    Ok(Skeleton {
-        points: Vec::from_slice(alloc, &points)?,
-        next,
-    })
-}
 
 #[test]
 fn two_versions_of_a_function(rt: HostRuntime) -> Result<(), Fail> {
@@ -36,13 +17,13 @@ fn two_versions_of_a_function(rt: HostRuntime) -> Result<(), Fail> {
         function: f,
         generation: 1,
         tokens: 131_000,
-        skeleton: writer(alloc, x)?,
+        skeleton: writer(alloc, 0)?,
     };
     let second = StoredBody {
         function: f,
         generation: 4,
         tokens: 72,
-        skeleton: writer(alloc, y)?,
+        skeleton: writer(alloc, 7)?,
     };
     let mut store = Store::new(alloc);
     if store.add(first).is_err() {
@@ -66,13 +47,13 @@ fn body(
     alloc: Global,
     function: NameId,
     generation: u32,
-    name: NameId,
-) -> Result<StoredBody, AllocError> {
+    global: usize,
+) -> Result<StoredBody, Fail> {
     Ok(StoredBody {
         function,
         generation,
         tokens: 10,
-        skeleton: writer(alloc, name)?,
+        skeleton: writer(alloc, global)?,
     })
 }
 
@@ -83,13 +64,13 @@ fn bodies_added_together(rt: HostRuntime) -> Result<(), Fail> {
     let x = NameId::new(0).ok_or("an id")?;
     let y = NameId::new(7).ok_or("an id")?;
     let mut store = Store::new(alloc);
-    let first = body(alloc, f, 1, x)?;
+    let first = body(alloc, f, 1, 0)?;
     if store.add(first).is_err() {
         return Err("room for the first".into());
     }
     let mut more = Vec::new(alloc);
-    more.push(body(alloc, f, 2, y)?)?;
-    more.push(body(alloc, x, 2, y)?)?;
+    more.push(body(alloc, f, 2, 7)?)?;
+    more.push(body(alloc, x, 2, 7)?)?;
     if !store.has_room(&more) {
         return Err("room for both".into());
     }
@@ -103,12 +84,11 @@ fn bodies_added_together(rt: HostRuntime) -> Result<(), Fail> {
 fn bodies_taken_out_again(rt: HostRuntime) -> Result<(), Fail> {
     let alloc = rt.alloc();
     let f = NameId::new(3).ok_or("an id")?;
-    let x = NameId::new(0).ok_or("an id")?;
     let y = NameId::new(7).ok_or("an id")?;
     let mut store = Store::new(alloc);
     let mut bodies = Vec::new(alloc);
-    bodies.push(body(alloc, f, 1, x)?)?;
-    bodies.push(body(alloc, f, 2, y)?)?;
+    bodies.push(body(alloc, f, 1, 0)?)?;
+    bodies.push(body(alloc, f, 2, 7)?)?;
     if !store.has_room(&bodies) {
         return Err("room for both".into());
     }
@@ -125,7 +105,10 @@ fn more_check_ins_than_there_is_room_for(rt: HostRuntime) -> Result<(), Fail> {
     let f = NameId::new(0).ok_or("an id")?;
     let mut points = Vec::new(alloc);
     for _ in 0..=MOST_CHECK_INS {
-        points.push(point(PointKind::CheckIn(CheckInKind::Update)))?;
+        points.push(Point {
+            kind: PointKind::CheckIn(CheckInKind::Update),
+            depth: 0,
+        })?;
     }
     let body = StoredBody {
         function: f,
