@@ -3,94 +3,83 @@
 
 use dsu_io::{Boxed, List, Text};
 use std::alloc::{AllocError, Global};
-use std::test::Fail;
 use std::thread;
 
 /// A type that leads back to itself through both containers.
 #[derive(Drop, Clone, PartialEq)]
 enum Tree {
     Leaf(u8),
-    Pair(Boxed<Tree>, Boxed<Tree>),
-    Row(Text, List<Tree>),
+    Node(Text, Boxed<Tree>, List<Tree>),
 }
 
-/// A row of two leaves.
-fn row(alloc: Global, last: u8) -> Result<Tree, AllocError> {
-    let mut row = Vec::new(alloc);
-    for leaf in [1, last] {
-        row.push(Tree::Leaf(leaf))?;
-    }
-    Ok(Tree::Row(Text::of(alloc, "row")?, List::of(row)))
-}
-
-/// A pair of a leaf and a row.
+/// A node with a leaf and a row of two leaves.
 fn sample(alloc: Global, last: u8) -> Result<Tree, AllocError> {
-    let left = Boxed::of(alloc, Tree::Leaf(0))?;
-    let right = Boxed::of(alloc, row(alloc, last)?)?;
-    Ok(Tree::Pair(left, right))
+    let text = Text::of(alloc, "row")?;
+    let first = Boxed::of(alloc, Tree::Leaf(0))?;
+    let row = vec![in alloc; Tree::Leaf(1), Tree::Leaf(last)]?;
+    Ok(Tree::Node(text, first, List::of(row)))
+}
+
+/// Whether a copy of a value equals it.
+fn is_copied<T: Clone + PartialEq + Drop>(value: &T) -> Result<bool, AllocError> {
+    let copy = value.clone()?;
+    Ok(copy == *value)
 }
 
 #[test]
-fn trees_are_copied_and_compared(rt: HostRuntime) -> Result<(), Fail> {
-    let tree = sample(rt.alloc(), 2)?;
-    assert!(rt; tree.clone()? == tree);
-    assert!(rt; sample(rt.alloc(), 3)? != tree);
-    Ok(())
+fn trees_are_copied_and_compared(rt: HostRuntime) {
+    let tree = sample(rt.alloc(), 2).expect(&rt, "memory");
+    let other = sample(rt.alloc(), 3).expect(&rt, "memory");
+    assert!(rt; is_copied(&tree).expect(&rt, "memory"));
+    assert!(rt; other != tree);
+    drop(other);
+    drop(tree);
 }
 
 #[test]
-fn lists_are_copied_and_compared(rt: HostRuntime) -> Result<(), Fail> {
-    let numbers = List::of([1u8, 2].to_vec(rt.alloc())?);
-    assert!(rt; numbers.clone()? == numbers);
+fn lists_are_copied_and_compared(rt: HostRuntime) {
+    let numbers = List::of([1u8, 2].to_vec(rt.alloc()).expect(&rt, "memory"));
+    assert!(rt; is_copied(&numbers).expect(&rt, "memory"));
     assert!(rt; numbers.into_vec().as_slice() == [1, 2].as_slice());
-    Ok(())
+}
+
+const HELLO: &str = "héllo";
+
+#[test]
+fn texts_are_copied_and_compared(rt: HostRuntime) {
+    let text = Text::of(rt.alloc(), HELLO).expect(&rt, "memory");
+    let string = String::from_str(rt.alloc(), HELLO).expect(&rt, "memory");
+    assert!(rt; is_copied(&text).expect(&rt, "memory"));
+    assert!(rt; Text::from(string) == text);
+    assert!(rt; text.as_str() == HELLO);
 }
 
 #[test]
-fn texts_are_copied_and_compared(rt: HostRuntime) -> Result<(), Fail> {
-    let text = Text::of(rt.alloc(), "héllo")?;
-    assert!(rt; text.clone()? == text);
-    assert!(rt; Text::from(String::from_str(rt.alloc(), "héllo")?) == text);
-    assert!(rt; text.as_str() == "héllo");
-    Ok(())
-}
-
-#[test]
-fn boxed_values_are_copied_and_compared(rt: HostRuntime) -> Result<(), Fail> {
-    let boxed = Boxed::of(rt.alloc(), 7u8)?;
-    assert!(rt; boxed.clone()? == boxed);
+fn boxed_values_are_copied_and_compared(rt: HostRuntime) {
+    let boxed = Boxed::of(rt.alloc(), 7u8).expect(&rt, "memory");
+    assert!(rt; is_copied(&boxed).expect(&rt, "memory"));
     assert!(rt; boxed.into_inner() == 7);
-    Ok(())
 }
 
 /// One of each container.
-#[derive(Drop)]
-struct Shared {
-    text: Text,
-    list: List<u16>,
-    boxed: Boxed<u8>,
-}
+type Shared = (Text, List<u8>, Boxed<u8>);
 
-fn shared_of(alloc: Global, text: &str, list: &[u16], boxed: u8) -> Result<Shared, AllocError> {
-    Ok(Shared {
-        text: Text::of(alloc, text)?,
-        list: List::of(list.to_vec(alloc)?),
-        boxed: Boxed::of(alloc, boxed)?,
-    })
+fn shared_of(alloc: Global, text: &str, list: &[u8], boxed: u8) -> Result<Shared, AllocError> {
+    let text = Text::of(alloc, text)?;
+    let list = List::of(list.to_vec(alloc)?);
+    let boxed = Boxed::of(alloc, boxed)?;
+    Ok((text, list, boxed))
 }
 
 fn lengths_and_value(of: &Shared) -> (usize, usize, u8) {
-    (
-        of.text.as_str().len(),
-        of.list.as_slice().len(),
-        *of.boxed.get(),
-    )
+    let (text, list, boxed) = of;
+    (text.as_str().len(), list.as_slice().len(), *boxed.get())
 }
 
 #[test]
-fn containers_are_lent_and_given_to_threads(rt: HostRuntime) -> Result<(), Fail> {
-    let lent = shared_of(rt.alloc(), "lent", &[1, 2], 7)?;
-    let given = shared_of(rt.alloc(), "given", &[1, 2, 3], 9)?;
+fn containers_are_lent_and_given_to_threads(rt: HostRuntime) {
+    let lent = shared_of(rt.alloc(), "lent", &[1, 2], 7).expect(&rt, "memory");
+    let given = shared_of(rt.alloc(), "given", &[1, 2, 3], 9).expect(&rt, "memory");
     let (first, second) = thread::join(
         &rt,
         || lengths_and_value(&lent),
@@ -99,5 +88,4 @@ fn containers_are_lent_and_given_to_threads(rt: HostRuntime) -> Result<(), Fail>
     assert!(rt; first == (4, 2, 7));
     assert!(rt; second == (5, 3, 9));
     assert!(rt; lengths_and_value(&lent) == first);
-    Ok(())
 }

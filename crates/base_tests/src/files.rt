@@ -4,7 +4,21 @@ use dsu_io::FileFault::{Failed, TooLong};
 use dsu_io::{FileFault, Files, MemoryFiles, StdFiles};
 use std::alloc::{AllocError, Global};
 use std::fs;
-use std::test::Fail;
+
+/// A read: a name, a limit, and the answer.
+type Read = (&'static str, usize, Result<(), FileFault>);
+
+/// Whether a read into a buffer ends as listed, and leaves some bytes there where it doesn't fail.
+fn ends_as_listed<F: Files>(
+    files: &mut F,
+    buffer: &mut Vec<u8>,
+    read: &Read,
+    bytes: Option<&[u8]>,
+) -> bool {
+    let (name, limit, want) = *read;
+    let answer = files.read(name, buffer, limit);
+    answer == want && (answer == Err(Failed) || bytes == Some(buffer.as_slice()))
+}
 
 static HELD: [(&str, &str); 4] = [
     ("first", "four"),
@@ -23,56 +37,27 @@ fn folder(alloc: Global) -> Result<MemoryFiles, AllocError> {
     Ok(MemoryFiles::of(held, [5u64].to_vec(alloc)?))
 }
 
-/// A read: a name, a limit, the fault if one comes, the bytes in the buffer where they are known, and
-/// the faults so far.
-struct Read {
-    name: &'static str,
-    limit: usize,
-    fault: Option<FileFault>,
-    bytes: Option<&'static str>,
-    faults: u64,
-}
-
-/// Reads in a row from that folder into one buffer.
-#[rattlefmt::skip]
-static READS: [Read; 9] = [
-    Read { name: "first", limit: 9, fault: None, bytes: Some("four"), faults: 0 },
-    Read { name: "first", limit: 4, fault: None, bytes: Some("four"), faults: 0 },
-    Read { name: "first", limit: 3, fault: Some(TooLong), bytes: Some("four"), faults: 0 },
-    Read { name: "first", limit: 1, fault: Some(TooLong), bytes: Some("fo"), faults: 0 },
-    Read { name: "first", limit: 9, fault: Some(Failed), bytes: None, faults: 1 },
-    Read { name: "empty", limit: 0, fault: None, bytes: Some(""), faults: 1 },
-    Read { name: "second", limit: 9, fault: None, bytes: Some("2"), faults: 1 },
-    Read { name: "fir", limit: 9, fault: Some(Failed), bytes: None, faults: 2 },
-    Read { name: "first", limit: 5, fault: None, bytes: Some("four"), faults: 2 },
+/// Reads in a row from that folder into one buffer, the bytes that are there then, and the faults so far.
+static READS: [(Read, &str, u64); 9] = [
+    (("first", 9, Ok(())), "four", 0),
+    (("first", 4, Ok(())), "four", 0),
+    (("first", 3, Err(TooLong)), "four", 0),
+    (("first", 1, Err(TooLong)), "fo", 0),
+    (("first", 9, Err(Failed)), "", 1),
+    (("empty", 0, Ok(())), "", 1),
+    (("second", 9, Ok(())), "2", 1),
+    (("fir", 9, Err(Failed)), "", 2),
+    (("first", 5, Ok(())), "four", 2),
 ];
 
-/// Whether a buffer has the listed bytes, where these are known.
-fn has(buffer: &[u8], bytes: Option<&str>) -> bool {
-    match bytes {
-        Some(bytes) => buffer == bytes.as_bytes(),
-        None => true,
-    }
-}
-
-/// Whether a read ends as listed.
-fn ends_as_listed(files: &mut MemoryFiles, buffer: &mut Vec<u8>, read: &Read) -> bool {
-    files.read(read.name, buffer, read.limit).err() == read.fault
-        && has(buffer.as_slice(), read.bytes)
-        && files.faults() == read.faults
-}
-
 #[test]
-fn memory_files_are_read_by_name(rt: HostRuntime) -> Result<(), Fail> {
-    let mut files = folder(rt.alloc())?;
-    let mut buffer = b"left over".to_vec(rt.alloc())?;
-    for (place, read) in READS.iter().enumerate() {
-        assert!(rt;
-            ends_as_listed(&mut files, &mut buffer, read),
-            "read {place}"
-        );
+fn memory_files_are_read_by_name(rt: HostRuntime) {
+    let mut files = folder(rt.alloc()).expect(&rt, "memory");
+    let mut buffer = b"left over".to_vec(rt.alloc()).expect(&rt, "memory");
+    for (read, bytes, faults) in &READS {
+        let ends = ends_as_listed(&mut files, &mut buffer, read, Some(bytes.as_bytes()));
+        assert!(rt; ends && files.faults() == *faults, "{} {}", read.0, read.1);
     }
-    Ok(())
 }
 
 const FOLDER: &str = "dsu_io_test_folder";
@@ -81,14 +66,13 @@ const FILE: &str = "dsu_io_test_folder/file";
 
 const MISSING: &str = "dsu_io_test_folder/missing";
 
-/// Reads in a row from that folder: a path, a limit, the fault if one comes, how many of the file's
-/// bytes are in the buffer where that is known, and the faults so far.
-static PATHS: [(&str, usize, Option<FileFault>, Option<usize>, u64); 5] = [
-    (FILE, 40_000, None, Some(40_000), 0),
-    (FILE, 39_999, Some(TooLong), Some(40_000), 0),
-    (FILE, 0, Some(TooLong), Some(1), 0),
-    (MISSING, 9, Some(Failed), None, 1),
-    (FOLDER, 9, Some(Failed), None, 2),
+/// Reads in a row from that folder, how many of the file's bytes are in the buffer then, and the faults so far.
+static PATHS: [(Read, usize, u64); 5] = [
+    ((FILE, 40_000, Ok(())), 40_000, 0),
+    ((FILE, 39_999, Err(TooLong)), 40_000, 0),
+    ((FILE, 0, Err(TooLong)), 1, 0),
+    ((MISSING, 9, Err(Failed)), 0, 1),
+    ((FOLDER, 9, Err(Failed)), 0, 2),
 ];
 
 fn long_content(alloc: Global) -> Result<Vec<u8>, AllocError> {
@@ -100,26 +84,16 @@ fn long_content(alloc: Global) -> Result<Vec<u8>, AllocError> {
 }
 
 #[test]
-fn std_files_are_read_whole(rt: HostRuntime) -> Result<(), Fail> {
-    let content = long_content(rt.alloc())?;
+fn std_files_are_read_whole(rt: HostRuntime) {
+    let content = long_content(rt.alloc()).expect(&rt, "memory");
+    let mut buffer = b"left over".to_vec(rt.alloc()).expect(&rt, "memory");
     let _ = fs::remove_dir_all(&rt, FOLDER);
-    fs::create_dir(&rt, FOLDER)?;
-    fs::write(&rt, FILE, content.as_slice())?;
+    assert!(rt; fs::create_dir(&rt, FOLDER).is_ok());
+    assert!(rt; fs::write(&rt, FILE, content.as_slice()).is_ok());
     let mut files = StdFiles::new(&rt);
-    let mut buffer = b"left over".to_vec(rt.alloc())?;
-    for (path, limit, fault, count, faults) in &PATHS {
-        assert!(rt;
-            files.read(path, &mut buffer, *limit).err() == *fault,
-            "{path} {limit}"
-        );
-        if let Some(count) = count {
-            assert!(rt;
-                content.get(..*count) == Some(buffer.as_slice()),
-                "{path} {limit}"
-            );
-        }
-        assert!(rt; files.faults() == *faults, "{path} {limit}");
+    for (read, count, faults) in &PATHS {
+        let ends = ends_as_listed(&mut files, &mut buffer, read, content.get(..*count));
+        assert!(rt; ends && files.faults() == *faults, "{} {}", read.0, read.1);
     }
-    fs::remove_dir_all(&rt, FOLDER)?;
-    Ok(())
+    assert!(rt; fs::remove_dir_all(&rt, FOLDER).is_ok());
 }

@@ -5,71 +5,95 @@ ghost use Rattle.name_sets.specs.IdSet.{Holds};
 
 use name_sets::{MOST_NAMES, NameId, NameSet, Names, NamesFault};
 use std::alloc::Global;
-use std::process::Abort;
-use std::test::Fail;
 
-/// Two sets of ids, whether the first grows by the second, and whether they meet.
-static PAIRS: [(&[usize], &[usize], bool, bool); 9] = [
-    (&[], &[], false, false),
-    (&[], &[0], true, false),
-    (&[0], &[], false, false),
-    (&[0, 9], &[9], false, true),
-    (&[63], &[64], true, false),
-    (&[511, 512], &[513, 512], true, true),
-    (&[1, 1983], &[2, 1984], true, false),
-    (&[2047], &[2047], false, true),
-    (&[5, 700, 2046], &[6, 701, 2047], true, false),
-];
+/// The ids of a set that has at most three. One that is listed again counts once, and `NO_ID` doesn't count.
+pub type Ids = [usize; 3];
 
-fn set_of(ids: &[usize]) -> Result<NameSet, Fail> {
+pub const NO_ID: usize = MOST_NAMES;
+
+/// No ids.
+pub const EMPTY: Ids = [NO_ID, NO_ID, NO_ID];
+
+/// The set of these ids.
+pub fn set_of(ids: &Ids) -> NameSet {
     let mut set = NameSet::empty();
     for id in ids {
-        set.add(NameId::new(*id).ok_or("an id is below 2,048")?);
-    }
-    Ok(set)
-}
-
-#[test]
-fn unions_grow_as_listed(rt: HostRuntime) -> Result<(), Fail> {
-    for (first, second, grows, _) in &PAIRS {
-        let before = set_of(first)?;
-        let other = set_of(second)?;
-        let mut both = before;
-        let mut both_plain = before;
-        assert!(rt; both.union_with(&other) == *grows, "{first:?}");
-        assert!(rt; both_plain.union_plain(&other) == *grows, "{first:?}");
-        assert!(rt; both == both_plain, "{first:?}");
-        assert!(rt; (both == before) != *grows, "{first:?}");
-    }
-    Ok(())
-}
-
-#[test]
-fn unions_hold_what_is_listed(rt: HostRuntime) -> Result<(), Fail> {
-    for (first, second, _, _) in &PAIRS {
-        let mut both = set_of(first)?;
-        both.union_with(&set_of(second)?);
-        for k in 0..MOST_NAMES {
-            let id = NameId::new(k).ok_or("an id is below 2,048")?;
-            let is_listed = first.contains(&k) || second.contains(&k);
-            assert!(rt; both.holds(id) == is_listed, "at {k}");
+        if let Some(id) = NameId::new(*id) {
+            set.add(id);
         }
     }
-    Ok(())
+    set
+}
+
+/// Two sets of ids, whether the first grows by the second, and whether they meet.
+static PAIRS: [(Ids, Ids, bool, bool); 9] = [
+    (EMPTY, EMPTY, false, false),
+    (EMPTY, [0, 0, 0], true, false),
+    ([0, 0, 0], EMPTY, false, false),
+    ([0, 9, 9], [9, 9, 9], false, true),
+    ([63, 63, 63], [64, 64, 64], true, false),
+    ([511, 512, 512], [513, 512, 512], true, true),
+    ([1, 1983, 1983], [2, 1984, 1984], true, false),
+    ([2047, 2047, 2047], [2047, 2047, 2047], false, true),
+    ([5, 700, 2046], [6, 701, 2047], true, false),
+];
+
+#[test]
+fn unions_grow_as_listed(rt: HostRuntime) {
+    for (first, second, grows, _) in &PAIRS {
+        let before = set_of(first);
+        let other = set_of(second);
+        let mut both = before;
+        let mut both_plain = before;
+        let grew = both.union_with(&other);
+        let grew_plain = both_plain.union_plain(&other);
+        let is_grown = grew == *grows && grew_plain == *grows;
+        let is_union = both == both_plain && (both != before) == *grows;
+        assert!(rt; is_grown && is_union, "{}", first[0]);
+    }
+}
+
+/// Whether a set has the ids of two lists alone.
+fn has_ids(set: &NameSet, first: &Ids, second: &Ids) -> bool {
+    for k in 0..MOST_NAMES {
+        let Some(id) = NameId::new(k) else {
+            return false;
+        };
+        if set.holds(id) != (first.contains(&k) || second.contains(&k)) {
+            return false;
+        }
+    }
+    true
 }
 
 #[test]
-fn sets_meet_as_listed(rt: HostRuntime) -> Result<(), Fail> {
+fn unions_hold_what_is_listed(rt: HostRuntime) {
+    for (first, second, _, _) in &PAIRS {
+        let mut both = set_of(first);
+        both.union_with(&set_of(second));
+        assert!(rt; has_ids(&both, first, second), "{}", first[0]);
+    }
+}
+
+#[test]
+fn sets_meet_as_listed(rt: HostRuntime) {
     for (first, second, _, meets) in &PAIRS {
-        let one = set_of(first)?;
-        let other = set_of(second)?;
-        assert!(rt; one.meets(&other) == *meets, "{first:?}");
-        assert!(rt; one.meets_plain(&other) == *meets, "{first:?}");
+        let one = set_of(first);
+        let other = set_of(second);
+        let meet = one.meets(&other) == *meets && one.meets_plain(&other) == *meets;
+        assert!(rt; meet, "{}", first[0]);
+    }
+}
+
+/// Adds some texts.
+pub fn add_all(names: &mut Names, texts: &[&str]) -> Result<(), NamesFault> {
+    for text in texts {
+        names.add(text)?;
     }
     Ok(())
 }
 
-/// Adds a text that ends in a number.
+/// Adds a text that ends in a number, and answers with its place.
 fn add_numbered(
     names: &mut Names,
     alloc: Global,
@@ -82,62 +106,50 @@ fn add_numbered(
     }
 }
 
-/// A table with as many texts as it takes, each at its number.
-fn full_table(rt: &impl Abort, alloc: Global) -> Result<Names, NamesFault> {
-    let mut names = Names::new(alloc);
-    for number in 0..MOST_NAMES {
-        let index = add_numbered(&mut names, alloc, "name", number);
-        assert!(rt; index == Ok(number), "at {number}");
+/// Adds texts that end in the numbers below one. Whether each is put at the end of the table.
+fn fill(names: &mut Names, alloc: Global, prefix: &str, count: usize) -> Result<bool, NamesFault> {
+    for number in 0..count {
+        let end = names.len();
+        if add_numbered(names, alloc, prefix, number)? != end {
+            return Ok(false);
+        }
     }
-    Ok(names)
+    Ok(true)
 }
 
-/// Texts that are added to a full table, and what is answered.
-static ADDED: [(&str, Option<usize>); 3] = [
-    ("name2048", None),
-    ("name2047", Some(2047)),
-    ("name0", Some(0)),
+/// The numbers of texts that are added to a full table, and what is answered.
+static ADDED: [(usize, Result<usize, NamesFault>); 3] = [
+    (2048, Err(NamesFault::Full)),
+    (2047, Ok(2047)),
+    (0, Ok(0)),
 ];
 
 #[test]
-fn a_table_takes_2048_texts(rt: HostRuntime) -> Result<(), Fail> {
-    let mut names = full_table(&rt, rt.alloc())?;
+fn a_table_takes_2048_texts(rt: HostRuntime) {
+    let mut names = Names::new(rt.alloc());
+    assert!(rt; fill(&mut names, rt.alloc(), "name", MOST_NAMES).expect(&rt, "room"));
     assert!(rt; names.len() == 2048);
-    for (text, index) in &ADDED {
-        let added = names.add(text).map(|id| id.index());
-        assert!(rt; added == index.ok_or(NamesFault::Full), "at {text}");
-        assert!(rt; names.len() == 2048, "at {text}");
+    for (number, index) in &ADDED {
+        let added = add_numbered(&mut names, rt.alloc(), "name", *number);
+        assert!(rt; added == *index && names.len() == 2048, "at {number}");
     }
-    Ok(())
 }
 
-static FOUND: [(&str, Option<usize>); 5] = [
-    ("name", None),
-    ("name1", Some(1)),
-    ("name10", Some(10)),
-    ("name2048", None),
-    ("", None),
+static FOUND: [(&str, usize); 5] = [
+    ("name", NO_ID),
+    ("name1", 1),
+    ("name10", 10),
+    ("name2048", NO_ID),
+    ("", NO_ID),
 ];
 
 #[test]
-fn texts_are_found_by_all_their_bytes(rt: HostRuntime) -> Result<(), Fail> {
-    let names = full_table(&rt, rt.alloc())?;
+fn texts_are_found_by_all_their_bytes(rt: HostRuntime) {
+    let mut names = Names::new(rt.alloc());
+    assert!(rt; fill(&mut names, rt.alloc(), "name", MOST_NAMES).expect(&rt, "room"));
     for (text, index) in &FOUND {
-        assert!(rt;
-            names.find(text).map(|id| id.index()) == *index,
-            "at {text}"
-        );
+        assert!(rt; names.find(text) == NameId::new(*index), "at {text}");
     }
-    Ok(())
-}
-
-/// A table of these texts.
-fn table_of(alloc: Global, texts: &[&str]) -> Result<Names, NamesFault> {
-    let mut names = Names::new(alloc);
-    for text in texts {
-        names.add(text)?;
-    }
-    Ok(names)
 }
 
 /// The ids of the texts that are in the table.
@@ -153,78 +165,51 @@ fn chosen(names: &Names, texts: &[&str]) -> NameSet
     set
 }
 
-/// Two sets of names, and the text of the least name in both.
-static SHARED: [(&[&str], &[&str], Option<&str>); 7] = [
-    (&[], &[], None),
-    (&["pear", "fig"], &["apple"], None),
-    (&["pear", "fig"], &["fig", "pear"], Some("fig")),
-    (
-        &["pear", "apple", "app"],
-        &["app", "apple", "pear"],
-        Some("app"),
-    ),
-    (&["é", "zoo"], &["é", "zoo"], Some("zoo")),
-    (&["zoo", "é", "Fig"], &["Fig", "zoo"], Some("Fig")),
-    (&["zoo", "599", "57"], &["599", "zoo", "58"], Some("599")),
+/// Two sets of names, and the text of the least name in both. The empty text is no name.
+static SHARED: [([&str; 3], [&str; 3], &str); 7] = [
+    (["", "", ""], ["", "", ""], ""),
+    (["pear", "fig", ""], ["apple", "", ""], ""),
+    (["pear", "fig", ""], ["fig", "pear", ""], "fig"),
+    (["pear", "apple", "app"], ["app", "apple", "pear"], "app"),
+    (["é", "zoo", ""], ["é", "zoo", ""], "zoo"),
+    (["zoo", "é", "Fig"], ["Fig", "zoo", ""], "Fig"),
+    (["zoo", "599", "57"], ["599", "zoo", "58"], "599"),
 ];
 
 /// Whether the least common name of two sets of names is the one with this text.
-fn is_least(names: &Names, first: &[&str], second: &[&str], least: Option<&str>) -> bool {
-    let found = chosen(names, first).least_common(&chosen(names, second), names);
-    match least {
-        Some(text) => found == names.find(text),
-        None => found.is_none(),
-    }
-}
-
-static SOME: [&str; 7] = ["pear", "apple", "fig", "app", "é", "zoo", "Fig"];
-
-/// A table of some names and of many numbers.
-fn names_and_numbers(alloc: Global) -> Result<Names, NamesFault> {
-    let mut names = table_of(alloc, &SOME)?;
-    for number in 0..600usize {
-        add_numbered(&mut names, alloc, "", number)?;
-    }
-    Ok(names)
+fn is_least(names: &Names, first: &[&str], second: &[&str], least: &str) -> bool {
+    chosen(names, first).least_common(&chosen(names, second), names) == names.find(least)
 }
 
 #[test]
-fn the_least_common_name_is_the_least_text(rt: HostRuntime) -> Result<(), Fail> {
-    let names = names_and_numbers(rt.alloc())?;
-    for (row, (first, second, least)) in SHARED.iter().enumerate() {
-        assert!(rt; is_least(&names, first, second, *least), "row {row}");
+fn the_least_common_name_is_the_least_text(rt: HostRuntime) {
+    let mut names = Names::new(rt.alloc());
+    let some = ["pear", "apple", "fig", "app", "é", "zoo", "Fig"];
+    assert!(rt; add_all(&mut names, &some).is_ok());
+    assert!(rt; fill(&mut names, rt.alloc(), "", 600).expect(&rt, "room"));
+    for (first, second, least) in &SHARED {
+        assert!(rt; is_least(&names, first, second, least), "{least}");
     }
-    Ok(())
 }
 
-/// Whether one text of a table is before another.
+/// Whether one text of a table is before another, where both are there and the first is what its id stands for.
 fn is_before(names: &Names, first: &str, second: &str) -> Option<bool> {
-    let first = names.find(first)?;
-    let second = names.find(second)?;
-    Some(names.before(first, second))
-}
-
-/// Whether a table has a text, and gives it back for its id.
-fn has(names: &Names, text: &str) -> bool {
-    match names.find(text) {
-        Some(id) => names.text(id) == text,
-        None => false,
+    let a = names.find(first)?;
+    let b = names.find(second)?;
+    if names.text(a) == first {
+        Some(names.before(a, b))
+    } else {
+        None
     }
 }
-
-static ORDERED: [(&str, &str, bool); 3] = [("a", "b", true), ("b", "a", false), ("b", "b", false)];
 
 #[test]
-fn texts_come_in_the_order_of_their_bytes(rt: HostRuntime) -> Result<(), Fail> {
-    let names = table_of(rt.alloc(), &["b", "a"])?;
-    for (first, second, answer) in &ORDERED {
-        assert!(rt;
-            is_before(&names, first, second) == Some(*answer),
-            "{first} {second}"
-        );
-    }
-    assert!(rt; has(&names, "b"));
-    Ok(())
+fn texts_come_in_the_order_of_their_bytes(rt: HostRuntime) {
+    let mut names = Names::new(rt.alloc());
+    assert!(rt; add_all(&mut names, &["b", "a"]).is_ok());
+    assert!(rt; is_before(&names, "a", "b") == Some(true));
+    assert!(rt; is_before(&names, "b", "a") == Some(false));
+    assert!(rt; is_before(&names, "b", "b") == Some(false));
 }
 
 /// Takes what threads may share.

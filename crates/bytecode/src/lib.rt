@@ -15,18 +15,3 @@ mod trap;
 pub use instr::Instr;
 pub use run::{Ending, Event, Wait};
 pub use trap::TrapKind;
-
-#[cfg(test)]
-mod tests {
-    use super::*;
-    use c_ints::ArithTrap;
-    use std::test::Fail;
-
-    #[test]
-    fn traps_of_operators(rt: HostRuntime) -> Result<(), Fail> {
-        assert_eq!(rt; TrapKind::from(ArithTrap::Overflow), TrapKind::Overflow);
-        assert_eq!(rt; TrapKind::from(ArithTrap::Divide), TrapKind::Divide);
-        assert_eq!(rt; TrapKind::from(ArithTrap::Shift), TrapKind::Shift);
-        Ok(())
-    }
-}

@@ -23,6 +23,3 @@ pub use decision::{decide, decide_plain};
 pub use laws::{least_slot_refuses, rows_admit_without_obstacle};
 pub use refusal::{Effect, Refusal, Verdict};
 pub use row::Row;
-
-#[cfg(test)]
-mod tests;

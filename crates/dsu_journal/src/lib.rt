@@ -19,6 +19,3 @@ pub use fault::JournalFault;
 pub use laws::{event_lines_are_exact, printed_is_read};
 pub use print::print_journal;
 pub use read::read_journal;
-
-#[cfg(test)]
-mod tests;

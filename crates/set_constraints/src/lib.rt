@@ -22,6 +22,3 @@ mod solution;
 pub use constraint::{Edge, Order};
 pub use laws::sets_are_least;
 pub use solution::least_sets;
-
-#[cfg(test)]
-mod tests;

@@ -1,8 +1,8 @@
 use Rattle.std.proofs.Common.{sym, ap, ◌∙◌, subst}
 use Rattle.pass_lock.specs.Histories.{Adds}
 use Rattle.pass_lock.specs.Passes.{opened}
-use Rattle.pass_lock_tests.specs.Tallies.{tallied}
-use Rattle.pass_lock_tests.proofs.counts.count.Goals as goal
+use Rattle.base_tests.specs.Tallies.{tallied}
+use Rattle.base_tests.proofs.counts.count.Goals as goal
 
 pub give-requires-clause-turn : goal.give-requires-clause-turn
 give-requires-clause-turn g c = let log = tallied c.take-turn.result.value.by.items in let number = sym (ap (λ k. k.number) c.take-turn.ensures.pass ∙ c.requires.1) in (

@@ -1,21 +1,13 @@
+//! Which slot and which names a refusal has, and that both forms of the test of admission agree.
 ghost use Rattle.std.specs.Prelude.{ℕ, ◌<◌, length};
 ghost use Rattle.name_sets.specs.IdSet.{Holds};
 
-use super::*;
+use crate::names::add_all;
+use con_freeness::{Effect, Refusal, Row, Verdict, decide, decide_plain};
 use name_sets::{NameId, NameSet, Names};
-use std::alloc::Global;
-use std::test::Fail;
 
-/// A table in which the texts don't rise with the ids.
-fn table(alloc: Global) -> Result<Names, Fail> {
-    let mut names = Names::new(alloc);
-    for text in ["h", "g", "main"] {
-        if names.add(text).is_err() {
-            return Err("room for a name".into());
-        }
-    }
-    Ok(names)
-}
+/// Texts that don't rise with their ids.
+const TEXTS: &[&str] = &["h", "g", "main"];
 
 /// The set of the first three names whose bits are 1.
 fn set_of(names: &Names, bits: usize) -> NameSet
@@ -58,41 +50,36 @@ fn verdict_of(
     }
 }
 
+/// What is in force: the concrete effect of slot 9, the prior and the future effect of slot 4, and whether slot 4 is pinned.
+type InForce = (usize, usize, usize, bool);
+
+/// The verdict on a patch of all names that has these in its interface.
+fn verdict_at(names: &Names, in_force: InForce, interface: usize) -> Option<Verdict> {
+    let (concrete, prior, future, is_pinned) = in_force;
+    let mut rows = [row_of(names, 0, 0, 0); 16];
+    rows[9] = row_of(names, 0, 0, concrete);
+    rows[4] = row_of(names, prior, future, 0);
+    let mut pinned = [false; 16];
+    pinned[4] = is_pinned;
+    verdict_of(&rows, &pinned, 7, interface, names)
+}
+
 fn refused(slot: u8, effect: Effect) -> Option<Verdict> {
     Some(Verdict::Refused(Refusal { slot, effect }))
 }
 
 #[test]
-fn the_least_slot_and_the_least_names(rt: HostRuntime) -> Result<(), Fail> {
-    let names = table(rt.alloc())?;
-    let h = NameId::new(0).ok_or("an id")?;
-    let g = NameId::new(1).ok_or("an id")?;
-    let mut rows = [row_of(&names, 0, 0, 0); 16];
-    let mut pinned = [false; 16];
-    assert_eq!(rt;
-        verdict_of(&rows, &pinned, 7, 7, &names),
-        Some(Verdict::Admitted)
-    );
-    rows[9] = row_of(&names, 0, 0, 1);
-    assert_eq!(rt;
-        verdict_of(&rows, &pinned, 7, 7, &names),
-        refused(9, Effect::Concrete(h))
-    );
-    assert_eq!(rt;
-        verdict_of(&rows, &pinned, 7, 2, &names),
-        Some(Verdict::Admitted)
-    );
-    rows[4] = row_of(&names, 3, 1, 0);
-    assert_eq!(rt;
-        verdict_of(&rows, &pinned, 7, 7, &names),
-        refused(4, Effect::Both(g, h))
-    );
-    pinned[4] = true;
-    assert_eq!(rt;
-        verdict_of(&rows, &pinned, 7, 7, &names),
-        refused(4, Effect::Pinned(h))
-    );
-    Ok(())
+fn the_least_slot_and_the_least_names(rt: HostRuntime) {
+    let h = NameId::new(0).expect(&rt, "an id");
+    let g = NameId::new(1).expect(&rt, "an id");
+    let mut names = Names::new(rt.alloc());
+    assert!(rt; add_all(&mut names, TEXTS).is_ok());
+    let admitted = Some(Verdict::Admitted);
+    assert!(rt; verdict_at(&names, (0, 0, 0, false), 7) == admitted);
+    assert!(rt; verdict_at(&names, (1, 0, 0, false), 7) == refused(9, Effect::Concrete(h)));
+    assert!(rt; verdict_at(&names, (1, 0, 0, false), 2) == admitted);
+    assert!(rt; verdict_at(&names, (1, 3, 1, false), 7) == refused(4, Effect::Both(g, h)));
+    assert!(rt; verdict_at(&names, (1, 3, 1, true), 7) == refused(4, Effect::Pinned(h)));
 }
 
 /// Whether both forms agree on each patch of the three names, with a row in one slot.
@@ -110,11 +97,11 @@ fn agree_at(row: Row, is_pinned: bool, names: &Names) -> bool {
 }
 
 #[test]
-fn both_forms_agree(rt: HostRuntime) -> Result<(), Fail> {
-    let names = table(rt.alloc())?;
+fn both_forms_agree(rt: HostRuntime) {
+    let mut names = Names::new(rt.alloc());
+    assert!(rt; add_all(&mut names, TEXTS).is_ok());
     for bits in 0..1024usize {
         let row = row_of(&names, bits & 7, (bits >> 3) & 7, (bits >> 6) & 7);
         assert!(rt; agree_at(row, bits >= 512, &names));
     }
-    Ok(())
 }

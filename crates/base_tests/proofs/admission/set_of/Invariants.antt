@@ -1,6 +1,6 @@
 use Rattle.std.proofs.Common.{ℕ, ◌<◌, length}
 use Rattle.name_sets.specs.IdSet.{Holds}
-use Rattle.con_freeness.proofs.tests.set_of.Given as goal
+use Rattle.base_tests.proofs.admission.set_of.Given as goal
 
 abbrev pub invariant-loop-place : goal.invariant-loop-place
 invariant-loop-place l = (id : ℕ) → Holds l.set id → id < length l.names

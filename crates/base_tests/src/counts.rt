@@ -2,12 +2,11 @@
 ghost use Rattle.std.specs.Prelude.{◌≡◌, ◌<◌, ◌≤◌, List, All, length};
 ghost use Rattle.pass_lock.specs.Histories.{Adds};
 ghost use Rattle.pass_lock.specs.Passes.{IsFreeAt, IsFreePassOf};
-ghost use Rattle.pass_lock_tests.specs.Tallies.{tallied, AreFresh};
+ghost use Rattle.base_tests.specs.Tallies.{tallied, AreFresh};
 
 use pass_lock::{Pass, PassLock, Told};
 use std::alloc::Global;
 use std::sync::Wait;
-use std::test::Fail;
 use std::thread::{Threads, for_each_mut};
 
 /// The numbers of the passes that took the turns, in order.
@@ -20,7 +19,7 @@ impl Told for Tally {
     type What = ();
 
     ghost use Rattle.std.specs.Prelude.{[]};
-    ghost use Rattle.pass_lock_tests.specs.Tallies.{tallied};
+    ghost use Rattle.base_tests.specs.Tallies.{tallied};
 
     ghost history = { λ t. tallied t.by.items };
 
@@ -109,18 +108,23 @@ fn counted<R: Threads + Wait + Sync>(
     Some(by)
 }
 
-#[test]
-fn two_threads_count(rt: HostRuntime) -> Result<(), Fail> {
-    let by = counted(&rt, rt.alloc(), 2, 50_000).expect(&rt, "memory");
-    assert!(rt; by.len() == 100_000);
-    assert!(rt; by.iter().filter(|n| **n == 0).count() == 50_000);
-    Ok(())
+// How many turns were those of a pass.
+fn turns_of(by: &[u32], number: u32) -> usize {
+    by.iter().filter(|n| **n == number).count()
 }
 
 #[test]
-fn eight_threads_count(rt: HostRuntime) -> Result<(), Fail> {
+fn two_threads_count(rt: HostRuntime) {
+    let by = counted(&rt, rt.alloc(), 2, 50_000).expect(&rt, "memory");
+    assert!(rt; by.len() == 100_000);
+    assert!(rt; turns_of(&by, 0) == 50_000);
+}
+
+#[test]
+fn eight_threads_count(rt: HostRuntime) {
     let by = counted(&rt, rt.alloc(), 8, 12_500).expect(&rt, "memory");
     assert!(rt; by.len() == 100_000);
-    assert!(rt; (0..8u32).all(|k| by.iter().filter(|n| **n == k).count() == 12_500));
-    Ok(())
+    for number in 0..8u32 {
+        assert!(rt; turns_of(&by, number) == 12_500, "pass {number}");
+    }
 }

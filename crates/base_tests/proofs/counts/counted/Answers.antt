@@ -1,7 +1,7 @@
 use Rattle.std.proofs.Common.{rules, arith, ◌≡◌, length, length-take, length-append, length-drop, ap, ◌∙◌}
 use Rattle.pass_lock.specs.Passes.{fresh_from}
-use Rattle.pass_lock_tests.proofs.Tallies.{fresh_count, fresh_ready}
-use Rattle.pass_lock_tests.proofs.counts.counted.Goals as goal
+use Rattle.base_tests.proofs.Tallies.{fresh_count, fresh_ready}
+use Rattle.base_tests.proofs.counts.counted.Goals as goal
 
 pub all_count-requires-after_bounds : goal.all_count-requires-after_bounds
 all_count-requires-after_bounds g c κs within = let it : c.as_mut_slice.result.now ≡ fresh_from c.in-Ok.lock.table 0 c.args.threads = search rules in

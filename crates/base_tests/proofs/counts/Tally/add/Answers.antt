@@ -1,8 +1,8 @@
 use Rattle.std.proofs.Common.{◌∷◌, [], ◌++◌, sym, ap, ◌∙◌, subst}
 use Rattle.pass_lock.specs.Histories.{Adds}
-use Rattle.pass_lock_tests.specs.Tallies.{tallied}
-use Rattle.pass_lock_tests.proofs.Tallies.{one_added}
-use Rattle.pass_lock_tests.proofs.counts.Tally.add.Goals as goal
+use Rattle.base_tests.specs.Tallies.{tallied}
+use Rattle.base_tests.proofs.Tallies.{one_added}
+use Rattle.base_tests.proofs.counts.Tally.add.Goals as goal
 
 pub returns : goal.returns
 returns c = (

@@ -5,7 +5,7 @@ use mathlib.Core.List.{map-append}
 use Rattle.atomic_table.specs.Seated.{TableId}
 use Rattle.pass_lock.specs.Histories.{entry, Adds}
 use Rattle.pass_lock.specs.Passes.{Known, fresh, fresh_from}
-use Rattle.pass_lock_tests.specs.Tallies.{tallied, AreFresh}
+use Rattle.base_tests.specs.Tallies.{tallied, AreFresh}
 
 pub none_added : (n : ℕ) (xs : List ℕ) → Adds {E = Unit {0}} n (tallied xs) [] (tallied xs)
 none_added n xs = (sym (append-nil (tallied xs)), omega arith)
