@@ -106,7 +106,7 @@ fn add_numbered(
     }
 }
 
-/// Adds texts that end in the numbers below one. Whether each is put at the end of the table.
+/// Adds texts that end in the numbers below `count`, and answers whether each is put at the end of the table.
 fn fill(names: &mut Names, alloc: Global, prefix: &str, count: usize) -> Result<bool, NamesFault> {
     for number in 0..count {
         let end = names.len();
