@@ -12,6 +12,3 @@ mod operators;
 
 pub use kind::{ValueKind, converted, kind_of, zero};
 pub use operators::{chosen, wrapped, wrapped_unary};
-
-#[cfg(test)]
-mod tests;
