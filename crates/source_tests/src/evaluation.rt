@@ -1,5 +1,5 @@
 //! Where a thread's private work stops, and with which values and variables.
-use c_front::read_text;
+use crate::checks::read;
 use c_ints::Int;
 use c_tree::{Def, DefKind};
 use c_types::Known;
@@ -11,6 +11,17 @@ use std::test::Fail;
 
 /// The number of the first point of a body.
 const FIRST: u32 = 7;
+
+/// Where work stops.
+#[derive(Clone, Copy)]
+enum At {
+    /// At the print of one argument, the one value, at the first point.
+    Print(i32),
+    /// At a back edge, with these values of the two variables.
+    Back(i32, i32),
+    /// At a return, with these.
+    Return(i32, i32),
+}
 
 /// The body of the `main` that is known.
 fn body_of_main(trees: &mut Trees, known: &Known) -> Result<NodeId, Fail> {
@@ -26,115 +37,115 @@ fn body_of_main(trees: &mut Trees, known: &Known) -> Result<NodeId, Fail> {
 /// That of these definitions.
 fn body_in(alloc: Global, trees: &mut Trees, definitions: &[Def]) -> Result<NodeId, Fail> {
     let known = Known::of(alloc, definitions)?;
-    body_of_main(trees, &known)
+    let body = body_of_main(trees, &known);
+    drop(known);
+    body
 }
 
 /// That of a text.
 fn body_in_text(alloc: Global, trees: &mut Trees, text: &str) -> Result<NodeId, Fail> {
-    let Ok(typed) = read_text(alloc, text.as_bytes()) else {
-        return Err(Fail::new("the text has a fault"));
-    };
-    body_in(alloc, trees, typed.program().definitions.as_slice())
+    let typed = read(alloc, text)?;
+    let body = body_in(alloc, trees, typed.program().definitions.as_slice());
+    drop(typed);
+    body
 }
 
-/// The body of a text's `main` as work that is pending.
-fn work_of(alloc: Global, trees: &mut Trees, text: &str) -> Result<Work, Fail> {
-    let body = body_in_text(alloc, trees, text)?;
-    Ok(pending(alloc, Piece::Sequence(body, FIRST))?)
-}
-
-/// Work with one pending piece, in a scope of its own.
-fn pending(alloc: Global, piece: Piece) -> Result<Work, AllocError> {
-    let mut work = Work {
-        pieces: Vec::new(alloc),
+/// A body as work that is pending, in a scope of its own.
+fn pending(alloc: Global, body: NodeId) -> Result<Work, AllocError> {
+    let pieces = Vec::from_array(alloc, [Piece::Sequence(body, FIRST)])?;
+    let scopes = Vec::from_array(alloc, [Local::Block])?;
+    Ok(Work {
+        pieces,
         values: Vec::new(alloc),
-        scopes: Vec::new(alloc),
-    };
-    work.pieces.push(piece)?;
-    work.scopes.push(Local::Block)?;
-    Ok(work)
+        scopes,
+    })
 }
 
-/// The `int` of the local at a place of the scopes.
-fn local_at(work: &Work, place: usize) -> Option<i32> {
-    match work.scopes.get(place) {
-        Some(Local::Variable(_, Value::Number(Int::I32(value)))) => Some(*value),
-        _ => None,
-    }
-}
-
-/// The `int` that is the one value.
-fn only_int(work: &Work) -> Option<i32> {
+/// Whether the one value is this.
+fn has_value(work: &Work, value: i32) -> bool {
     match work.values.as_slice() {
-        [Value::Number(Int::I32(value))] => Some(*value),
-        _ => None,
+        [Value::Number(Int::I32(only))] => *only == value,
+        _ => false,
     }
 }
 
-/// Whether work stops at a print of one argument, which is 11.
-fn prints(trees: &Trees, work: &mut Work) -> Result<bool, AllocError> {
-    let Halt::At(Stop::Print(format, count), at) = evaluate(trees, work)? else {
+/// Whether the variables are two with these values.
+fn has_variables(work: &Work, first: i32, second: i32) -> bool {
+    match work.scopes.as_slice() {
+        [
+            Local::Block,
+            Local::Variable(_, Value::Number(Int::I32(x))),
+            Local::Variable(_, Value::Number(Int::I32(y))),
+        ] => *x == first && *y == second,
+        _ => false,
+    }
+}
+
+/// Whether work stops next at a place.
+fn stops_at(trees: &Trees, work: &mut Work, place: At) -> Result<bool, AllocError> {
+    let Halt::At(stop, point) = evaluate(trees, work)? else {
         return Ok(false);
     };
-    Ok(trees.text(format) == "%d" && count == 1 && at == FIRST && only_int(work) == Some(11))
+    Ok(match (stop, place) {
+        (Stop::Print(format, 1), At::Print(value)) => {
+            trees.text(format) == "%d" && point == FIRST && has_value(work, value)
+        }
+        (Stop::Back, At::Back(first, second)) | (Stop::Return, At::Return(first, second)) => {
+            has_variables(work, first, second)
+        }
+        _ => false,
+    })
 }
 
-/// Whether that of a text does.
-fn is_printed(alloc: Global, text: &str) -> Result<bool, Fail> {
+/// Whether work stops at these places, one by one.
+fn stops_at_all(trees: &Trees, work: &mut Work, places: &[At]) -> Result<bool, Fail> {
+    for place in places {
+        if !stops_at(trees, work, *place)? {
+            return Ok(false);
+        }
+    }
+    Ok(true)
+}
+
+/// Whether the work of a text's `main` does.
+fn text_stops_at(
+    alloc: Global,
+    trees: &mut Trees,
+    text: &str,
+    places: &[At],
+) -> Result<bool, Fail> {
+    let body = body_in_text(alloc, trees, text)?;
+    let mut work = pending(alloc, body)?;
+    let stops = stops_at_all(trees, &mut work, places);
+    drop(work);
+    stops
+}
+
+/// Whether it does, with trees of its own.
+fn stops(alloc: Global, text: &str, places: &[At]) -> Result<bool, Fail> {
     let mut trees = Trees::new(alloc);
-    let mut work = work_of(alloc, &mut trees, text)?;
-    Ok(prints(&trees, &mut work)?)
+    let stops = text_stops_at(alloc, &mut trees, text, places);
+    drop(trees);
+    stops
 }
 
 #[test]
 fn arguments_are_evaluated_up_to_the_print(rt: HostRuntime) -> Result<(), Fail> {
-    let is_printed = is_printed(
-        rt.alloc(),
-        r#"int main(void) { int y = 5; printf("%d", 1 + y * 2); return 0; }"#,
-    )?;
-    assert!(rt; is_printed);
+    let text = r#"int main(void) { int y = 5; printf("%d", 1 + y * 2); return 0; }"#;
+    assert!(rt; stops(rt.alloc(), text, &[At::Print(11)])?);
     Ok(())
-}
-
-/// Whether work stops at a back edge with this value of its first variable, in three scopes.
-fn turns(trees: &Trees, work: &mut Work, turn: i32) -> Result<bool, AllocError> {
-    let Halt::At(Stop::Back, _) = evaluate(trees, work)? else {
-        return Ok(false);
-    };
-    Ok(local_at(work, 1) == Some(turn) && work.scopes.len() == 3)
-}
-
-/// Whether work stops at the return, with both variables 4, in three scopes.
-fn returns(trees: &Trees, work: &mut Work) -> Result<bool, AllocError> {
-    let Halt::At(Stop::Return, _) = evaluate(trees, work)? else {
-        return Ok(false);
-    };
-    Ok(local_at(work, 1) == Some(4) && local_at(work, 2) == Some(4) && work.scopes.len() == 3)
-}
-
-/// Whether work turns three times and then returns.
-fn leaves(trees: &Trees, work: &mut Work) -> Result<bool, AllocError> {
-    for turn in 1..4 {
-        if !turns(trees, work, turn)? {
-            return Ok(false);
-        }
-    }
-    returns(trees, work)
-}
-
-/// Whether that of a text does.
-fn is_left(alloc: Global, text: &str) -> Result<bool, Fail> {
-    let mut trees = Trees::new(alloc);
-    let mut work = work_of(alloc, &mut trees, text)?;
-    Ok(leaves(&trees, &mut work)?)
 }
 
 #[test]
 fn jumps_leave_nested_blocks(rt: HostRuntime) -> Result<(), Fail> {
-    let is_left = is_left(
-        rt.alloc(),
-        "int main(void) { int x; int y; while (x < 5) { x = x + 1; { if (x == 2) continue; { if (x == 4) break; y = y + x; } } } return 0; }",
-    )?;
-    assert!(rt; is_left);
+    let text =
+        "int main(void) { int x; int y; while (x < 5) { x = x + 1; { if (x == 2) continue; { if (x == 4) break; y = y + x; } } } return 0; }";
+    let places = [
+        At::Back(1, 1),
+        At::Back(2, 1),
+        At::Back(3, 4),
+        At::Return(4, 4),
+    ];
+    assert!(rt; stops(rt.alloc(), text, &places)?);
     Ok(())
 }

@@ -1,12 +1,14 @@
 //! What no clause of `source_runner` says: that its runs begin and go on with ample memory, and that they mean what C
 //! means. Its texts are read from C, and its runs are made by the public calls.
 //!
-//! Read in this order: `runs` (texts, with what each prints and how it ends), `moves` (what is asked of a run between its
-//! moves, and threads that share objects and mutexes), `installs` (newer texts that are installed while a run goes on),
-//! `misuses` (what old code uses that is no longer what it was), `queries` (where a thread stands, across an install),
-//! `evaluation` (where a thread's private work stops).
+//! Read in this order: `checks` (runs over texts, and what they must do), `runs` (texts, with what each prints and how it
+//! ends), `moves` (what is asked of a run between its moves, and threads that share objects and mutexes), `installs`
+//! (newer texts that are installed while a run goes on), `misuses` (what old code uses that is no longer what it was),
+//! `queries` (where a thread stands, across an install), `evaluation` (where a thread's private work stops).
 #![tactic(auto)]
 
+#[cfg(test)]
+mod checks;
 #[cfg(test)]
 mod evaluation;
 #[cfg(test)]

@@ -1,51 +1,57 @@
 //! What is asked of a run between its moves.
-use crate::runs::run_of;
+use crate::checks::{Case, Check, first_wrong, holds};
 use bytecode::TrapKind;
 use source_runner::{SourceMove, SourceRun, SourceState, SourceWait, Span, Stepped};
 use std::alloc::Global;
 use std::test::Fail;
 
+/// A transaction with an update point.
+const UPDATE: &str = "int main(void) { dsu_tx { dsu_update(); } return 0; }";
+
 /// A move of a slot's thread and what it comes to, how the run is after it, and how many records have a span.
 type Asked = (u8, Stepped, SourceState, usize);
 
-/// `main` is entered and returns; there is no other thread, and no slot 9.
-static RETURN: [Asked; 6] = [
-    (1, Stepped::CannotMove, SourceState::Going, 0),
-    (2, Stepped::CannotMove, SourceState::Going, 0),
-    (9, Stepped::CannotMove, SourceState::Going, 0),
-    (0, Stepped::Done, SourceState::Going, 0),
-    (0, Stepped::Done, SourceState::Finished(7), 0),
-    (0, Stepped::CannotMove, SourceState::Finished(7), 0),
-];
+/// It comes to what a script says, move by move.
+struct Script(&'static [Asked]);
 
-/// A record is open from the begin of its transaction on, and then closed.
-static RECORD: [Asked; 5] = [
-    (0, Stepped::Done, SourceState::Going, 0),
-    (0, Stepped::Done, SourceState::Going, 1),
-    (0, Stepped::Done, SourceState::Going, 1),
-    (0, Stepped::Done, SourceState::Going, 1),
-    (0, Stepped::Done, SourceState::Finished(0), 1),
-];
-
-/// A trap ends the run.
-static TRAP: [Asked; 3] = [
-    (0, Stepped::Done, SourceState::Going, 0),
-    (0, Stepped::Done, SourceState::Trap(TrapKind::Divide, 0), 0),
+static SCRIPTS: [Case<Script>; 3] = [
+    // `main` is entered and returns; there is no other thread, and no slot 9.
     (
-        0,
-        Stepped::CannotMove,
-        SourceState::Trap(TrapKind::Divide, 0),
-        0,
+        &["int main(void) { return 7; }"],
+        Script(&[
+            (1, Stepped::CannotMove, SourceState::Going, 0),
+            (2, Stepped::CannotMove, SourceState::Going, 0),
+            (9, Stepped::CannotMove, SourceState::Going, 0),
+            (0, Stepped::Done, SourceState::Going, 0),
+            (0, Stepped::Done, SourceState::Finished(7), 0),
+            (0, Stepped::CannotMove, SourceState::Finished(7), 0),
+        ]),
     ),
-];
-
-const SCRIPTS: [(&str, &[Asked]); 3] = [
-    ("int main(void) { return 7; }", &RETURN),
+    // A record is open from the begin of its transaction on, and then closed.
     (
-        "int main(void) { dsu_tx { dsu_update(); } return 0; }",
-        &RECORD,
+        &[UPDATE],
+        Script(&[
+            (0, Stepped::Done, SourceState::Going, 0),
+            (0, Stepped::Done, SourceState::Going, 1),
+            (0, Stepped::Done, SourceState::Going, 1),
+            (0, Stepped::Done, SourceState::Going, 1),
+            (0, Stepped::Done, SourceState::Finished(0), 1),
+        ]),
     ),
-    ("int main(void) { return 1 / 0; }", &TRAP),
+    // A trap ends the run.
+    (
+        &["int main(void) { return 1 / 0; }"],
+        Script(&[
+            (0, Stepped::Done, SourceState::Going, 0),
+            (0, Stepped::Done, SourceState::Trap(TrapKind::Divide, 0), 0),
+            (
+                0,
+                Stepped::CannotMove,
+                SourceState::Trap(TrapKind::Divide, 0),
+                0,
+            ),
+        ]),
+    ),
 ];
 
 /// The span of a record of `main`.
@@ -55,66 +61,59 @@ const SPAN: Span = Span {
     last: 1,
 };
 
-/// Whether a run comes to what a script says, move by move.
-fn follows(run: &mut SourceRun, script: &[Asked]) -> Result<bool, Fail> {
-    if run.state() != SourceState::Going {
-        return Ok(false);
-    }
-    for (slot, stepped, state, spans) in script {
-        if run.can_move(*slot) != (*stepped == Stepped::Done)
-            || run.step(SourceMove::Move(*slot))? != *stepped
-            || run.state() != *state
-            || run.spans().len() != *spans
-        {
+impl Check for Script {
+    fn holds(&self, _alloc: Global, run: &mut SourceRun) -> Result<bool, Fail> {
+        if run.state() != SourceState::Going {
             return Ok(false);
         }
+        for (slot, stepped, state, spans) in self.0 {
+            if run.can_move(*slot) != (*stepped == Stepped::Done)
+                || run.step(SourceMove::Move(*slot))? != *stepped
+                || run.state() != *state
+                || run.spans().len() != *spans
+            {
+                return Ok(false);
+            }
+        }
+        let is_of_main = match run.spans() {
+            [] => true,
+            [span] => *span == SPAN,
+            _ => false,
+        };
+        Ok(is_of_main && run.output().is_empty() && !run.misused())
     }
-    Ok(run.spans().iter().all(|span| *span == SPAN) && run.output().is_empty() && !run.misused())
-}
-
-/// Whether the run of a text does.
-fn is_moved(alloc: Global, text: &str, script: &[Asked]) -> Result<bool, Fail> {
-    let mut run = run_of(alloc, text)?;
-    follows(&mut run, script)
 }
 
 #[test]
 fn moves_are_made_where_they_can_be(rt: HostRuntime) -> Result<(), Fail> {
-    for (text, script) in SCRIPTS {
-        assert!(rt; is_moved(rt.alloc(), text, script)?, "{text}");
-    }
+    let wrong = first_wrong(rt.alloc(), &SCRIPTS)?;
+    assert_eq!(rt; wrong, None);
     Ok(())
 }
 
-/// Whether the next move of `main` leads to a check-in, before each of these moves of it.
-static LEADS: [bool; 5] = [true, true, true, true, false];
+/// Its `main` lives alone, and before each of its moves that move leads to a check-in or doesn't, as listed.
+struct Leads(&'static [bool]);
 
-/// Whether the moves of `main`, which lives alone, lead to check-ins as listed.
-fn leads_as_listed(run: &mut SourceRun) -> Result<bool, Fail> {
-    if !run.is_live(0) || run.is_live(1) {
-        return Ok(false);
-    }
-    for leads in LEADS {
-        if run.leads(0) != leads {
+static LEADS: Leads = Leads(&[true, true, true, true, false]);
+
+impl Check for Leads {
+    fn holds(&self, _alloc: Global, run: &mut SourceRun) -> Result<bool, Fail> {
+        if !run.is_live(0) || run.is_live(1) {
             return Ok(false);
         }
-        run.step(SourceMove::Move(0))?;
+        for leads in self.0 {
+            if run.leads(0) != *leads {
+                return Ok(false);
+            }
+            run.step(SourceMove::Move(0))?;
+        }
+        Ok(true)
     }
-    Ok(true)
-}
-
-/// Whether those of a transaction with an update point do.
-fn is_led(alloc: Global) -> Result<bool, Fail> {
-    let mut run = run_of(
-        alloc,
-        "int main(void) { dsu_tx { dsu_update(); } return 0; }",
-    )?;
-    leads_as_listed(&mut run)
 }
 
 #[test]
 fn moves_that_lead_to_a_check_in_are_reported(rt: HostRuntime) -> Result<(), Fail> {
-    assert!(rt; is_led(rt.alloc())?);
+    assert!(rt; holds(rt.alloc(), &[UPDATE], &LEADS)?);
     Ok(())
 }
 
@@ -148,38 +147,36 @@ int main(void) {
 }
 "#;
 
+/// Its threads, which take turns in this order, count to 7.
+struct Order([u8; 6]);
+
 /// Orders in which three threads take turns.
-static ORDERS: [[u8; 6]; 4] = [
-    [0, 1, 2, 0, 1, 2],
-    [2, 1, 0, 2, 1, 0],
-    [2, 2, 2, 1, 0, 0],
-    [1, 1, 0, 2, 2, 1],
+static ORDERS: [Order; 4] = [
+    Order([0, 1, 2, 0, 1, 2]),
+    Order([2, 1, 0, 2, 1, 0]),
+    Order([2, 2, 2, 1, 0, 0]),
+    Order([1, 1, 0, 2, 2, 1]),
 ];
 
-/// Whether threads that take turns in this order count to 7.
-fn counts(run: &mut SourceRun, order: [u8; 6]) -> Result<bool, Fail> {
-    for turn in 0..100 {
-        for slot in order {
-            run.step(SourceMove::Move(slot))?;
+impl Check for Order {
+    fn holds(&self, _alloc: Global, run: &mut SourceRun) -> Result<bool, Fail> {
+        for _ in 0..100 {
+            for slot in self.0 {
+                run.step(SourceMove::Move(slot))?;
+            }
         }
+        Ok(
+            run.output() == b"00 3 4 7".as_slice()
+                && run.state() == SourceState::Finished(0)
+                && !run.misused(),
+        )
     }
-    Ok(
-        run.output() == b"00 3 4 7".as_slice()
-            && run.state() == SourceState::Finished(0)
-            && !run.misused(),
-    )
-}
-
-/// Whether those of the text do.
-fn is_counted(alloc: Global, order: [u8; 6]) -> Result<bool, Fail> {
-    let mut run = run_of(alloc, SHARING)?;
-    counts(&mut run, order)
 }
 
 #[test]
 fn threads_share_an_object_under_a_mutex(rt: HostRuntime) -> Result<(), Fail> {
-    for order in ORDERS {
-        assert!(rt; is_counted(rt.alloc(), order)?);
+    for order in ORDERS.iter() {
+        assert!(rt; holds(rt.alloc(), &[SHARING], order)?);
     }
     Ok(())
 }
@@ -196,30 +193,30 @@ int main(void) {
 }
 "#;
 
-/// Whether the threads come to wait for each other.
-fn waits_at_last(run: &mut SourceRun) -> Result<bool, Fail> {
-    for slot in [0, 0, 0, 1] {
-        if run.state() != SourceState::Going || run.step(SourceMove::Move(slot))? != Stepped::Done {
-            return Ok(false);
-        }
-    }
-    Ok(
-        run.state() == SourceState::Stuck
-            && run.ending().is_none()
-            && run.waits(0) == Some(SourceWait::Thread(1))
-            && run.waits(1) == Some(SourceWait::Mutex("m", 0))
-            && run.waits(2).is_none(),
-    )
-}
+/// Its threads come to wait for each other.
+struct Deadlock;
 
-/// Whether those of the text do.
-fn is_waiting(alloc: Global) -> Result<bool, Fail> {
-    let mut run = run_of(alloc, WAITING)?;
-    waits_at_last(&mut run)
+impl Check for Deadlock {
+    fn holds(&self, _alloc: Global, run: &mut SourceRun) -> Result<bool, Fail> {
+        for slot in [0, 0, 0, 1] {
+            if run.state() != SourceState::Going
+                || run.step(SourceMove::Move(slot))? != Stepped::Done
+            {
+                return Ok(false);
+            }
+        }
+        Ok(
+            run.state() == SourceState::Stuck
+                && run.ending().is_none()
+                && run.waits(0) == Some(SourceWait::Thread(1))
+                && run.waits(1) == Some(SourceWait::Mutex("m", 0))
+                && run.waits(2).is_none(),
+        )
+    }
 }
 
 #[test]
 fn what_threads_wait_for_is_reported(rt: HostRuntime) -> Result<(), Fail> {
-    assert!(rt; is_waiting(rt.alloc())?);
+    assert!(rt; holds(rt.alloc(), &[WAITING], &Deadlock)?);
     Ok(())
 }
