@@ -13,8 +13,6 @@
 mod fault;
 mod laws;
 mod read;
-#[cfg(test)]
-mod tests;
 
 pub use fault::{FaultKind, TextFault};
 pub use laws::faults_are_within_their_texts;

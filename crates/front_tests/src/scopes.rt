@@ -4,7 +4,7 @@
 use c_scope::Scopes;
 use std::alloc::{AllocError, Global};
 
-/// A call, and what it answers.
+/// A call over tables of numbers, which are kept as texts so that each owns memory, and what it answers.
 enum Call {
     Enter,
     Leave,
@@ -63,8 +63,13 @@ static CALLS: [Call; 46] = [
     Call::Find("e\u{301}\u{301}", None),
 ];
 
+/// The number that a text is.
+fn number_of(found: Option<&String>) -> Option<u32> {
+    found?.as_str().parse::<u32>().ok()
+}
+
 /// Makes a call, and says whether it answers as listed.
-fn answers(scopes: &mut Scopes<u32>, call: &Call) -> Result<bool, AllocError> {
+fn answers(alloc: Global, scopes: &mut Scopes<String>, call: &Call) -> Result<bool, AllocError> {
     match *call {
         Call::Enter => {
             scopes.enter()?;
@@ -77,15 +82,22 @@ fn answers(scopes: &mut Scopes<u32>, call: &Call) -> Result<bool, AllocError> {
             }
             Ok(is_nested)
         }
-        Call::Declare(name, value, is_new) => Ok(scopes.declare(name, value)? == is_new),
-        Call::Find(name, value) => Ok(scopes.find(name).copied() == value),
+        Call::Declare(name, number, is_new) => {
+            let text = format!(in alloc; "{number}")?;
+            Ok(scopes.declare(name, text)? == is_new)
+        }
+        Call::Find(name, number) => Ok(number_of(scopes.find(name)) == number),
     }
 }
 
-/// The first call that answers otherwise than listed, or `None`.
-fn first_other_answer(scopes: &mut Scopes<u32>) -> Result<Option<usize>, AllocError> {
-    for (place, call) in CALLS.iter().enumerate() {
-        if !answers(scopes, call)? {
+/// The first of some calls that answers otherwise than listed, or `None`.
+fn first_other_answer(
+    alloc: Global,
+    scopes: &mut Scopes<String>,
+    calls: &[Call],
+) -> Result<Option<usize>, AllocError> {
+    for (place, call) in calls.iter().enumerate() {
+        if !answers(alloc, scopes, call)? {
             return Ok(Some(place));
         }
     }
@@ -94,8 +106,8 @@ fn first_other_answer(scopes: &mut Scopes<u32>) -> Result<Option<usize>, AllocEr
 
 #[test]
 fn tables_answer_as_listed(rt: HostRuntime) {
-    let mut scopes: Scopes<u32> = Scopes::new(rt.alloc());
-    let other = first_other_answer(&mut scopes);
+    let mut scopes: Scopes<String> = Scopes::new(rt.alloc());
+    let other = first_other_answer(rt.alloc(), &mut scopes, &CALLS);
     assert!(rt; other == Ok(None), "{other:?}");
     assert!(rt; !scopes.is_nested());
     drop(scopes);
@@ -183,49 +195,22 @@ fn a_text_may_be_deep_and_long(rt: HostRuntime) {
     drop(scopes);
 }
 
-/// Whether `a` stands for a text.
-fn has_text(scopes: &Scopes<String>, text: &str) -> bool {
-    match scopes.find("a") {
-        Some(found) => found.as_str() == text,
-        None => false,
-    }
-}
-
-/// Declares `a` as a text of its own.
-fn declare_text(
-    alloc: Global,
-    scopes: &mut Scopes<String>,
-    text: &str,
-) -> Result<bool, AllocError> {
-    match String::from_str(alloc, text) {
-        Ok(value) => scopes.declare("a", value),
-        Err(_) => Err(AllocError),
-    }
-}
-
-/// Declares `a` twice in the outermost table and another time in one within it. Says whether it was new, each time.
-fn declare_texts(alloc: Global, scopes: &mut Scopes<String>) -> Result<[bool; 3], AllocError> {
-    let outer = declare_text(alloc, scopes, "outer")?;
-    let again = declare_text(alloc, scopes, "again")?;
-    scopes.enter()?;
-    Ok([outer, again, declare_text(alloc, scopes, "inner")?])
-}
-
-/// Whether `a` stands for the inner text, and outside for the first one.
-fn are_left(scopes: &mut Scopes<String>) -> bool {
-    if !has_text(scopes, "inner") || !scopes.is_nested() {
-        return false;
-    }
-    scopes.leave();
-    has_text(scopes, "outer")
-}
+/// A name that is declared twice in the outermost table and another time in one within it.
+static SHADOWED: [Call; 7] = [
+    Call::Declare("a", 1, true),
+    Call::Declare("a", 2, false),
+    Call::Enter,
+    Call::Declare("a", 3, true),
+    Call::Find("a", Some(3)),
+    Call::Leave,
+    Call::Find("a", Some(1)),
+];
 
 /// Values that own memory go with their tables.
 #[test]
 fn values_may_own_memory(rt: HostRuntime) {
     let mut scopes: Scopes<String> = Scopes::new(rt.alloc());
-    let are_new = declare_texts(rt.alloc(), &mut scopes);
-    assert!(rt; are_new == Ok([true, false, true]));
-    assert!(rt; are_left(&mut scopes));
+    let other = first_other_answer(rt.alloc(), &mut scopes, &SHADOWED);
+    assert!(rt; other == Ok(None), "{other:?}");
     drop(scopes);
 }

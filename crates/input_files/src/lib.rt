@@ -14,8 +14,6 @@
 mod bytes;
 mod journal;
 mod source;
-#[cfg(test)]
-mod tests;
 
 pub use journal::{JOURNAL_LIMIT, journal_of};
 pub use source::{Source, TEXT_LIMIT, source_of, tree_of};

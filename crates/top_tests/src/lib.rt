@@ -1,13 +1,25 @@
-//! Tests of the top layer: what no clause of `dsu_cli` and `dsu_report` says, over values that were
-//! chosen by hand, by their public calls alone.
+//! Tests of the top layer: what no clause of its crates says, over values and texts that were chosen by hand, by their public
+//! calls alone.
 //!
+//! - `fixtures`: the sinks and trees that several tests need
 //! - `command_line`: `dsu_cli`
 //! - `reports` and `answers`: `dsu_report`
+//! - `effects`: `effects_report`
+//! - `changes`: `changes_report`
+//! - `files`: `input_files`
 #![tactic(auto)]
 
 #[cfg(test)]
 mod answers;
 #[cfg(test)]
+mod changes;
+#[cfg(test)]
 mod command_line;
+#[cfg(test)]
+mod effects;
+#[cfg(test)]
+mod files;
+#[cfg(test)]
+mod fixtures;
 #[cfg(test)]
 mod reports;

@@ -1,15 +1,15 @@
 //! What the lines of `dsu_report` look like, written out by hand, and that its calls succeed where the
 //! sink does.
 
+use crate::fixtures::sink_of;
 use bytecode::{Ending, TrapKind};
 use c_front::FaultKind;
 use c_types::TypeKind;
-use dsu_io::MemorySink;
 use dsu_report::{
     FaultLine, LineWord, Place, place_of, write_ending, write_fault, write_mutex_wait,
     write_thread_wait,
 };
-use std::test::Fail;
+use std::alloc::AllocError;
 
 const USAGE: &str = "\
 usage: ginseng run FILE [--offer FILE@LINES]... [--workers W] [--moves N] [--objects N] [--journal]
@@ -122,9 +122,9 @@ static LINES: [(FaultLine, &str); 28] = [
 ];
 
 #[test]
-fn each_fault_has_its_line(rt: HostRuntime) -> Result<(), Fail> {
+fn each_fault_has_its_line(rt: HostRuntime) -> Result<(), AllocError> {
     for (fault, line) in &LINES {
-        let mut sink = MemorySink::with_room(rt.alloc(), 1000, Vec::new(rt.alloc()))?;
+        let mut sink = sink_of(rt.alloc(), 1000, &[])?;
         assert!(rt; write_fault("d/f.c", *fault, &mut sink).is_ok(), "{line}");
         assert!(rt; sink.bytes() == line.as_bytes(), "{line}");
     }
@@ -170,9 +170,9 @@ static REPORTS: [(Ending, &str); 16] = [
 ];
 
 #[test]
-fn each_ending_has_its_report(rt: HostRuntime) -> Result<(), Fail> {
+fn each_ending_has_its_report(rt: HostRuntime) -> Result<(), AllocError> {
     for (ending, report) in &REPORTS {
-        let mut sink = MemorySink::with_room(rt.alloc(), 100, Vec::new(rt.alloc()))?;
+        let mut sink = sink_of(rt.alloc(), 100, &[])?;
         assert!(rt; write_ending(*ending, &mut sink).is_ok(), "{report}");
         assert!(rt; sink.bytes() == report.as_bytes(), "{report}");
     }
@@ -180,11 +180,11 @@ fn each_ending_has_its_report(rt: HostRuntime) -> Result<(), Fail> {
 }
 
 #[test]
-fn a_thread_that_waits_has_its_line(rt: HostRuntime) -> Result<(), Fail> {
-    let mut sink = MemorySink::with_room(rt.alloc(), 100, Vec::new(rt.alloc()))?;
+fn a_thread_that_waits_has_its_line(rt: HostRuntime) -> Result<(), AllocError> {
+    let mut sink = sink_of(rt.alloc(), 100, &[])?;
     assert!(rt; write_mutex_wait(1, "a", 0, &mut sink).is_ok());
     assert!(rt; sink.bytes() == b"# thread 1 waits for mutex a held by 0\n".as_slice());
-    let mut sink = MemorySink::with_room(rt.alloc(), 100, Vec::new(rt.alloc()))?;
+    let mut sink = sink_of(rt.alloc(), 100, &[])?;
     assert!(rt; write_thread_wait(0, 15, &mut sink).is_ok());
     assert!(rt; sink.bytes() == b"# thread 0 waits for thread 15\n".as_slice());
     Ok(())
@@ -192,11 +192,11 @@ fn a_thread_that_waits_has_its_line(rt: HostRuntime) -> Result<(), Fail> {
 
 /// Both sinks are full before the last word of the line.
 #[test]
-fn a_full_sink_has_a_prefix_of_a_wait(rt: HostRuntime) -> Result<(), Fail> {
-    let mut sink = MemorySink::with_room(rt.alloc(), 30, Vec::new(rt.alloc()))?;
+fn a_full_sink_has_a_prefix_of_a_wait(rt: HostRuntime) -> Result<(), AllocError> {
+    let mut sink = sink_of(rt.alloc(), 30, &[])?;
     assert!(rt; write_mutex_wait(1, "a", 0, &mut sink).is_err());
     assert!(rt; sink.bytes() == b"# thread 1 waits for mutex a h".as_slice());
-    let mut sink = MemorySink::with_room(rt.alloc(), 20, Vec::new(rt.alloc()))?;
+    let mut sink = sink_of(rt.alloc(), 20, &[])?;
     assert!(rt; write_thread_wait(0, 15, &mut sink).is_err());
     assert!(rt; sink.bytes() == b"# thread 0 waits for".as_slice());
     Ok(())
@@ -206,10 +206,10 @@ const WRONG_COUNT: FaultLine = FaultLine::Place(1, 52, FaultKind::Kind(TypeKind:
 
 /// A sink with room for some bytes takes a prefix of the line, and counts a fault where it isn't all.
 #[test]
-fn a_failed_write_leaves_a_front(rt: HostRuntime) -> Result<(), Fail> {
+fn a_failed_write_leaves_a_front(rt: HostRuntime) -> Result<(), AllocError> {
     let line = "d/f.c:1:52: wrong number of arguments\n".as_bytes();
     for room in 0..line.len() + 1 {
-        let mut sink = MemorySink::with_room(rt.alloc(), room, Vec::new(rt.alloc()))?;
+        let mut sink = sink_of(rt.alloc(), room, &[])?;
         let is_whole = write_fault("d/f.c", WRONG_COUNT, &mut sink).is_ok();
         assert!(rt; is_whole == (room == line.len()), "at {room}");
         assert!(rt; (sink.faults() == 0) == is_whole, "at {room}");

@@ -1,10 +1,9 @@
 //! The text of the effects of small programs, and a sink that fails.
-use c_front::read_text;
+use crate::fixtures::{sink_of, typed_of};
 use dsu_io::MemorySink;
 use dsu_report::ReportFault;
 use effects_report::write_effects;
 use std::alloc::Global;
-use std::test::Fail;
 
 /// Calls in a transaction, one inside the arguments of another function.
 const NESTED: &str = "int h(void) { return 0; }
@@ -111,49 +110,48 @@ function main: down even odd x
   26:3 end prior: future: concrete:
 ";
 
-/// What is written for a text, over a sink whose calls with these numbers fail, and how the call ended.
-fn written(
+/// Writes the effects of a text, and says how the call ended.
+fn write(alloc: Global, text: &str, sink: &mut MemorySink) -> Option<Result<(), ReportFault>> {
+    let typed = typed_of(alloc, text)?;
+    let ended = write_effects(alloc, &typed, text.as_bytes(), sink);
+    drop(typed);
+    Some(ended)
+}
+
+/// Whether the call ends so for a text, over a sink whose calls with these numbers fail and which then has these bytes.
+fn writes(
     alloc: Global,
     text: &str,
     failing: &[u64],
-) -> Result<(MemorySink, Result<(), ReportFault>), Fail> {
-    let mut sink = MemorySink::with_room(alloc, 4000, failing.to_vec(alloc)?)?;
-    let Ok(typed) = read_text(alloc, text.as_bytes()) else {
-        return Err(Fail::new("the text has a fault"));
-    };
-    let ended = write_effects(alloc, &typed, text.as_bytes(), &mut sink);
-    drop(typed);
-    Ok((sink, ended))
+    ended: Result<(), ReportFault>,
+    bytes: &str,
+) -> Option<bool> {
+    let mut sink = sink_of(alloc, 4000, failing).ok()?;
+    let found = write(alloc, text, &mut sink)?;
+    Some(found == ended && sink.bytes() == bytes.as_bytes())
 }
 
 #[test]
-fn calls_in_a_transaction(rt: HostRuntime) -> Result<(), Fail> {
-    let (sink, ended) = written(rt.alloc(), NESTED, &[])?;
-    assert!(rt; ended.is_ok());
-    assert!(rt; sink.bytes() == NESTED_EFFECTS.as_bytes());
-    Ok(())
+fn calls_in_a_transaction(rt: HostRuntime) {
+    let is_written = writes(rt.alloc(), NESTED, &[], Ok(()), NESTED_EFFECTS);
+    assert!(rt; is_written == Some(true));
 }
 
 #[test]
-fn names_of_each_kind(rt: HostRuntime) -> Result<(), Fail> {
-    let (sink, ended) = written(rt.alloc(), NAMES, &[])?;
-    assert!(rt; ended.is_ok());
-    assert!(rt; sink.bytes() == NAMES_EFFECTS.as_bytes());
-    Ok(())
+fn names_of_each_kind(rt: HostRuntime) {
+    let is_written = writes(rt.alloc(), NAMES, &[], Ok(()), NAMES_EFFECTS);
+    assert!(rt; is_written == Some(true));
 }
 
 #[test]
-fn functions_that_call_each_other(rt: HostRuntime) -> Result<(), Fail> {
-    let (sink, ended) = written(rt.alloc(), CYCLES, &[])?;
-    assert!(rt; ended.is_ok());
-    assert!(rt; sink.bytes() == CYCLES_EFFECTS.as_bytes());
-    Ok(())
+fn functions_that_call_each_other(rt: HostRuntime) {
+    let is_written = writes(rt.alloc(), CYCLES, &[], Ok(()), CYCLES_EFFECTS);
+    assert!(rt; is_written == Some(true));
 }
 
 #[test]
-fn a_sink_that_fails(rt: HostRuntime) -> Result<(), Fail> {
-    let (sink, ended) = written(rt.alloc(), NESTED, &[3])?;
-    assert!(rt; matches!(ended, Err(ReportFault::Failed)));
-    assert!(rt; sink.bytes() == b"function h".as_slice());
-    Ok(())
+fn a_sink_that_fails(rt: HostRuntime) {
+    let failed = Err(ReportFault::Failed);
+    let is_written = writes(rt.alloc(), NESTED, &[3], failed, "function h");
+    assert!(rt; is_written == Some(true));
 }

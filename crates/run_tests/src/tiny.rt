@@ -1,5 +1,5 @@
 ghost use Rattle.std.specs.Prelude.{◌≡◌};
-ghost use Rattle.dsu_runs_tests.specs.declared.tiny.Stage.TheVariants.{Start};
+ghost use Rattle.run_tests.specs.declared.tiny.Stage.TheVariants.{Start};
 
 use bytecode::Ending;
 use dsu_runs::{Engine, Made, Stands, Waiting};
@@ -39,7 +39,7 @@ impl Tiny {
 
 impl Engine for Tiny {
     ghost use Rattle.std.specs.Prelude.{◌≡◌, [], Some};
-    ghost use Rattle.dsu_runs_tests.specs.SmallRun.{guard_at, tiny};
+    ghost use Rattle.run_tests.specs.SmallRun.{guard_at, tiny};
 
     ghost is_at = { λ setup g engine. (setup ≡ tiny) × (g ≡ guard_at engine.stage) };
 

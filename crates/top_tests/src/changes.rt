@@ -1,11 +1,11 @@
 //! The text of pairs of small texts, and sinks that fail.
-use c_front::read_text;
+use crate::fixtures::{sink_of, typed_of};
 use c_types::Typed;
 use changes_report::write_changes;
 use dsu_io::MemorySink;
 use dsu_report::ReportFault;
-use std::alloc::Global;
-use std::test::Fail;
+use std::alloc::{AllocError, Global};
+use std::process::Abort;
 
 /// An older text, a newer one, and what is written.
 type Row = (&'static str, &'static str, &'static str);
@@ -45,14 +45,17 @@ static NAMES: [Row; 6] = [
     ),
 ];
 
+/// Fields that are copied and zero.
+const FIELDS: Row = (
+    "struct p { int a; long b; int c; }; int main(void) { return 0; }",
+    "struct p { int b; int a; long d; }; int main(void) { return 0; }",
+    "changed struct p\ninterface struct p\n\
+    transform struct p b zero\ntransform struct p a copied\ntransform struct p d zero\n",
+);
+
 /// Fields and globals: copied, zero and given.
 static VALUES: [Row; 6] = [
-    (
-        "struct p { int a; long b; int c; }; int main(void) { return 0; }",
-        "struct p { int b; int a; long d; }; int main(void) { return 0; }",
-        "changed struct p\ninterface struct p\n\
-        transform struct p b zero\ntransform struct p a copied\ntransform struct p d zero\n",
-    ),
+    FIELDS,
     (
         "struct p { int a; long b; int c; }; int main(void) { return 0; }",
         "struct p { int a; int b; int c; int d; }; int main(void) { return 0; } \
@@ -123,64 +126,68 @@ static REFUSED: [Row; 7] = [
     ),
 ];
 
-fn read(alloc: Global, text: &str) -> Result<Typed, Fail> {
-    match read_text(alloc, text.as_bytes()) {
-        Ok(typed) => Ok(typed),
-        Err(_) => Err(Fail::new("the text has a fault")),
-    }
+/// Writes the changes from a tree to a newer text, and says how the call ended.
+fn write_from(
+    alloc: Global,
+    old: &Typed,
+    new: &str,
+    sink: &mut MemorySink,
+) -> Option<Result<(), ReportFault>> {
+    let typed = typed_of(alloc, new)?;
+    let ended = write_changes(alloc, old, &typed, new.as_bytes(), sink);
+    drop(typed);
+    Some(ended)
 }
 
-/// What is written of a pair, into a sink with room for so many bytes, whose calls with these numbers fail; and how the call
-/// ended.
-fn written(
+/// The same of two texts.
+fn write(
     alloc: Global,
     old: &str,
     new: &str,
-    room: usize,
-    failing: &[u64],
-) -> Result<(MemorySink, Result<(), ReportFault>), Fail> {
-    let mut sink = MemorySink::with_room(alloc, room, failing.to_vec(alloc)?)?;
-    let old = read(alloc, old)?;
-    let typed = read(alloc, new)?;
-    let ended = write_changes(alloc, &old, &typed, new.as_bytes(), &mut sink);
-    Ok((sink, ended))
+    sink: &mut MemorySink,
+) -> Option<Result<(), ReportFault>> {
+    let typed = typed_of(alloc, old)?;
+    let ended = write_from(alloc, &typed, new, sink);
+    drop(typed);
+    ended
 }
 
-/// The place of the first pair of which something else is written.
-fn wrong_row(alloc: Global, rows: &[Row]) -> Result<Option<usize>, Fail> {
-    for place in 0..rows.len() {
-        let (old, new, text) = rows[place];
-        let (sink, ended) = written(alloc, old, new, 1000, &[])?;
-        if ended.is_err() || sink.bytes() != text.as_bytes() {
-            return Ok(Some(place));
-        }
+/// Whether the text of a pair is written whole.
+fn is_written(alloc: Global, row: &Row) -> Option<bool> {
+    let (old, new, text) = *row;
+    let mut sink = sink_of(alloc, 1000, &[]).ok()?;
+    let ended = write(alloc, old, new, &mut sink)?;
+    Some(ended.is_ok() && sink.bytes() == text.as_bytes())
+}
+
+/// Stops the test at the first pair of which something else is written.
+fn are_written(rt: &impl Abort, alloc: Global, rows: &[Row]) {
+    for (place, row) in rows.iter().enumerate() {
+        assert!(rt; is_written(alloc, row) == Some(true), "row {place}");
     }
-    Ok(None)
 }
 
 #[test]
-fn names_that_change(rt: HostRuntime) -> Result<(), Fail> {
-    assert_eq!(rt; wrong_row(rt.alloc(), &NAMES)?, None);
-    Ok(())
+fn names_that_change(rt: HostRuntime) {
+    are_written(&rt, rt.alloc(), &NAMES);
 }
 
 #[test]
-fn values_that_change(rt: HostRuntime) -> Result<(), Fail> {
-    assert_eq!(rt; wrong_row(rt.alloc(), &VALUES)?, None);
-    Ok(())
+fn values_that_change(rt: HostRuntime) {
+    are_written(&rt, rt.alloc(), &VALUES);
 }
 
 #[test]
-fn texts_that_are_no_patch(rt: HostRuntime) -> Result<(), Fail> {
-    assert_eq!(rt; wrong_row(rt.alloc(), &REFUSED)?, None);
-    Ok(())
+fn texts_that_are_no_patch(rt: HostRuntime) {
+    are_written(&rt, rt.alloc(), &REFUSED);
 }
 
 #[test]
-fn a_call_of_the_sink_fails(rt: HostRuntime) -> Result<(), Fail> {
-    let (old, new, _) = VALUES[0];
-    let (sink, ended) = written(rt.alloc(), old, new, 1000, &[1])?;
-    assert!(rt; matches!(ended, Err(ReportFault::Failed)));
+fn a_call_of_the_sink_fails(rt: HostRuntime) -> Result<(), AllocError> {
+    let (old, new, _) = FIELDS;
+    let mut sink = sink_of(rt.alloc(), 1000, &[1])?;
+    let ended = write(rt.alloc(), old, new, &mut sink);
+    assert!(rt; ended == Some(Err(ReportFault::Failed)));
     assert!(rt; sink.bytes().is_empty());
     Ok(())
 }
@@ -189,12 +196,14 @@ fn a_call_of_the_sink_fails(rt: HostRuntime) -> Result<(), Fail> {
 static ROOMS: [usize; 4] = [3, 20, 60, 100];
 
 #[test]
-fn the_sink_is_full(rt: HostRuntime) -> Result<(), Fail> {
-    let (old, new, text) = VALUES[0];
+fn the_sink_is_full(rt: HostRuntime) -> Result<(), AllocError> {
+    let (old, new, text) = FIELDS;
     for room in &ROOMS {
-        let (sink, ended) = written(rt.alloc(), old, new, *room, &[])?;
-        assert!(rt; matches!(ended, Err(ReportFault::Failed)));
-        assert!(rt; sink.bytes().len() == *room && text.as_bytes().starts_with(sink.bytes()));
+        let mut sink = sink_of(rt.alloc(), *room, &[])?;
+        let ended = write(rt.alloc(), old, new, &mut sink);
+        assert!(rt; ended == Some(Err(ReportFault::Failed)), "{room}");
+        assert!(rt; sink.bytes().len() == *room, "{room}");
+        assert!(rt; text.as_bytes().starts_with(sink.bytes()), "{room}");
     }
     Ok(())
 }

@@ -1,14 +1,10 @@
 //! Offers of newer texts while the first one runs.
-use c_front::read_text;
-use c_types::Typed;
+use crate::plain::{Offer, engine_of};
 use con_freeness::Effect;
-use dsu_io::MemorySink;
 use dsu_runs::solo;
 use name_sets::Names;
-use plain_engine::PlainEngine;
 use source_model::{NotPatch, OfferAnswer};
 use std::alloc::Global;
-use std::test::Fail;
 
 /// A transaction in which `g` is used by two calls.
 const B: &str = "int h(void) { return 0; } int g(void) { return 1; } int f(void) { return g(); } \
@@ -57,7 +53,7 @@ const E3: &str = "struct conn { int in; int out; int total; int twice; }; struct
     dsu_transform struct conn { twice = old.total * 2; }";
 
 /// An answer, for comparison.
-#[derive(Clone, Copy, Debug, PartialEq, Eq)]
+#[derive(Clone, Copy, PartialEq)]
 enum Answer {
     Installed(u32),
     /// `g` was used and may be used still.
@@ -66,53 +62,6 @@ enum Answer {
     PinnedK,
     Kind,
     Other,
-}
-
-/// An offer: its text, and after how many lines it is due.
-#[derive(Clone, Copy)]
-struct Offer {
-    text: &'static str,
-    lines: u32,
-}
-
-/// A text, which has no fault.
-fn read(alloc: Global, text: &str) -> Result<Typed, Fail> {
-    match read_text(alloc, text.as_bytes()) {
-        Ok(typed) => Ok(typed),
-        Err(_) => Err(Fail::new("the text has a fault")),
-    }
-}
-
-/// The texts of some offers.
-fn texts(alloc: Global, offers: &[Offer]) -> Result<Vec<Typed>, Fail> {
-    let mut texts = Vec::new(alloc);
-    for offer in offers {
-        let Ok(_) = texts.push(read(alloc, offer.text)?) else {
-            return Err(Fail::new("out of memory"));
-        };
-    }
-    Ok(texts)
-}
-
-/// The engine of a text with some offers.
-fn engine(alloc: Global, first: &str, offers: &[Offer]) -> Result<PlainEngine<MemorySink>, Fail> {
-    let sink = MemorySink::with_room(alloc, 100, Vec::new(alloc))?;
-    let mut lines = Vec::new(alloc);
-    for offer in offers {
-        lines.push(offer.lines)?;
-    }
-    let first = read(alloc, first)?;
-    let newer = texts(alloc, offers)?;
-    if lines.len() > 63 {
-        return Err(Fail::new("there are too many offers"));
-    }
-    if newer.len() != lines.len() {
-        return Err(Fail::new("an offer has no text"));
-    }
-    match PlainEngine::new(alloc, first, newer, lines, 100, sink) {
-        Ok(engine) => Ok(engine),
-        Err(_) => Err(Fail::new("out of memory")),
-    }
 }
 
 fn refused_by(names: &Names, effect: Effect) -> Answer {
@@ -133,92 +82,94 @@ fn seen(names: &Names, answer: &OfferAnswer) -> Answer {
     }
 }
 
-/// Whether a solo run of a text with offers prints this and answers so.
-fn runs(
-    alloc: Global,
-    first: &str,
-    offers: &[Offer],
-    out: &str,
-    wanted: &[Answer],
-) -> Result<bool, Fail> {
-    let ran = solo(alloc, engine(alloc, first, offers)?, 1000);
-    let (sink, answers, names) = ran.engine.into_parts();
-    let mut same = answers.len() == wanted.len() && sink.bytes() == out.as_bytes();
-    for (answer, want) in answers.iter().zip(wanted.iter()) {
-        same = same && seen(&names, answer) == *want;
+/// Whether the answers are these.
+fn are_seen(names: &Names, answers: &[OfferAnswer], wanted: &[Answer]) -> bool {
+    for (answer, want) in answers.iter().zip(wanted) {
+        if seen(names, answer) != *want {
+            return false;
+        }
     }
-    Ok(same)
+    answers.len() == wanted.len()
 }
 
-#[test]
-fn an_offer_is_installed_where_nothing_changed_was_used(rt: HostRuntime) -> Result<(), Fail> {
-    let offers = [Offer { text: B2, lines: 1 }];
-    assert!(rt;
-        runs(
-            rt.alloc(),
-            B,
-            &offers,
-            "start\n2\n2\n",
-            &[Answer::Installed(2)]
-        )?
-    );
-    Ok(())
+/// A text with offers, what its solo run prints, and the answers.
+struct Case {
+    first: &'static str,
+    offers: &'static [Offer],
+    out: &'static str,
+    answers: &'static [Answer],
 }
 
-#[test]
-fn an_offer_is_refused_amid_uses_of_what_changes(rt: HostRuntime) -> Result<(), Fail> {
-    let offers = [Offer { text: B2, lines: 2 }];
-    assert!(rt; runs(rt.alloc(), B, &offers, "start\n1\n1\n", &[Answer::BothG])?);
-    Ok(())
+/// Whether a solo run prints this and answers so.
+fn runs(alloc: Global, case: &Case) -> Option<bool> {
+    let engine = engine_of(alloc, case.first, case.offers, &[])?;
+    let ran = solo(alloc, engine, 1000);
+    let (sink, answers, names) = ran.engine.into_parts();
+    Some(sink.bytes() == case.out.as_bytes() && are_seen(&names, &answers, case.answers))
 }
 
-#[test]
-fn a_pinned_transaction_keeps_its_version(rt: HostRuntime) -> Result<(), Fail> {
-    let offers = [Offer { text: C2, lines: 1 }, Offer { text: C3, lines: 2 }];
-    assert!(rt;
-        runs(
-            rt.alloc(),
-            C,
-            &offers,
-            "1\n3\n5\n",
-            &[Answer::Installed(2), Answer::PinnedK]
-        )?
-    );
-    Ok(())
-}
+static INSTALLED: Case = Case {
+    first: B,
+    offers: &[Offer { text: B2, lines: 1 }],
+    out: "start\n2\n2\n",
+    answers: &[Answer::Installed(2)],
+};
 
 #[test]
-fn a_name_of_another_kind_is_no_patch(rt: HostRuntime) -> Result<(), Fail> {
-    let offers = [
+fn an_offer_is_installed_where_nothing_changed_was_used(rt: HostRuntime) {
+    assert!(rt; runs(rt.alloc(), &INSTALLED) == Some(true));
+}
+
+static REFUSED: Case = Case {
+    first: B,
+    offers: &[Offer { text: B2, lines: 2 }],
+    out: "start\n1\n1\n",
+    answers: &[Answer::BothG],
+};
+
+#[test]
+fn an_offer_is_refused_amid_uses_of_what_changes(rt: HostRuntime) {
+    assert!(rt; runs(rt.alloc(), &REFUSED) == Some(true));
+}
+
+static PINNED: Case = Case {
+    first: C,
+    offers: &[Offer { text: C2, lines: 1 }, Offer { text: C3, lines: 2 }],
+    out: "1\n3\n5\n",
+    answers: &[Answer::Installed(2), Answer::PinnedK],
+};
+
+#[test]
+fn a_pinned_transaction_keeps_its_version(rt: HostRuntime) {
+    assert!(rt; runs(rt.alloc(), &PINNED) == Some(true));
+}
+
+static NO_PATCH: Case = Case {
+    first: B,
+    offers: &[
         Offer {
             text: KIND,
             lines: 1,
         },
         Offer { text: B2, lines: 1 },
-    ];
-    assert!(rt;
-        runs(
-            rt.alloc(),
-            B,
-            &offers,
-            "start\n2\n2\n",
-            &[Answer::Kind, Answer::Installed(2)]
-        )?
-    );
-    Ok(())
-}
+    ],
+    out: "start\n2\n2\n",
+    answers: &[Answer::Kind, Answer::Installed(2)],
+};
 
 #[test]
-fn objects_come_to_each_new_layout(rt: HostRuntime) -> Result<(), Fail> {
-    let offers = [Offer { text: E2, lines: 1 }, Offer { text: E3, lines: 2 }];
-    assert!(rt;
-        runs(
-            rt.alloc(),
-            E1,
-            &offers,
-            "a\nb\n7 14\n",
-            &[Answer::Installed(2), Answer::Installed(3)]
-        )?
-    );
-    Ok(())
+fn a_name_of_another_kind_is_no_patch(rt: HostRuntime) {
+    assert!(rt; runs(rt.alloc(), &NO_PATCH) == Some(true));
+}
+
+static CONVERTED: Case = Case {
+    first: E1,
+    offers: &[Offer { text: E2, lines: 1 }, Offer { text: E3, lines: 2 }],
+    out: "a\nb\n7 14\n",
+    answers: &[Answer::Installed(2), Answer::Installed(3)],
+};
+
+#[test]
+fn objects_come_to_each_new_layout(rt: HostRuntime) {
+    assert!(rt; runs(rt.alloc(), &CONVERTED) == Some(true));
 }

@@ -3,8 +3,8 @@
 use Rattle.std.specs.Prelude.{[]}
 use Rattle.source_model.specs.Uses.{marked}
 use Rattle.source_model.specs.Guards.{Guard, Setup, bodies_of, checked_in, first_guard, moved}
-use Rattle.dsu_runs_tests.specs.declared.tiny.Stage.{Stage}
-use Rattle.dsu_runs_tests.specs.declared.tiny.Stage.TheVariants.{Start, Moved, Passed}
+use Rattle.run_tests.specs.declared.tiny.Stage.{Stage}
+use Rattle.run_tests.specs.declared.tiny.Stage.TheVariants.{Start, Moved, Passed}
 
 abbrev pub tiny : Setup
 tiny = record {
