@@ -45,7 +45,8 @@ static SAMPLES: [&str; 5] = [
      dsu_transform g = (int) 1; dsu_transform g = (signed) 1; => node: Cast(Integer(I32),¶\
      dsu_transform g = (unsigned) 1; dsu_transform g = (int unsigned) 1; => node: Cast(Integer(U32),¶\
      dsu_transform g = (thrd_t) 1; dsu_transform g = (thrd_t) (1); => node: Cast(Thread,¶\
-     dsu_transform g = (struct T *) 1; dsu_transform g = (struct T*) 1; => node: Cast(Handle(",
+     dsu_transform g = (struct T *) 1; dsu_transform g = (struct T*) 1; => node: Cast(Handle(¶\
+     dsu_transform g = (struct S *) 1; dsu_transform g = (struct S*) 1; => node: Cast(Handle(",
     // Operators with more operands, calls, elements and fields.
     "dsu_transform g = 1 + 2; dsu_transform g = (1) + (2); => node: Binary(Add,¶\
      dsu_transform g = (1 += 2); dsu_transform g = ((1) += (2)); => node: Update(Add,¶\
@@ -154,7 +155,7 @@ fn mismatch(alloc: Global, table: &[&str]) -> Option<usize> {
 #[test]
 fn definitions_are_the_same_at_other_places_alone(rt: HostRuntime) {
     let found = mismatch(rt.alloc(), &SAMPLES);
-    assert!(rt; found == Some(2 * 91), "{found:?}");
+    assert!(rt; found == Some(2 * 92), "{found:?}");
 }
 
 /// Some definitions, printed with their places.
