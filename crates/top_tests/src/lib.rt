@@ -4,7 +4,7 @@
 //! - `fixtures`: the sinks and trees that several tests need
 //! - `command_line`: `dsu_cli`
 //! - `reports` and `answers`: `dsu_report`
-//! - `effects`: `effects_report`
+//! - `effects_reports`: `effects_report`
 //! - `changes`: `changes_report`
 //! - `files`: `input_files`
 #![tactic(auto)]
@@ -16,7 +16,7 @@ mod changes;
 #[cfg(test)]
 mod command_line;
 #[cfg(test)]
-mod effects;
+mod effects_reports;
 #[cfg(test)]
 mod files;
 #[cfg(test)]
