@@ -92,7 +92,11 @@ fn seats(main: NameId, point: u32, pinned: bool) -> [Seat; 16] {
         pinned,
         in_transaction: true,
     };
-    seats[1] = Seat { origin, ..empty };
+    seats[1] = Seat {
+        origin,
+        pinned: false,
+        in_transaction: false,
+    };
     seats
 }
 
