@@ -78,25 +78,19 @@ static CASES: [Case; 6] = [
     (CALL_OF_G, false, OTHER_KIND, Answer::Kind),
 ];
 
-/// The slots: that of the thread, one whose thread stands at the same point and is in no transaction, and empty ones.
-fn seats(main: NameId, point: u32, pinned: bool) -> [Seat; 16] {
-    let origin = Some(Origin::Passed(main, 1, point));
-    let empty = Seat {
-        origin: None,
-        pinned: false,
-        in_transaction: false,
-    };
-    let mut seats = [empty; 16];
-    seats[0] = Seat {
+fn seat(origin: Option<Origin>, pinned: bool, in_transaction: bool) -> Seat {
+    Seat {
         origin,
         pinned,
-        in_transaction: true,
-    };
-    seats[1] = Seat {
-        origin,
-        pinned: false,
-        in_transaction: false,
-    };
+        in_transaction,
+    }
+}
+
+/// The slots: that of the thread, one whose thread stands at the same point and is in no transaction, and empty ones.
+fn seats(main: NameId, point: u32, pinned: bool) -> [Seat; 16] {
+    let mut seats = [seat(None, false, false); 16];
+    seats[0] = seat(Some(Origin::Passed(main, 1, point)), pinned, true);
+    seats[1] = seat(Some(Origin::Passed(main, 1, point)), false, false);
     seats
 }
 
