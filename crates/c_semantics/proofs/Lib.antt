@@ -10,3 +10,4 @@ mod Ascending
 mod Placed
 mod Examples
 mod PlacedExamples
+mod StoreExamples
