@@ -1,7 +1,7 @@
 //! Bodies as tables of their points, and what is made of them. Names and functions go by the numbers of their ids.
 use checkin_rows::{Rows, rows_of};
 use code_store::StoredBody;
-use contextual_effects::solve;
+use contextual_effects::{Effects, solve};
 use dsu_io::List;
 use effect_flow::Flow;
 use name_sets::{NameId, NameSet};
@@ -116,19 +116,50 @@ pub(crate) fn flow_of(alloc: Global, bodies: &[StoredBody]) -> Result<Flow, Allo
     Ok(flow)
 }
 
+/// The effects over some bodies.
+pub(crate) fn effects_over(alloc: Global, bodies: &[StoredBody]) -> Result<Effects, AllocError> {
+    let flow = flow_of(alloc, bodies)?;
+    let effects = solve(alloc, &flow);
+    drop(flow);
+    effects
+}
+
+/// The rows of a flow.
+fn rows_of_flow(alloc: Global, flow: &Flow) -> Result<Rows, AllocError> {
+    let effects = solve(alloc, flow)?;
+    let rows = rows_of(alloc, flow, &effects);
+    drop(effects);
+    rows
+}
+
 /// The rows over some bodies.
 pub(crate) fn rows_over(alloc: Global, bodies: &[StoredBody]) -> Result<Rows, AllocError> {
     let flow = flow_of(alloc, bodies)?;
-    rows_of(alloc, &flow, &solve(alloc, &flow)?)
+    let rows = rows_of_flow(alloc, &flow);
+    drop(flow);
+    rows
 }
 
-/// A set has exactly these members.
-pub(crate) fn has(rt: &impl Abort, set: &NameSet, members: &[usize]) {
-    let mut expected = NameSet::empty();
-    for member in members {
-        if let Some(id) = NameId::new(*member) {
-            expected.add(id);
+/// The set of the ids whose digits a text has.
+fn set_of(digits: &str) -> NameSet {
+    let mut set = NameSet::empty();
+    for digit in digits.bytes() {
+        if let Some(id) = NameId::new((digit as usize).wrapping_sub(b'0' as usize)) {
+            set.add(id);
         }
     }
-    assert!(rt; *set == expected, "{members:?}");
+    set
+}
+
+/// A set has exactly the ids whose digits a text has.
+pub(crate) fn has(rt: &impl Abort, set: &NameSet, digits: &str) {
+    assert!(rt; *set == set_of(digits), "{digits}");
+}
+
+/// So have these sets; `|` separates the digits of one from those of the next.
+pub(crate) fn have(rt: &impl Abort, sets: &[NameSet], digits: &str) {
+    assert!(rt; digits.split('|').count() == sets.len(), "{digits}");
+    for (set, digits) in sets.iter().zip(digits.split('|')) {
+        has(rt, set, digits);
+    }
 }

@@ -1,12 +1,11 @@
 //! The effects of two functions, one of which calls the other in a transaction.
 use crate::bodies::Kind::{After, Begin, End, Return, Uses};
 use crate::bodies::Next::{On, Out};
-use crate::bodies::{Body, bodies_of, flow_of, has};
-use contextual_effects::{Effects, solve};
-use name_sets::NameSet;
+use crate::bodies::{Body, bodies_of, effects_over, have};
+use contextual_effects::Effects;
+use dsu_io::Boxed;
 use skeletons::{CheckInKind, Use};
 use std::alloc::Global;
-use std::process::Abort;
 use std::test::Fail;
 
 /// Function 0 is `atomic { work(); } read the global; return`, and function 1, `work`, is `write the global; return`. The
@@ -39,63 +38,37 @@ static BODIES: [Body; 2] = [
 ];
 
 /// The effects of both functions.
-fn effects(alloc: Global) -> Result<Effects, Fail> {
+fn effects(alloc: Global) -> Result<Boxed<Effects>, Fail> {
     let bodies = bodies_of(alloc, &BODIES)?;
-    let flow = flow_of(alloc, &bodies)?;
-    Ok(solve(alloc, &flow)?)
-}
-
-/// These sets have exactly these members.
-fn have(rt: &impl Abort, sets: &[NameSet], expected: &[&[usize]]) {
-    assert_eq!(rt; sets.len(), expected.len());
-    for (set, members) in sets.iter().zip(expected) {
-        has(rt, set, members);
-    }
+    let effects = effects_over(alloc, &bodies);
+    drop(bodies);
+    Ok(Boxed::of(alloc, effects?)?)
 }
 
 #[test]
 fn standard_effects_have_those_of_callees(rt: HostRuntime) -> Result<(), Fail> {
     let effects = effects(rt.alloc())?;
-    have(&rt, effects.standard(), &[&[1, 2], &[2], &[]]);
+    have(&rt, effects.get().standard(), "12|2|");
     Ok(())
 }
 
 #[test]
 fn prior_effects_begin_with_the_transaction(rt: HostRuntime) -> Result<(), Fail> {
     let effects = effects(rt.alloc())?;
-    let none: &[usize] = &[];
-    let of_main = [none, none, none, none, &[1, 2], &[1, 2], none, none, none];
-    let of_work: [&[usize]; 3] = [&[1], &[1], &[1, 2]];
-    assert!(rt; effects.prior().len() == 12);
-    have(&rt, &effects.prior()[..9], &of_main);
-    have(&rt, &effects.prior()[9..], &of_work);
+    have(&rt, effects.get().prior(), "||||12|12||||1|1|12");
     Ok(())
 }
 
 #[test]
 fn future_effects_end_with_the_transaction(rt: HostRuntime) -> Result<(), Fail> {
     let effects = effects(rt.alloc())?;
-    let none: &[usize] = &[];
-    let both: &[usize] = &[1, 2];
-    let global: &[usize] = &[2];
-    let of_main = [both, both, both, both, none, none, global, global, none];
-    let of_work = [global, global, none];
-    assert!(rt; effects.future().len() == 12);
-    have(&rt, &effects.future()[..9], &of_main);
-    have(&rt, &effects.future()[9..], &of_work);
+    have(&rt, effects.get().future(), "12|12|12|12|||2|2||2|2|");
     Ok(())
 }
 
 #[test]
 fn concrete_effects_go_on_in_the_caller(rt: HostRuntime) -> Result<(), Fail> {
     let effects = effects(rt.alloc())?;
-    let none: &[usize] = &[];
-    let both: &[usize] = &[1, 2];
-    let global: &[usize] = &[2];
-    let of_main = [both, both, both, both, global, global, global, global, none];
-    let of_work = [global, global, global];
-    assert!(rt; effects.concrete().len() == 12);
-    have(&rt, &effects.concrete()[..9], &of_main);
-    have(&rt, &effects.concrete()[9..], &of_work);
+    have(&rt, effects.get().concrete(), "12|12|12|12|2|2|2|2||2|2|2");
     Ok(())
 }

@@ -67,17 +67,17 @@ fn has_numbers(rt: &impl Abort, rows: &Rows) -> Result<(), Fail> {
 
 fn has_sets(rt: &impl Abort, rows: &Rows, f: NameId, g: NameId) {
     let call = rows.row(rows.row_id(f, 1, 0));
-    has(rt, &call.prior, &[]);
-    has(rt, &call.future, &[1, 2, 3]);
-    has(rt, &call.concrete, &[1, 2, 3]);
+    has(rt, &call.prior, "");
+    has(rt, &call.future, "123");
+    has(rt, &call.concrete, "123");
     let after = rows.row(rows.row_id(f, 1, 1));
-    has(rt, &after.future, &[2]);
-    has(rt, &after.concrete, &[2]);
+    has(rt, &after.future, "2");
+    has(rt, &after.concrete, "2");
     let start = rows.row(rows.start_row(f));
-    has(rt, &start.future, &[1, 2, 3]);
-    has(rt, &start.concrete, &[0, 1, 2]);
+    has(rt, &start.future, "123");
+    has(rt, &start.concrete, "012");
     let callee = rows.row(rows.row_id(g, 2, 0));
-    has(rt, &callee.concrete, &[2, 3]);
+    has(rt, &callee.concrete, "23");
     assert!(rt; *callee == *rows.row(rows.row_id(g, 1, 0)));
 }
 

@@ -3,7 +3,9 @@
 use crate::bodies::Kind::{After, Begin, End, Print, Return, Uses};
 use crate::bodies::Next::{On, Out};
 use crate::bodies::{Body, Drawn, bodies_of, has, rows_over, skeleton};
+use checkin_rows::Rows;
 use code_store::{Store, StoredBody};
+use dsu_io::Boxed;
 use name_sets::NameId;
 use rows_in_force::{Origin, row_of, rows};
 use skeletons::{CheckInKind, Use};
@@ -66,23 +68,34 @@ static BODIES: [Body; 5] = [
     },
 ];
 
-fn text(alloc: Global) -> Result<Vec<StoredBody>, Fail> {
-    bodies_of(alloc, &BODIES)
+/// The bodies, and the rows over them.
+#[derive(Drop)]
+struct WithRows {
+    bodies: Vec<StoredBody>,
+    rows: Rows,
+}
+
+fn both_texts(alloc: Global) -> Result<Boxed<WithRows>, Fail> {
+    let bodies = bodies_of(alloc, &BODIES)?;
+    match rows_over(alloc, &bodies) {
+        Ok(rows) => Ok(Boxed::of(alloc, WithRows { bodies, rows })?),
+        Err(fault) => Err(fault.into()),
+    }
 }
 
 #[test]
 fn check_in_after_a_call(rt: HostRuntime) -> Result<(), Fail> {
     let alloc = rt.alloc();
     let main = NameId::new(3).ok_or("an id")?;
-    let bodies = text(alloc)?;
-    let rows = rows_over(alloc, &bodies)?;
-    let row = row_of(&rows, &bodies, Origin::Passed(main, 2, 6));
-    has(&rt, &row.prior, &[0, 1, 2]);
-    has(&rt, &row.future, &[0, 1]);
-    has(&rt, &row.concrete, &[0, 1]);
-    let other = row_of(&rows, &bodies, Origin::Passed(main, 3, 0));
-    has(&rt, &other.prior, &[]);
-    has(&rt, &other.future, &[]);
+    let texts = both_texts(alloc)?;
+    let WithRows { bodies, rows } = texts.get();
+    let row = row_of(rows, bodies, Origin::Passed(main, 2, 6));
+    has(&rt, &row.prior, "012");
+    has(&rt, &row.future, "01");
+    has(&rt, &row.concrete, "01");
+    let other = row_of(rows, bodies, Origin::Passed(main, 3, 0));
+    has(&rt, &other.prior, "");
+    has(&rt, &other.future, "");
     Ok(())
 }
 
@@ -91,15 +104,15 @@ fn starts(rt: HostRuntime) -> Result<(), Fail> {
     let alloc = rt.alloc();
     let main = NameId::new(3).ok_or("an id")?;
     let unknown = NameId::new(4).ok_or("an id")?;
-    let bodies = text(alloc)?;
-    let rows = rows_over(alloc, &bodies)?;
-    let row = row_of(&rows, &bodies, Origin::Start(main));
-    has(&rt, &row.prior, &[]);
-    has(&rt, &row.future, &[0, 1, 2]);
-    has(&rt, &row.concrete, &[0, 1, 2, 3]);
-    let none = row_of(&rows, &bodies, Origin::Start(unknown));
-    has(&rt, &none.future, &[]);
-    has(&rt, &none.concrete, &[4]);
+    let texts = both_texts(alloc)?;
+    let WithRows { bodies, rows } = texts.get();
+    let row = row_of(rows, bodies, Origin::Start(main));
+    has(&rt, &row.prior, "");
+    has(&rt, &row.future, "012");
+    has(&rt, &row.concrete, "0123");
+    let none = row_of(rows, bodies, Origin::Start(unknown));
+    has(&rt, &none.future, "");
+    has(&rt, &none.concrete, "4");
     Ok(())
 }
 
@@ -119,7 +132,7 @@ fn rows_of_a_store(rt: HostRuntime) -> Result<(), Fail> {
     }
     let rows = rows(alloc, &store)?;
     let row = row_of(&rows, store.bodies(), Origin::Start(f));
-    has(&rt, &row.future, &[1]);
-    has(&rt, &row.concrete, &[0, 1]);
+    has(&rt, &row.future, "1");
+    has(&rt, &row.concrete, "01");
     Ok(())
 }
