@@ -14,7 +14,6 @@ mod words;
 use crate::top::dsu_main;
 use dsu_io::{StdFiles, StdSink, Text};
 use dsu_report::{FaultLine, write_fault};
-use std::alloc::AllocError;
 use std::process::ExitCode;
 use std::thread::{Builder, Promise};
 use std::{env, io};
@@ -67,6 +66,3 @@ fn main(rt: HostRuntime) -> ExitCode {
     };
     ExitCode::from(status)
 }
-
-#[cfg(test)]
-mod tests;
