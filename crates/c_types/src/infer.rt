@@ -90,7 +90,7 @@ fn infer_one(
         IfOk result (λ found. found ≡ (part names at (one_part shape.entry (infer names a.now))).found) }
 {
     let part = infer_part(alloc, names, a)?;
-    with_one_part(names, at, shape, part)
+    with_one_part(names, at, shape, &part)
 }
 
 /// An expression with two parts.
@@ -107,7 +107,7 @@ fn infer_two(
         IfOk result (λ found. found ≡ (part names at (two_parts shape.entry (infer names a.now) (infer names b.now))).found) }
 {
     let parts = both(infer_part(alloc, names, a), infer_part(alloc, names, b))?;
-    with_two_parts(names, at, shape, parts)
+    with_two_parts(names, at, shape, &parts.0, &parts.1)
 }
 
 /// `a ? b : c`

@@ -176,7 +176,13 @@ pub(crate) fn choice(
 ) -> Result<Found, AllocError>
     ensures { IfOk result (λ found. found ≡ (part (names_seen names.now) at (Choice parts.0 parts.1.0 parts.1.1)).found) }
 {
-    let (a, b, c) = (&parts.0, &parts.1.0, &parts.1.1);
+    choice_of(names, at, &parts.0, &parts.1.0, &parts.1.1)
+}
+
+/// `a ? b : c`. It borrows its parts: a function that drops them at several exits is long to prove.
+fn choice_of(names: &Names, at: usize, a: &Part, b: &Part, c: &Part) -> Result<Found, AllocError>
+    ensures { IfOk result (λ found. found ≡ (part (names_seen names.now) at (Choice a.now b.now c.now)).found) }
+{
     let results = sooner(
         b.required(b.found.is_comparable()),
         c.required(c.found.is_comparable()),

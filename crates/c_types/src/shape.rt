@@ -58,11 +58,10 @@ pub(crate) fn with_one_part(
     names: &Names,
     at: usize,
     shape: OnePart,
-    a: Part,
+    a: &Part,
 ) -> Result<Found, AllocError>
-    ensures { IfOk result (λ found. found ≡ (part (names_seen names.now) at (one_part shape.entry a)).found) }
+    ensures { IfOk result (λ found. found ≡ (part (names_seen names.now) at (one_part shape.entry a.now)).found) }
 {
-    let a = &a;
     match shape {
         OnePart::Unary(op) => Ok(unary(names, at, op, a)),
         OnePart::Step(op) => step(names, at, op, a),
@@ -80,11 +79,11 @@ pub(crate) fn with_two_parts(
     names: &Names,
     at: usize,
     shape: TwoParts,
-    parts: (Part, Part),
+    a: &Part,
+    b: &Part,
 ) -> Result<Found, AllocError>
-    ensures { IfOk result (λ found. found ≡ (part (names_seen names.now) at (two_parts shape.entry parts.0 parts.1)).found) }
+    ensures { IfOk result (λ found. found ≡ (part (names_seen names.now) at (two_parts shape.entry a.now b.now)).found) }
 {
-    let (a, b) = (&parts.0, &parts.1);
     match shape {
         TwoParts::Binary(op) => binary(names, at, op, a, b),
         TwoParts::And => Ok(junction(names, at, a, b)),
