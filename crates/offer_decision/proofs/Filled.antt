@@ -6,12 +6,12 @@ use Rattle.std.proofs.lemmas.Bool.{cases_eq}
 same_some : {A : Type 0} (x y : A) → Some x ≡ Some y → x ≡ y
 same_some x y e = cc
 
-set_here : {A : Type 0} (xs : List A) (k : ℕ) (y x : A) → slice_get (slice_set xs k y) k ≡ Some x → y ≡ x
+pub set_here : {A : Type 0} (xs : List A) (k : ℕ) (y x : A) → slice_get (slice_set xs k y) k ≡ Some x → y ≡ x
 set_here [] k y x at = cc
 set_here (z ∷ xs) zero y x at = same_some y x at
 set_here (z ∷ xs) (suc k) y x at = set_here xs k y x at
 
-set_there : {A : Type 0} (xs : List A) (k j : ℕ) (y x : A) → (j ≡ k → ⊥) → slice_get (slice_set xs k y) j ≡ Some x → slice_get xs j ≡ Some x
+pub set_there : {A : Type 0} (xs : List A) (k j : ℕ) (y x : A) → (j ≡ k → ⊥) → slice_get (slice_set xs k y) j ≡ Some x → slice_get xs j ≡ Some x
 set_there [] k j y x other at = at
 set_there (z ∷ xs) zero zero y x other at = absurd (other refl)
 set_there (z ∷ xs) zero (suc j) y x other at = at

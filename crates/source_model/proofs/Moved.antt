@@ -1,5 +1,6 @@
 -- What a move leaves as it was.
-use Rattle.std.proofs.Common.{◌≡◌, ℕ, zero, suc, Bool, true, false, List, [], ◌∷◌, ◌++◌, Option, Some, None, refl, sym, ◌∙◌, ap, subst}
+use Rattle.std.proofs.Common.{◌≡◌, ℕ, zero, suc, ◌⊎◌, inl, inr, Bool, true, false, List, [], ◌∷◌, ◌++◌, Option, Some, None, refl, sym, ◌∙◌, ap, subst, arith}
+use Rattle.std.proofs.lemmas.Bool.{cases_eq}
 use Rattle.std.specs.Prelude.{◌||◌, ◌≢◌, ◌==◌, length, position, slice_get, slice_index_or, slice_set, unwrap_or, unsigned_abs, if◌then◌else◌}
 use Rattle.std.proofs.lemmas.List.{get_or-set_other, length-set, append-nil}
 use Rattle.std.proofs.lemmas.List.Quantifiers.{position-Some}
@@ -24,7 +25,7 @@ abbrev pub Closes : List Closed → List Closed → Type 0
 Closes before after = (more : List Closed) × (after ≡ before ++ more)
 
 -- what a move of slot t does to a world: it prints more, and the definitions, the records that were closed, the
--- number of slots and the other live threads stay
+-- number of slots and the other live threads stay; unless a thread is started, no other slot gets one
 pub record Keeps (t : ℕ) (w after : World) : Type 0 where
   pub grows : Grows w after
   pub same_table : after.table ≡ w.table
@@ -32,6 +33,7 @@ pub record Keeps (t : ℕ) (w after : World) : Type 0 where
   pub count : length after.slots ≡ length w.slots
   pub others : (k : ℕ) (th : Thread) → k ≢ t → in_slot w k ≡ Live th → in_slot after k ≡ Live th
   pub main : is_live (in_slot w 0) ≡ true → is_live (in_slot after 0) ≡ true
+  pub settled : after.threads ≡ w.threads → (k : ℕ) → k ≢ t → is_live (in_slot after k) ≡ true → is_live (in_slot w k) ≡ true
 
 -- a world that is there satisfies P
 abbrev pub AllOf : (World → Type 0) → Option World → Type 0
@@ -67,6 +69,10 @@ one_slot t w after s e g d c lives = record {
   others = λ k th other is.
       ap (λ slots. slice_index_or slots k world.Free) e ∙ get_or-set_other w.slots t k s world.Free other ∙ is;
   main = λ h. ap (λ slots. is_live (slice_index_or slots 0 world.Free)) e ∙ set_main w.slots t s lives h;
+  settled = λ same k other is.
+      ap is_live (sym (get_or-set_other w.slots t k s world.Free other))
+      ∙ ap (λ slots. is_live (slice_index_or slots k world.Free)) (sym e)
+      ∙ is;
 }
 
 -- and nothing more is printed
@@ -84,6 +90,7 @@ no_slot t w after e o d c = record {
   count = ap length e;
   others = λ k th other is. ap (λ slots. slice_index_or slots k world.Free) e ∙ is;
   main = λ h. ap (λ slots. is_live (slice_index_or slots 0 world.Free)) e ∙ h;
+  settled = λ same k other is. ap (λ slots. is_live (slice_index_or slots k world.Free)) (sym e) ∙ is;
 }
 
 -- one of two outcomes
@@ -195,11 +202,21 @@ unlock_keeps s name values (Some slot) =
     either_way s.slot s.world (slot == s.slot) (goes_on s (released name s.world) (int_of 0 ∷ values)) (traps s NotHeld)
     (goes_quiet s _ _ refl refl refl refl) (trapped s NotHeld)
 
+-- a slot without a live thread that is set has none
+dead_there : (slots : List Slot) (u : ℕ) (b : Slot) → is_live b ≡ false
+    → is_live (slice_index_or (slice_set slots u b) u world.Free) ≡ false
+dead_there [] u b dead = refl
+dead_there (x ∷ slots) zero b dead = dead
+dead_there (x ∷ slots) (suc u) b dead = dead_there slots u b dead
+
+not_both : (b : Bool) → b ≡ true → b ≡ false → ⊥
+not_both b on off = cc
+
 -- two slots are another, of which no live thread was in the second
 two_slots : (t u : ℕ) (w after : World) (a b : Slot) → after.slots ≡ slice_set (slice_set w.slots u b) t a → after.output ≡ w.output
     → after.table ≡ w.table → after.closed ≡ w.closed → (t ≡ 0 → is_live a ≡ true) → ((th : Thread) → in_slot w u ≡ Live th → ⊥)
-    → Keeps t w after
-two_slots t u w after a b e o d c lives empty = record {
+    → (after.threads ≡ w.threads → is_live b ≡ false) → Keeps t w after
+two_slots t u w after a b e o d c lives empty starts = record {
   grows = quiet w after o;
   same_table = d;
   closes = none_closed w.closed after.closed c;
@@ -213,8 +230,23 @@ two_slots t u w after a b e o d c lives empty = record {
       ap (λ slots. is_live (slice_index_or slots 0 world.Free)) e
       ∙ set_main (slice_set w.slots u b) t a lives
       (set_main w.slots u b (λ zeroth. absurd (empty_or_live (in_slot w u) empty (ap (λ n. is_live (in_slot w n)) zeroth ∙ h))) h);
+  settled = λ same k other is. was (starts same) k (before k other is) (cases_eq k u);
 }
   where
+    -- what lives in another slot lives there before slot t was set
+    before : (k : ℕ) → k ≢ t → is_live (in_slot after k) ≡ true → is_live (slice_index_or (slice_set w.slots u b) k world.Free) ≡ true
+    before k other is =
+        ap is_live (sym (get_or-set_other (slice_set w.slots u b) t k a world.Free other))
+        ∙ ap (λ slots. is_live (slice_index_or slots k world.Free)) (sym e)
+        ∙ is
+
+    was : is_live b ≡ false → (k : ℕ) → is_live (slice_index_or (slice_set w.slots u b) k world.Free) ≡ true → (k ≡ u) ⊎ (k ≡ u → ⊥)
+        → is_live (in_slot w k) ≡ true
+    was dead k is (inl same) =
+        absurd (not_both _ is
+        (ap (λ n. is_live (slice_index_or (slice_set w.slots u b) n world.Free)) same ∙ dead_there w.slots u b dead))
+    was dead k is (inr apart) = ap is_live (sym (get_or-set_other w.slots u k b world.Free apart)) ∙ is
+
     empty_or_live : (x : Slot) → ((th : Thread) → x ≡ Live th → ⊥) → is_live x ≡ true → ⊥
     empty_or_live (Live th) none h = none th refl
     empty_or_live world.Free none h = none_is_live h
@@ -227,12 +259,16 @@ free_is_empty x th free is = live_isnt_free (ap is_free (sym is) ∙ free)
     live_isnt_free : false ≡ true → ⊥
     live_isnt_free e = cc
 
+one_more : (n : ℕ) → suc n ≡ n → ⊥
+one_more n same = omega (arith, same)
+
 start_keeps : (s : Standing) (enter : Enter) (values : List Value) (place : Option ℕ) → position is_free s.world.slots ≡ place
     → Kept s (start_in s enter values place)
 start_keeps s enter values None e = goes_same s _
 start_keeps s enter values (Some t) e =
     two_slots s.slot t s.world _ _ _ refl refl refl refl (λ zeroth. refl)
     (λ th is. free_is_empty _ th (position-Some is_free s.world.slots t world.Free e).1 is)
+    (λ same. absurd (one_more s.world.threads same))
 
 spawn_keeps : (s : Standing) (name : Bytes) (values : List Value) → Kept s (spawn s name values)
 spawn_keeps s name [] = tt
@@ -249,7 +285,7 @@ join_slot_keeps s ref values (Live th) e = trapped s NotJoined
 join_slot_keeps s ref values (Over serial result) e =
     either_way s.slot s.world (serial == ref.serial)
     (goes_on s (with_slot ref.slot world.Free s.world) (result ∷ values)) (traps s NotJoined)
-    (two_slots s.slot ref.slot s.world _ _ _ refl refl refl refl (λ zeroth. refl) (λ th is. over_is_empty _ serial result th e is))
+    (two_slots s.slot ref.slot s.world _ _ _ refl refl refl refl (λ zeroth. refl) (λ th is. over_is_empty _ serial result th e is) (λ same. refl))
     (trapped s NotJoined)
 
 join_keeps : (s : Standing) (values : List Value) → Kept s (join s values)
