@@ -1,7 +1,10 @@
 -- What is asked of the thread in a slot.
 use Rattle.std.specs.Prelude.{ℕ, List, [], ◌∷◌, Option, Some, None, option_map}
+use Rattle.std.specs.Option.{option_or}
 use Rattle.c_tree.specs.BareExpr.{Bytes}
-use Rattle.c_semantics.specs.Threads.{Frame, Thread}
+use Rattle.c_semantics.specs.Pieces.{Halt, Stopped}
+use Rattle.c_semantics.specs.Threads.{Frame, Thread, next_of}
+use Rattle.source_model.specs.Uses.{use_at}
 use Rattle.source_model.specs.Worlds.{Slot, Free, Live, Over}
 use Rattle.resolved_tree.specs.Nodes.{Table, word}
 use Rattle.source_runner.specs.declared.queries.FrameAt.{FrameAt}
@@ -34,3 +37,19 @@ abbrev pub entering_in : Slot → Option Bytes
 entering_in Free = None
 entering_in (Live th) = option_map (λ e. e.function) th.entering
 entering_in (Over serial result) = None
+
+-- the name that the stop uses at which the private work of a frame ends
+abbrev pub use_of_halt : Halt → Option Bytes
+use_of_halt (Stopped s n rest values scopes) = use_at s
+use_of_halt _ = None
+
+-- that of the innermost frame
+abbrev pub use_in : List Frame → Option Bytes
+use_in [] = None
+use_in (f ∷ fs) = use_of_halt (next_of f)
+
+-- the name that the next move of a thread uses: the function of the enter that is due, else what its stop uses
+abbrev pub use_due : Slot → Option Bytes
+use_due Free = None
+use_due (Live th) = option_or (option_map (λ e. e.function) th.entering) (use_in th.frames)
+use_due (Over serial result) = None
