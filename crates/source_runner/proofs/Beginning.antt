@@ -16,7 +16,7 @@ use Rattle.resolved_tree.specs.Nodes.{Table}
 use Rattle.source_programs.specs.Programs.{ArePrograms, table_of, text_at, versions_of}
 use Rattle.source_programs.specs.Globals.{globals_of}
 use Rattle.source_runner.specs.Stores.{holders_of, objects_of}
-use Rattle.source_runner.specs.Machines.{AreClosed, IsSlot, Stands, finish_of, slot_at}
+use Rattle.source_runner.specs.Machines.{IsSlot, Stands, finish_of, slot_at}
 use Rattle.version_laws.proofs.TableHistories.{first_history}
 use Rattle.source_runner.proofs.Texts.{current_main}
 
@@ -25,33 +25,32 @@ as_long zero = refl
 as_long (suc k) = ap suc (as_long k)
 
 -- the slots after the first are free
-free_at : (versions : List (List BareDef)) (t : Table) (k n : ℕ)
-    → IsSlot versions t false (slot_at (replicate k Free) n) (slice_index_or (replicate k world.Free) n world.Free)
-free_at versions t zero zero = refl
-free_at versions t zero (suc n) = refl
-free_at versions t (suc k) zero = refl
-free_at versions t (suc k) (suc n) = free_at versions t k n
+free_at : (t : Table) (k n : ℕ)
+    → IsSlot t false (slot_at (replicate k Free) n) (slice_index_or (replicate k world.Free) n world.Free)
+free_at t zero zero = refl
+free_at t zero (suc n) = refl
+free_at t (suc k) zero = refl
+free_at t (suc k) (suc n) = free_at t k n
 
-each : (versions : List (List BareDef)) (t : Table) (first : Slot) (own : world.Slot) (k n : ℕ) → IsSlot versions t false first own
-    → IsSlot versions t false (slot_at (first ∷ replicate k Free) n) (slice_index_or (own ∷ replicate k world.Free) n world.Free)
-each versions t first own k zero is = is
-each versions t first own k (suc n) is = free_at versions t k n
+each : (t : Table) (first : Slot) (own : world.Slot) (k n : ℕ) → IsSlot t false first own
+    → IsSlot t false (slot_at (first ∷ replicate k Free) n) (slice_index_or (own ∷ replicate k world.Free) n world.Free)
+each t first own k zero is = is
+each t first own k (suc n) is = free_at t k n
 
 -- a machine that is at the start
 pub begun : (m : Machine) (limits : Limits) (first : Slot) → ArePrograms m.program → versions_of m.program ≡ text_at m.program 0 ∷ []
     → globals_of m.store.globals.list.items ≡ filter_map cells_at_first (text_at m.program 0)
     → m.store.objects.all.items ≡ [] → m.store.capacity ≡ limits.objects → m.store.holders.items ≡ [] → m.store.output.items ≡ []
-    → m.slots.items ≡ first ∷ replicate (limits.slots - 1) Free → m.threads ≡ 1 → m.misused ≡ false → m.closed.items ≡ []
+    → m.slots.items ≡ first ∷ replicate (limits.slots - 1) Free → m.threads ≡ 1 → m.misused ≡ false
     → m.finish ≡ None
-    → IsSlot (versions_of m.program) (table_of m.program) false first (world.Live (started 0 main_enter))
+    → IsSlot (table_of m.program) false first (world.Live (started 0 main_enter))
     → Stands m (first_world (text_at m.program 0) limits)
-begun m limits first sound begins globals objects capacity holders output slots threads misused closed finish is = record {
+begun m limits first sound begins globals objects capacity holders output slots threads misused finish is = record {
   all = record {
     program = sound;
     history = subst (λ vs. IsHistory vs (first_table text)) (sym begins)
         (first_history text (subst HasMain (ap last_text begins) (current_main m.program sound)));
     text = sym (ap last_text begins);
-    first = λ one. sym (ap (λ vs. first_table (last_text vs)) begins);
     store =
         ap (λ gs. record w { globals = gs }) (sym globals)
         ∙ ap (λ os. record w { globals = globals_of m.store.globals.list.items; objects = objects_of t os }) (sym objects)
@@ -60,12 +59,11 @@ begun m limits first sound begins globals objects capacity holders output slots 
         ∙ ap (λ out. record w { globals = globals_of m.store.globals.list.items; objects = objects_of t m.store.objects.all.items; capacity = m.store.capacity; holders = holders_of t m.store.holders.items; output = out }) (sym output);
     threads = sym threads;
     misused = sym misused;
-    closed = subst (λ cs. AreClosed (versions_of m.program) cs []) (sym closed) tt;
     finish = ap (option_map finish_of) (sym finish);
     count = ap suc (as_long (limits.slots - 1)) ∙ sym (ap length slots);
   };
-  slots = λ n. subst (λ ss. IsSlot (versions_of m.program) t false (slot_at ss n) (slice_index_or w.slots n world.Free)) (sym slots)
-      (each (versions_of m.program) t first (world.Live (started 0 main_enter)) (limits.slots - 1) n is);
+  slots = λ n. subst (λ ss. IsSlot t false (slot_at ss n) (slice_index_or w.slots n world.Free)) (sym slots)
+      (each t first (world.Live (started 0 main_enter)) (limits.slots - 1) n is);
 }
   where
     text : List BareDef

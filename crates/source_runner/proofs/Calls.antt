@@ -36,20 +36,19 @@ returned_none t w slot th f point user e =
     let by : List Seen → Option World = λ vs. return (standing_at t w slot th f point user) vs in ap by e
 
 -- the frame that called goes on with the value
-pub returns_to : (versions : List (List BareDef)) (t : Table) (w : World) (slot : ℕ) (th : Thread) (below : Vec Frame Global) (f caller : Frame)
+pub returns_to : (t : Table) (w : World) (slot : ℕ) (th : Thread) (below : Vec Frame Global) (f caller : Frame)
     (values : Vec Value Global) (point : ℕ) (user : SeenThread) (v : Value)
     → frames_of t th.below.items ≡ frame_of t caller ∷ frames_of t below.items
-    → newest values.items ≡ seen v ∷ newest caller.work.values.items → IsUser versions th user
-    → Goes versions t w slot (record th { below = below }) (record caller { work = record caller.work { values = values } })
+    → newest values.items ≡ seen v ∷ newest caller.work.values.items → IsUser th user
+    → Goes t w slot (record th { below = below }) (record caller { work = record caller.work { values = values } })
     (return_to (standing_at t w slot th f point user) (seen v) (frames_of t th.below.items))
-returns_to versions t w slot th below f caller values point user v e more h = (
+returns_to t w slot th below f caller values point user v e more h = (
   record user { frames = record (frame_of t caller) { values = seen v ∷ newest caller.work.values.items } ∷ frames_of t below.items },
   ap to e,
   record {
     serial = h.serial;
     depth = h.depth;
-    uses = h.uses;
-    entering = h.entering;
+      entering = h.entering;
     frames = ap made (sym more);
   },
 )
@@ -69,15 +68,15 @@ returns_last t w slot th f point user v e =
     let by : List SeenFrame → Option World = λ fs. return_to (standing_at t w slot th f point user) v fs in ap by e
 
 -- a call: the caller waits, and the enter is due
-pub called : (versions : List (List BareDef)) (t : Table) (over : Bool) (w : World) (slot : ℕ) (th : Thread) (below : Vec Frame Global) (f : Frame)
+pub called : (t : Table) (over : Bool) (w : World) (slot : ℕ) (th : Thread) (below : Vec Frame Global) (f : Frame)
     (values arguments : Vec Value Global) (name : Word) (count point : ℕ) (user : SeenThread)
     → map seen arguments.items ≡ arguments_of count (newest f.work.values.items)
     → newest values.items ≡ drop count (newest f.work.values.items)
-    → frames_of t below.items ≡ frame_of t (frame_then f point values) ∷ frames_of t th.below.items → IsUser versions th user
+    → frames_of t below.items ≡ frame_of t (frame_then f point values) ∷ frames_of t th.below.items → IsUser th user
     → (after : SeenThread)
     × (call (standing_at t w slot th f point user) (word t name) count (newest f.work.values.items) ≡ Some (with_thread slot after w))
-    × IsThread versions t over (record th { below = below }) (next.Enter (record { function = name; arguments = arguments; version = f.version })) after
-called versions t over w slot th below f values arguments name count point user args rest pushed h = (
+    × IsThread t over (record th { below = below }) (next.Enter (record { function = name; arguments = arguments; version = f.version })) after
+called t over w slot th below f values arguments name count point user args rest pushed h = (
   record (gone_on (standing_at t w slot th f point user) (drop count (newest f.work.values.items))) {
     entering = Some (record { function = word t name; arguments = arguments_of count (newest f.work.values.items); version = f.version });
   },
@@ -85,8 +84,7 @@ called versions t over w slot th below f values arguments name count point user 
   record {
     serial = h.serial;
     depth = h.depth;
-    uses = h.uses;
-    does = λ going. (
+      does = λ going. (
       ap (λ vs. Some (record { function = word t name; arguments = vs; version = f.version })) (sym args),
       ap (λ vs. record (frame_at t f point) { values = vs } ∷ frames_of t th.below.items) (sym rest) ∙ sym pushed,
     );

@@ -22,7 +22,6 @@ use Rattle.std.proofs.lemmas.List.{length-map, length-reverse}
 use Rattle.version_laws.proofs.EntersAlike.{enters_alike}
 use Rattle.version_laws.proofs.TableHistories.{last_as_current}
 use Rattle.source_runner.proofs.Halted.{true_is_not_false}
-use Rattle.source_runner.proofs.Stopping.{entering_uses}
 use Rattle.source_runner.proofs.Transactions.{Goes}
 
 -- by whether the use of the function is right
@@ -50,19 +49,17 @@ enters_deep w slot th e h deep =
 
 -- else its frame is the innermost
 pub enters : (versions : List (List BareDef)) (t : Table) (w : World) (slot : ℕ) (th : SeenThread) (own : Thread) (due : Enter) (frame : Frame)
-    → IsHistory versions w.table → (length versions ≡ 1 → w.table ≡ first_table (last_text versions))
-    → is_right w.table due.version (word t due.function) ≡ true
+    → IsHistory versions w.table → is_right w.table due.version (word t due.function) ≡ true
     → (length th.frames == frame_count) ≡ false
-    → IsThread versions t false own (next.Enter due) th
+    → IsThread t false own (next.Enter due) th
     → frame_of t frame ≡ entered (definition (last_text versions)) (word t due.function) (length versions) (map seen due.arguments.items)
-    → Goes versions t w slot own frame (enter w slot th (enter_of t due))
-enters versions t w slot th own due frame history first h room is made = (
+    → Goes t w slot own frame (enter w slot th (enter_of t due))
+enters versions t w slot th own due frame history h room is made = (
   after,
   enters_by w slot th e true h ∙ ap by room,
   record {
     serial = is.serial;
     depth = is.depth;
-    uses = entering_uses versions w th due.version (word t due.function) history first h is.uses;
     entering = refl;
     frames = ap₂ (λ f fs. f ∷ fs) frame_is (is.does refl).1;
   },
@@ -86,20 +83,14 @@ enters versions t w slot th own due frame history first h room is made = (
         ∙ sym made
 
 -- the thread of a slot where it trapped
-pub deep_thread : (versions : List (List BareDef)) (t : Table) (w : World) (th : SeenThread) (own : Thread) (due : Enter) (n : Next)
-    → IsHistory versions w.table → (length versions ≡ 1 → w.table ≡ first_table (last_text versions))
-    → is_right w.table due.version (word t due.function) ≡ true
-    → IsThread versions t false own (next.Enter due) th → IsThread versions t true own n (recorded w.table (word t due.function) th)
-deep_thread versions t w th own due n history first h is = record {
-  serial = is.serial;
-  depth = is.depth;
-  uses = entering_uses versions w th due.version (word t due.function) history first h is.uses;
-  does = λ going. absurd (true_is_not_false going);
-}
+pub deep_thread : (t : Table) (w : World) (th : SeenThread) (own : Thread) (due : Enter) (n : Next)
+    → IsThread t false own (next.Enter due) th → IsThread t true own n (recorded w.table (word t due.function) th)
+deep_thread t w th own due n is =
+    record { serial = is.serial; depth = is.depth; does = λ going. absurd (true_is_not_false going) }
 
 -- how many frames it has
-pub frames_are : (versions : List (List BareDef)) (t : Table) (th : SeenThread) (own : Thread) (due : Enter) (b : Bool) → IsThread versions t false own (next.Enter due) th
+pub frames_are : (t : Table) (th : SeenThread) (own : Thread) (due : Enter) (b : Bool) → IsThread t false own (next.Enter due) th
     → (length own.below.items == frame_count) ≡ b → (length th.frames == frame_count) ≡ b
-frames_are versions t th own due b is h =
+frames_are t th own due b is h =
     ap (λ fs. length fs == frame_count) (is.does refl).1
     ∙ ap (λ n. n == frame_count) (length-map (reverse own.below.items) (frame_of t) ∙ length-reverse own.below.items) ∙ h

@@ -18,36 +18,10 @@ use Rattle.source_runner.specs.declared.thread.Thread.{Thread}
 use Rattle.resolved_tree.specs.Nodes.{Table}
 use Rattle.source_programs.specs.declared.programs.Programs.{Programs}
 use Rattle.source_programs.specs.Programs.{ArePrograms, table_of, text_at, versions_of}
-use Rattle.source_runner.specs.Machines.{AreClosed, IsOfFirst, IsSlot, IsThread, Stands, slot_at}
+use Rattle.source_runner.specs.Machines.{IsSlot, Stands, slot_at}
 use Rattle.source_runner.specs.NewData.{with_data_of}
 use Rattle.source_runner.specs.Stores.{with_store}
 use Rattle.source_runner.proofs.Texts.{text_has_main}
-
--- ---- where a second version is there, nothing is said of uses
-
-uses_later : (versions : List (List BareDef)) (uses : Record) → (length versions ≡ 1 → ⊥) → All (IsOfFirst versions) uses
-uses_later versions uses more = λ k u below one. absurd (more one)
-
-thread_later : (versions other : List (List BareDef)) (t : Table) (over : Bool) (th : Thread) (n : Next) (own : SeenThread)
-    → (length other ≡ 1 → ⊥) → IsThread versions t over th n own → IsThread other t over th n own
-thread_later versions other t over th n own more h =
-    record { serial = h.serial; depth = h.depth; uses = uses_later other own.uses more; does = h.does }
-
-slot_later : (versions other : List (List BareDef)) (t : Table) (over : Bool) (s : Slot) (own : world.Slot)
-    → (length other ≡ 1 → ⊥) → IsSlot versions t over s own → IsSlot other t over s own
-slot_later versions other t over Free own more h = h
-slot_later versions other t over (Live th n) own more (m, is, h) = (m, is, thread_later versions other t over th n m more h)
-slot_later versions other t over (Over serial value) own more h = h
-
-closed_later : (versions other : List (List BareDef)) (slots : List ℕ) (own : List Closed)
-    → (length other ≡ 1 → ⊥) → AreClosed versions slots own → AreClosed other slots own
-closed_later versions other [] [] more h = tt
-closed_later versions other (slot ∷ slots) (c ∷ cs) more h =
-    ((h.0.0, uses_later other c.uses more), closed_later versions other slots cs more h.1)
-closed_later versions other [] (c ∷ cs) more h = absurd h
-closed_later versions other (slot ∷ slots) [] more h = absurd h
-
--- ---- the machine after an install
 
 -- with the next version's programs and the data after the install, where w is the world before
 pub follows : (m : Machine) (program : Programs) (store : Store) (k : ℕ) (w : World) → Stands m w → ArePrograms program
@@ -60,16 +34,13 @@ follows m program store k w h sound below same longer after = record {
     program = sound;
     history = subst (λ vs. IsHistory vs (installed q w).table) (sym longer) history;
     text = sym (ap last_text longer ∙ last_is_next versions q);
-    first = λ one. absurd (more one);
     store = subst (λ t. installed q w ≡ with_store t store (installed q w)) (sym same) stored;
     threads = h.all.threads;
     misused = h.all.misused;
-    closed = closed_later versions (versions_of program) m.closed.items w.closed more h.all.closed;
     finish = h.all.finish;
     count = h.all.count;
   };
-  slots = λ n. subst (λ t. IsSlot (versions_of program) t (is_over w) (slot_at m.slots.items n) (world.in_slot w n)) (sym same)
-      (slot_later versions (versions_of program) (table_of m.program) (is_over w) _ _ more (h.slots n));
+  slots = λ n. subst (λ t. IsSlot t (is_over w) (slot_at m.slots.items n) (world.in_slot w n)) (sym same) (h.slots n);
 }
   where
     q : List BareDef
@@ -77,12 +48,6 @@ follows m program store k w h sound below same longer after = record {
 
     versions : List (List BareDef)
     versions = versions_of m.program
-
-    more : length (versions_of program) ≡ 1 → ⊥
-    more one =
-        let some = h.all.program.some in
-        let long = length-map m.program.installed (text_at m.program) in
-        omega (arith, some, long, ap length longer, one_longer versions q, one)
 
     history : IsHistory (versions ++ q ∷ []) (installed q w).table
     history =

@@ -17,20 +17,19 @@ pub true_is_not_false : true ≡ false → ⊥
 true_is_not_false e = cc
 
 -- a thread, whatever it would do next
-pub halted_thread : (versions : List (List BareDef)) (t : Table) (over after : Bool) (th : Thread) (n m : Next) (own : SeenThread)
-    → after ≡ true → IsThread versions t over th n own → IsThread versions t after th m own
-halted_thread versions t over after th n m own e h = record {
+pub halted_thread : (t : Table) (over after : Bool) (th : Thread) (n m : Next) (own : SeenThread)
+    → after ≡ true → IsThread t over th n own → IsThread t after th m own
+halted_thread t over after th n m own e h = record {
   serial = h.serial;
   depth = h.depth;
-  uses = h.uses;
   does = λ going. absurd (true_is_not_false (sym e ∙ going));
 }
 
-pub halted_slot : (versions : List (List BareDef)) (t : Table) (over after : Bool) (s : Slot) (own : world.Slot)
-    → after ≡ true → IsSlot versions t over s own → IsSlot versions t after s own
-halted_slot versions t over after Free own e h = h
-halted_slot versions t over after (Live th n) own e (m, is, h) = (m, is, halted_thread versions t over after th n n m e h)
-halted_slot versions t over after (Over serial value) own e h = h
+pub halted_slot : (t : Table) (over after : Bool) (s : Slot) (own : world.Slot)
+    → after ≡ true → IsSlot t over s own → IsSlot t after s own
+halted_slot t over after Free own e h = h
+halted_slot t over after (Live th n) own e (m, is, h) = (m, is, halted_thread t over after th n n m e h)
+halted_slot t over after (Over serial value) own e h = h
 
 pub or_true : (b : Bool) → (b || true) ≡ true
 or_true true = refl
@@ -44,16 +43,14 @@ finished m slot w before f h = record {
     program = h.all.program;
     history = h.all.history;
     text = h.all.text;
-    first = h.all.first;
     store = let on : World → World = λ v. record v { finish = Some (finish_of f) } in ap on h.all.store;
     threads = h.all.threads;
     misused = h.all.misused;
-    closed = h.all.closed;
     finish = refl;
     count = h.all.count;
   };
   within = h.within;
-  others = λ n apart. halted_slot _ _ _ _ _ _ (or_true w.misused) (h.others n apart);
+  others = λ n apart. halted_slot _ _ _ _ _ (or_true w.misused) (h.others n apart);
   taken = h.taken;
   own = h.own;
 }
@@ -66,16 +63,14 @@ misused m slot w before h = record {
     program = h.all.program;
     history = h.all.history;
     text = h.all.text;
-    first = h.all.first;
     store = let on : World → World = λ v. record v { misused = true } in ap on h.all.store;
     threads = h.all.threads;
     misused = refl;
-    closed = h.all.closed;
     finish = h.all.finish;
     count = h.all.count;
   };
   within = h.within;
-  others = λ n apart. halted_slot _ _ _ _ _ _ refl (h.others n apart);
+  others = λ n apart. halted_slot _ _ _ _ _ refl (h.others n apart);
   taken = h.taken;
   own = h.own;
 }
@@ -94,10 +89,10 @@ with_same m slot w before h =
     ap (λ ss. record w { slots = ss }) (put_same w.slots slot (world.Live before) world.Free (subst (λ n. slot < n) (sym h.all.count) h.within) h.own)
 
 -- in a run that goes on
-pub at_over : (versions : List (List BareDef)) (t : Table) (over : Bool) (th : Thread) (n : Next) (own : SeenThread) → over ≡ false
-    → IsThread versions t false th n own → IsThread versions t over th n own
-at_over versions t over th n own e h = subst (λ b. IsThread versions t b th n own) (sym e) h
+pub at_over : (t : Table) (over : Bool) (th : Thread) (n : Next) (own : SeenThread) → over ≡ false
+    → IsThread t false th n own → IsThread t over th n own
+at_over t over th n own e h = subst (λ b. IsThread t b th n own) (sym e) h
 
-pub not_over : (versions : List (List BareDef)) (t : Table) (over : Bool) (th : Thread) (n : Next) (own : SeenThread) → over ≡ false
-    → IsThread versions t over th n own → IsThread versions t false th n own
-not_over versions t over th n own e h = subst (λ b. IsThread versions t b th n own) e h
+pub not_over : (t : Table) (over : Bool) (th : Thread) (n : Next) (own : SeenThread) → over ≡ false
+    → IsThread t over th n own → IsThread t false th n own
+not_over t over th n own e h = subst (λ b. IsThread t b th n own) e h

@@ -77,9 +77,8 @@ pub installed_run : (texts : List (List BareDef)) (limits : Limits) (ms : List S
     → Stands new.machine (installed (text_at old.machine.program k) h.world)
     → trees_of new.machine.program ≡ trees_of old.machine.program
     → versions_of new.machine.program ≡ versions_of old.machine.program ++ text_at old.machine.program k ∷ []
-    → new.machine.slots ≡ old.machine.slots → new.machine.closed ≡ old.machine.closed → new.counted ≡ old.counted
     → IsRun texts limits (ms ++ Install k ∷ []) new
-installed_run texts limits ms k old new h going below stands same longer slots closed counted = record {
+installed_run texts limits ms k old new h going below stands same longer = record {
   world = installed (text_at old.machine.program k) h.world;
   ran =
       then_install texts limits ms k h.world h.ran
@@ -89,9 +88,6 @@ installed_run texts limits ms k old new h going below stands same longer slots c
   stands = stands;
   loaded = texts_are new.machine.program _ same ∙ sym (texts_are old.machine.program _ refl) ∙ h.loaded;
   versions = versions ∙ sym (installed_versions texts ms k);
-  small = subst (λ ss. length ss.items ≤ 256) (sym slots) h.small;
-  counted = counted ∙ h.counted ∙ ap (λ cs. length cs.items) (sym closed);
-  listed = λ one. absurd (more (ap length (sym (installed_versions texts ms k)) ∙ one));
 }
   where
     text : text_at old.machine.program k ≡ slice_index_or texts k []
@@ -102,6 +98,3 @@ installed_run texts limits ms k old new h going below stands same longer slots c
 
     versions : versions_of new.machine.program ≡ versions_by texts ms ++ slice_index_or texts k [] ∷ []
     versions = longer ∙ ap (λ vs. vs ++ text_at old.machine.program k ∷ []) h.versions ∙ ap (λ q. versions_by texts ms ++ q ∷ []) text
-
-    more : length (versions_by texts ms ++ slice_index_or texts k [] ∷ []) ≡ 1 → ⊥
-    more one = omega (arith, one, one_longer (versions_by texts ms) (slice_index_or texts k []))

@@ -35,12 +35,12 @@ by_serial v s place values true = refl
 by_serial v s place values false = refl
 
 -- a slot
-joins_slot : (versions : List (List BareDef)) (t : Table) (over : Bool) (x : Slot) (o : world.Slot) (s : Standing) (named : ThreadRef) (values : List Seen)
-    → IsSlot versions t over x o → join_slot s (seen_thread named) values o ≡ joins (result_in x named.serial) s named.slot values
-joins_slot versions t over Free o s named values is = ap (join_slot s (seen_thread named) values) is
-joins_slot versions t over (Over ended v) o s named values is =
+joins_slot : (t : Table) (over : Bool) (x : Slot) (o : world.Slot) (s : Standing) (named : ThreadRef) (values : List Seen)
+    → IsSlot t over x o → join_slot s (seen_thread named) values o ≡ joins (result_in x named.serial) s named.slot values
+joins_slot t over Free o s named values is = ap (join_slot s (seen_thread named) values) is
+joins_slot t over (Over ended v) o s named values is =
     ap (join_slot s (seen_thread named) values) is ∙ by_serial v s named.slot values (ended == named.serial)
-joins_slot versions t over (Live th n) o s named values (m, is, h) = ap (join_slot s (seen_thread named) values) is
+joins_slot t over (Live th n) o s named values (m, is, h) = ap (join_slot s (seen_thread named) values) is
 
 -- the slot of a named thread
 joins_named : (m : Machine) (slot : ℕ) (w : World) (before user : SeenThread) (th : Thread) (f : Frame) (point : ℕ) (named : ThreadRef) (values : List Seen)
@@ -65,7 +65,7 @@ joins_named m slot w before user th f point named values h = by (nat_dec named.s
         ∙ ap (join_slot s (seen_thread named) values) h.own
         ∙ ap answer (sym (eq-eqb named.slot slot e))
     by (inr apart) =
-        joins_slot _ _ _ (slot_at m.slots.items named.slot) (in_slot w named.slot) s named values (h.others named.slot apart)
+        joins_slot _ _ (slot_at m.slots.items named.slot) (in_slot w named.slot) s named values (h.others named.slot apart)
         ∙ ap answer (sym (ne_eqb named.slot slot apart))
 
 -- the result in place of the handle

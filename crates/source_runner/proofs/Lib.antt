@@ -7,8 +7,6 @@ mod Counting
 mod DataChanges
 mod Enters
 mod Fields
-mod FirstTable
-mod FirstUse
 mod Following
 mod GlobalNames
 mod Globals
@@ -17,7 +15,6 @@ mod Holders
 mod InstallSteps
 mod Installing
 mod Joining
-mod Listing
 mod Looking
 mod Newest
 mod Performing

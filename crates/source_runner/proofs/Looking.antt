@@ -59,13 +59,13 @@ one_of_all p n i below e =
 -- ---- threads
 
 -- the move of one at a stop
-pub moves_at : (versions : List (List BareDef)) (t : Table) (w : World) (slot : ℕ) (th : Thread) (f : Frame) (stop : Stop) (point : ℕ)
+pub moves_at : (t : Table) (w : World) (slot : ℕ) (th : Thread) (f : Frame) (stop : Stop) (point : ℕ)
     (n : Next) (own : SeenThread)
-    → n ≡ Halt f (At stop point) → IsThread versions t false th n own
+    → n ≡ Halt f (At stop point) → IsThread t false th n own
     → thread_move w slot own own.entering
     ≡ stop_made (stop_of t stop) w slot own (frame_at t f point) (frames_of t th.below.items)
-moves_at versions t w slot th f stop point n own e h =
-    let next = (thread_at versions t false th n (Halt f (At stop point)) own e h).does refl in
+moves_at t w slot th f stop point n own e h =
+    let next = (thread_at t false th n (Halt f (At stop point)) own e h).does refl in
     let frame = next.1 in
     ap (thread_move w slot own) next.0
     ∙ resumes_at t w slot own f stop point (frames_of t th.below.items) frame.0 frame.1 frame.2
@@ -73,12 +73,12 @@ moves_at versions t w slot th f stop point n own e h =
 -- the one in a slot leads to a check-in where what it does next does
 pub thread_leads : (m : Machine) (w : World) (slot : ℕ) (th : Thread) (n : Next) (b : Bool)
     → Stands m w → is_over w ≡ false → slot_at m.slots.items slot ≡ Live th n
-    → ((versions : List (List BareDef)) (t : Table) (own : SeenThread) → IsThread versions t false th n own
+    → ((t : Table) (own : SeenThread) → IsThread t false th n own
     → b ≡ (is_some own.entering || frames_lead own.frames))
     → b ≡ move_leads (in_slot w slot)
 thread_leads m w slot th n b h going e leads =
     let there = lives m w slot th n h e in
-    leads _ _ there.0 (not_over _ _ _ _ _ _ going there.2) ∙ ap move_leads (sym there.1)
+    leads _ there.0 (not_over _ _ _ _ _ going there.2) ∙ ap move_leads (sym there.1)
 
 -- where a frame is, whose private work was done ahead
 place_is : (t : Table) (f : Frame) (halt : Halted) (own : SeenFrame) → IsFrame t f halt own → place_of (frame_of t f) ≡ place_of own
@@ -95,7 +95,7 @@ pub innermost_halts : (m : Machine) (w : World) (slot : ℕ) (th : Thread) (n : 
     → Some (place_at (table_of m.program) at) ≡ innermost_in (in_slot w slot)
 innermost_halts m w slot th n f halt at h going e next is =
     let there = lives m w slot th (Halt f halt) h (e ∙ ap (Live th) next) in
-    let does = (not_over _ _ _ _ _ _ going there.2).does refl in
+    let does = (not_over _ _ _ _ _ going there.2).does refl in
     ap Some (is ∙ place_is (table_of m.program) f halt does.1.0 does.1.2)
     ∙ ap innermost (sym does.1.1)
     ∙ ap innermost_in (sym there.1)

@@ -14,15 +14,14 @@ use Rattle.local_evaluation.specs.Work.{newest, scopes_of, went}
 use Rattle.source_runner.specs.Machines.{IsReady, IsThread}
 use Rattle.source_runner.specs.Frames.{frame_of}
 
-pub ready_thread : (versions : List (List BareDef)) (t u : Table) (over : Bool) (th : Thread) (f : Frame) (work : Work) (halt : Halt) (own : SeenThread)
-    → u ≡ t → IsReady versions t th f own
+pub ready_thread : (t u : Table) (over : Bool) (th : Thread) (f : Frame) (work : Work) (halt : Halt) (own : SeenThread)
+    → u ≡ t → IsReady t th f own
     → local (pending u f.work.pieces.items) (newest f.work.values.items) (scopes_of u f.work.scopes.items)
     ≡ went u (Some halt) (pending u work.pieces.items) (newest work.values.items) (scopes_of u work.scopes.items)
-    → IsThread versions t over th (next.Halt (record f { work = work }) halt) own
-ready_thread versions t u over th f work halt own e h done = record {
+    → IsThread t over th (next.Halt (record f { work = work }) halt) own
+ready_thread t u over th f work halt own e h done = record {
   serial = h.serial;
   depth = h.depth;
-  uses = h.uses;
   does = λ going. (h.entering, (frame_of t f, h.frames, record { function = refl; version = refl; standing = refl; next = at_t e done }));
 }
   where

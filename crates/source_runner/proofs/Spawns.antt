@@ -30,10 +30,10 @@ use Rattle.source_runner.specs.Machines.{IsPut, IsSlot, IsStarted, StandsBut, en
 use Rattle.source_runner.proofs.Slots.{each_other}
 
 -- the free slots are the same
-free_as : (versions : List (List BareDef)) (t : Table) (over : Bool) (s : Slot) (o : world.Slot) → IsSlot versions t over s o → is_free_slot s ≡ is_free o
-free_as versions t over Free o h = ap is_free (sym h)
-free_as versions t over (Live th n) o (m, is, h) = ap is_free (sym is)
-free_as versions t over (Over serial v) o h = ap is_free (sym h)
+free_as : (t : Table) (over : Bool) (s : Slot) (o : world.Slot) → IsSlot t over s o → is_free_slot s ≡ is_free o
+free_as t over Free o h = ap is_free (sym h)
+free_as t over (Live th n) o (m, is, h) = ap is_free (sym is)
+free_as t over (Over serial v) o h = ap is_free (sym h)
 
 first_of : {X : Type 0} → (X → Bool) → List X → ℕ
 first_of p [] = 0
@@ -94,7 +94,7 @@ least_free m slot w before h = positions m.slots.items w.slots h.all.count (λ n
     each : (n : ℕ) → (n ≡ slot) ⊎ (n ≡ slot → ⊥) → is_free_slot (slot_at m.slots.items n) ≡ is_free (in_slot w n)
     each n (inl e) =
         ap (λ k. is_free_slot (slot_at m.slots.items k)) e ∙ ap is_free_slot h.taken ∙ sym (ap is_free h.own) ∙ ap (λ k. is_free (in_slot w k)) (sym e)
-    each n (inr apart) = free_as _ _ _ (slot_at m.slots.items n) (in_slot w n) (h.others n apart)
+    each n (inr apart) = free_as _ _ (slot_at m.slots.items n) (in_slot w n) (h.others n apart)
 
 -- a slot that is free isn't the one that was taken
 pub apart_from : (m : Machine) (slot place : ℕ) (w : World) (before : SeenThread) → StandsBut m slot w before
@@ -107,25 +107,23 @@ apart_from m slot place w before h free e = no (sym (ap is_free_slot (ap (slot_a
 -- another slot changed
 pub put_other : (m : Machine) (v : Vec Slot Global) (slot place : ℕ) (w : World) (before : SeenThread) (s : Slot) (o : world.Slot)
     → StandsBut m slot w before → (slot ≡ place → ⊥) → v.items ≡ slice_set m.slots.items place s
-    → IsSlot (versions_of m.program) (table_of m.program) (is_over w) s o
+    → IsSlot (table_of m.program) (is_over w) s o
     → StandsBut (record m { slots = v }) slot (with_slot place o w) before
 put_other m v slot place w before s o h apart e is = record {
   all = record {
     program = h.all.program;
     history = h.all.history;
     text = h.all.text;
-    first = h.all.first;
     store = let on : World → World = λ x. record x { slots = slice_set w.slots place o } in ap on h.all.store;
     threads = h.all.threads;
     misused = h.all.misused;
-    closed = h.all.closed;
     finish = h.all.finish;
     count = length-set w.slots place o ∙ h.all.count ∙ sym (ap length e ∙ length-set m.slots.items place s);
   };
   within = subst (λ n. slot < n) (sym (ap length e ∙ length-set m.slots.items place s)) h.within;
   others = λ n other.
-      subst (λ ss. IsSlot (versions_of m.program) (table_of m.program) (is_over w) (slot_at ss n) (slice_index_or (slice_set w.slots place o) n world.Free)) (sym e)
-      (each_other (versions_of m.program) (table_of m.program) (is_over w) m.slots.items w.slots slot place s o h.all.count h.others is n other);
+      subst (λ ss. IsSlot (table_of m.program) (is_over w) (slot_at ss n) (slice_index_or (slice_set w.slots place o) n world.Free)) (sym e)
+      (each_other (table_of m.program) (is_over w) m.slots.items w.slots slot place s o h.all.count h.others is n other);
   taken = ap (λ ss. slot_at ss slot) e ∙ get_or-set_other m.slots.items place slot s Free apart ∙ h.taken;
   own = get_or-set_other w.slots place slot o world.Free apart ∙ h.own;
 }
@@ -138,11 +136,9 @@ one_more m slot w before h = record {
     program = h.all.program;
     history = h.all.history;
     text = h.all.text;
-    first = h.all.first;
     store = let on : World → World = λ x. record x { threads = suc w.threads } in ap on h.all.store;
     threads = ap suc h.all.threads;
     misused = h.all.misused;
-    closed = h.all.closed;
     finish = h.all.finish;
     count = h.all.count;
   };
@@ -171,9 +167,9 @@ starts m new slot place w before name argument version h found free put = record
     at : Some place ≡ position is_free w.slots
     at = sym found ∙ least_free m slot w before h
 
-    thread : IsSlot (versions_of m.program) (table_of m.program) (is_over w) put.slot.0 (world.Live (started w.threads enter))
-    thread = subst (λ n. IsSlot (versions_of m.program) (table_of m.program) (is_over w) put.slot.0 (world.Live (started n enter))) (sym h.all.threads)
-        (put.slot.2 (versions_of m.program) (table_of m.program) (is_over w))
+    thread : IsSlot (table_of m.program) (is_over w) put.slot.0 (world.Live (started w.threads enter))
+    thread = subst (λ n. IsSlot (table_of m.program) (is_over w) put.slot.0 (world.Live (started n enter))) (sym h.all.threads)
+        (put.slot.2 (table_of m.program) (is_over w))
 
     there : StandsBut made slot (started_in w enter (Some place)) before
     there = put_other (record m { threads = suc m.threads }) new.slots slot place (record w { threads = suc w.threads }) before put.slot.0

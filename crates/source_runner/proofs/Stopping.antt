@@ -32,9 +32,8 @@ use Rattle.source_runner.specs.Stores.{is_threads}
 use Rattle.local_evaluation.specs.Pieces.{pending, stop_of}
 use Rattle.local_evaluation.specs.Work.{newest, scopes_of, went}
 use Rattle.source_programs.specs.Programs.{versions_of, table_of}
-use Rattle.source_runner.proofs.FirstUse.{first_use}
 use Rattle.source_runner.proofs.Halted.{with_same}
-use Rattle.source_runner.specs.Machines.{Moves, IsAtStop, IsFrame, IsOfFirst, IsThread, IsUser, StandsBut, frame_at, standing_at}
+use Rattle.source_runner.specs.Machines.{Moves, IsAtStop, IsFrame, IsThread, IsUser, StandsBut, frame_at, standing_at}
 use Rattle.source_runner.specs.Frames.{frames_of}
 
 -- an answer, by what the definitions make of the move
@@ -74,43 +73,27 @@ right_use s w slot th f below (Some name) e =
     let by : Bool → Option World = λ b. if b then made else Some (marked w) in ap by e
 
 -- a thread that is put where it was, by the stop at which it stands
-pub thread_at : (versions : List (List BareDef)) (t : Table) (over : Bool) (th : Thread) (n other : Next) (own : SeenThread) → n ≡ other
-    → IsThread versions t over th n own → IsThread versions t over th other own
-thread_at versions t over th n other own e h = subst (λ x. IsThread versions t over th x own) e h
+pub thread_at : (t : Table) (over : Bool) (th : Thread) (n other : Next) (own : SeenThread) → n ≡ other
+    → IsThread t over th n own → IsThread t over th other own
+thread_at t over th n other own e h = subst (λ x. IsThread t over th x own) e h
 
--- where one text was in force so far, a use that is right is recorded by the first entry of a name that is defined
-recorded_uses : (versions : List (List BareDef)) (table : Versioned) (n depth : ℕ) (uses : Record) (name : Bytes)
-    → IsHistory versions table → (length versions ≡ 1 → table ≡ first_table (last_text versions)) → is_right table n name ≡ true
-    → All (IsOfFirst versions) uses → All (IsOfFirst versions) (recorded_at depth uses (use_of table name))
-recorded_uses versions table n zero uses name history first right h = h
-recorded_uses versions table n (suc depth) uses name history first right h = All-append (IsOfFirst versions) uses (use_of table name ∷ []) h
-    (All-cons (IsOfFirst versions) (use_of table name) [] (first_use versions table n name history first right) (All-nil (IsOfFirst versions)))
-
--- the thread after a use that is right
-pub user_stands : (versions : List (List BareDef)) (t : Table) (w : World) (th : Thread) (n : Next) (own : SeenThread) (version : ℕ) (u : Option Bytes)
-    → IsHistory versions w.table → (length versions ≡ 1 → w.table ≡ first_table (last_text versions)) → own.entering ≡ None
-    → IsThread versions t false th n own → all_right w version u ≡ true
-    → IsUser versions th (user_of w own u)
-user_stands versions t w th n own version None history first none h right =
-    record { serial = h.serial; depth = h.depth; uses = h.uses; entering = none }
-user_stands versions t w th n own version (Some name) history first none h right = record {
-  serial = h.serial;
-  depth = h.depth;
-  uses = recorded_uses versions w.table version own.depth own.uses name history first right h.uses;
-  entering = none;
-}
+-- the thread after a use
+pub user_stands : (t : Table) (w : World) (th : Thread) (n : Next) (own : SeenThread) (u : Option Bytes)
+    → own.entering ≡ None → IsThread t false th n own → IsUser th (user_of w own u)
+user_stands t w th n own None none h = record { serial = h.serial; depth = h.depth; entering = none }
+user_stands t w th n own (Some name) none h = record { serial = h.serial; depth = h.depth; entering = none }
 
 -- a thread at a stop whose use is right
 pub at_stop : (m : Machine) (slot : ℕ) (th : Thread) (f : Frame) (stop other : Stop) (point : ℕ) (w : World) (before : SeenThread)
     → stop ≡ other → StandsBut m slot w before → is_over w ≡ false
-    → IsThread (versions_of m.program) (table_of m.program) false th (next.Halt f (At stop point)) before
+    → IsThread (table_of m.program) false th (next.Halt f (At stop point)) before
     → all_right w f.version (use_at (stop_of (table_of m.program) stop)) ≡ true
     → IsAtStop m slot th f other point w before (user_of w before (use_at (stop_of (table_of m.program) stop)))
 at_stop m slot th f stop other point w before e but going same right = record {
   but = but;
   going = going;
-  same = thread_at _ _ _ _ _ _ _ (ap (λ s. next.Halt f (At s point)) e) same;
-  used = user_stands _ _ w _ _ _ f.version _ but.all.history but.all.first (same.does refl).0 same right;
+  same = thread_at _ _ _ _ _ _ (ap (λ s. next.Halt f (At s point)) e) same;
+  used = user_stands _ w _ _ _ _ (same.does refl).0 same;
 }
 
 -- the stop as the definitions make it
@@ -200,17 +183,10 @@ ended_same m slot w before f h =
 pub frame_with : (t : Table) (f : Frame) (halt other : Halt) (own : SeenFrame) → halt ≡ other → IsFrame t f halt own → IsFrame t f other own
 frame_with t f halt other own e h = subst (λ x. IsFrame t f x own) e h
 
-pub user_before : (versions : List (List BareDef)) (t : Table) (th : Thread) (f : Frame) (halt : Halt) (own : SeenThread)
-    → IsThread versions t false th (next.Halt f halt) own → IsUser versions th own
-user_before versions t th f halt own h = record { serial = h.serial; depth = h.depth; uses = h.uses; entering = (h.does refl).0 }
+pub user_before : (t : Table) (th : Thread) (f : Frame) (halt : Halt) (own : SeenThread)
+    → IsThread t false th (next.Halt f halt) own → IsUser th own
+user_before t th f halt own h = record { serial = h.serial; depth = h.depth; entering = (h.does refl).0 }
 
-pub user_with : (versions : List (List BareDef)) (th : Thread) (below : Vec Frame Global) (own : SeenThread) → IsUser versions th own
-    → IsUser versions (record th { below = below }) own
-user_with versions th below own h = record { serial = h.serial; depth = h.depth; uses = h.uses; entering = h.entering }
-
--- the same of the use of an enter
-pub entering_uses : (versions : List (List BareDef)) (w : World) (own : SeenThread) (version : ℕ) (name : Bytes)
-    → IsHistory versions w.table → (length versions ≡ 1 → w.table ≡ first_table (last_text versions)) → is_right w.table version name ≡ true
-    → All (IsOfFirst versions) own.uses → All (IsOfFirst versions) (recorded w.table name own).uses
-entering_uses versions w own version name history first right h =
-    recorded_uses versions w.table version own.depth own.uses name history first right h
+pub user_with : (th : Thread) (below : Vec Frame Global) (own : SeenThread) → IsUser th own
+    → IsUser (record th { below = below }) own
+user_with th below own h = record { serial = h.serial; depth = h.depth; entering = h.entering }

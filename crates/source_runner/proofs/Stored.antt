@@ -38,11 +38,9 @@ stored m store slot w before h = record {
     program = h.all.program;
     history = h.all.history;
     text = h.all.text;
-    first = h.all.first;
     store = refl;
     threads = h.all.threads;
     misused = h.all.misused;
-    closed = h.all.closed;
     finish = h.all.finish;
     count = h.all.count;
   };
@@ -81,22 +79,21 @@ abbrev pub frame_then : Frame → ℕ → Vec Value Global → Frame
 frame_then f point values = record f { standing = point; work = record f.work { values = values } }
 
 -- the thread after it
-pub went_on : (versions : List (List BareDef)) (t : Table) (th : Thread) (f : Frame) (values : Vec Value Global) (point : ℕ) (w : World) (slot : ℕ) (user : SeenThread)
-    → IsUser versions th user
-    → IsReady versions t th (frame_then f point values) (gone_on (standing_at t w slot th f point user) (newest values.items))
-went_on versions t th f values point w slot user h = record {
+pub went_on : (t : Table) (th : Thread) (f : Frame) (values : Vec Value Global) (point : ℕ) (w : World) (slot : ℕ) (user : SeenThread)
+    → IsUser th user
+    → IsReady t th (frame_then f point values) (gone_on (standing_at t w slot th f point user) (newest values.items))
+went_on t th f values point w slot user h = record {
   serial = h.serial;
   depth = h.depth;
-  uses = h.uses;
   entering = h.entering;
   frames = refl;
 }
 
 -- the thread where the run ends
-pub trapped : (versions : List (List BareDef)) (t : Table) (th : Thread) (n : Next) (frames : List SeenFrame) (over : Bool) (user : SeenThread) → over ≡ true
-    → IsUser versions th user → IsThread versions t over th n (record user { frames = frames })
-trapped versions t th n frames over user e h =
-    record { serial = h.serial; depth = h.depth; uses = h.uses; does = λ going. absurd (true_is_not_false (sym e ∙ going)) }
+pub trapped : (t : Table) (th : Thread) (n : Next) (frames : List SeenFrame) (over : Bool) (user : SeenThread) → over ≡ true
+    → IsUser th user → IsThread t over th n (record user { frames = frames })
+trapped t th n frames over user e h =
+    record { serial = h.serial; depth = h.depth; does = λ going. absurd (true_is_not_false (sym e ∙ going)) }
 
 -- a move that was made, from whatever world
 pub moves_from : (m : Machine) (w v after : World) (r : Result Bool AllocError) → Moves m w r (Some after) → Moves m v r (Some after)
@@ -109,13 +106,12 @@ pub same_store : (m : Machine) (store : Store) (slot : ℕ) (w : World) (before 
     → StandsBut (record m { store = store }) slot w before
 same_store m store slot w before e h = subst (λ x. StandsBut (record m { store = x }) slot w before) (sym e) h
 
-pub same_values : (versions : List (List BareDef)) (t : Table) (over : Bool) (th : Thread) (f : Frame) (halt : Halt) (values : Vec Value Global) (own : SeenThread)
-    → values.items ≡ f.work.values.items → IsThread versions t over th (next.Halt f halt) own
-    → IsThread versions t over th (next.Halt (record f { work = record f.work { values = values } }) halt) own
-same_values versions t over th f halt values own e h = record {
+pub same_values : (t : Table) (over : Bool) (th : Thread) (f : Frame) (halt : Halt) (values : Vec Value Global) (own : SeenThread)
+    → values.items ≡ f.work.values.items → IsThread t over th (next.Halt f halt) own
+    → IsThread t over th (next.Halt (record f { work = record f.work { values = values } }) halt) own
+same_values t over th f halt values own e h = record {
   serial = h.serial;
   depth = h.depth;
-  uses = h.uses;
   does = λ going. let is = h.does going in (is.0, (is.1.0, is.1.1, with_values is.1.0 is.1.2));
 }
   where
@@ -132,6 +128,6 @@ pub kept_as : (did : Did) (old new : Store) (values after : List Value) → did 
 kept_as did old new values after e h = subst (λ d. Kept d old values new after) e h
 
 -- the same in a machine whose program is the same
-pub ready_in : (p q : Programs) (th : Thread) (f : Frame) (own : SeenThread) → p ≡ q → IsReady (versions_of p) (table_of p) th f own
-    → IsReady (versions_of q) (table_of q) th f own
-ready_in p q th f own e h = subst (λ x. IsReady (versions_of x) (table_of x) th f own) e h
+pub ready_in : (p q : Programs) (th : Thread) (f : Frame) (own : SeenThread) → p ≡ q → IsReady (table_of p) th f own
+    → IsReady (table_of q) th f own
+ready_in p q th f own e h = subst (λ x. IsReady (table_of x) th f own) e h

@@ -35,19 +35,17 @@ stands_with m v w e h = record {
     program = h.all.program;
     history = h.all.history;
     text = h.all.text;
-    first = h.all.first;
     store = h.all.store;
     threads = h.all.threads;
     misused = h.all.misused;
-    closed = h.all.closed;
     finish = h.all.finish;
     count = h.all.count ∙ ap length (sym e);
   };
-  slots = λ n. subst (λ ss. IsSlot (versions_of m.program) (table_of m.program) (is_over w) (slot_at ss n) (in_slot w n)) (sym e) (h.slots n);
+  slots = λ n. subst (λ ss. IsSlot (table_of m.program) (is_over w) (slot_at ss n) (in_slot w n)) (sym e) (h.slots n);
 }
 
 -- where no thread lives nothing moves
-pub none_moves : (m : Machine) (w : World) (slot : ℕ) (s : Slot) (own : world.Slot) → IsSlot (versions_of m.program) (table_of m.program) (is_over w) s own
+pub none_moves : (m : Machine) (w : World) (slot : ℕ) (s : Slot) (own : world.Slot) → IsSlot (table_of m.program) (is_over w) s own
     → ((th : Thread) (n : Next) → s ≡ Live th n → ⊥) → move_of w slot own ≡ None
 none_moves m w slot Free own is not = ap (move_of w slot) is
 none_moves m w slot (Over serial value) own is not = ap (move_of w slot) is
@@ -55,8 +53,8 @@ none_moves m w slot (Live th n) own is not = absurd (not th n refl)
 
 -- the thread of a slot, as the world has it
 pub lives : (m : Machine) (w : World) (slot : ℕ) (th : Thread) (n : Next) → Stands m w → slot_at m.slots.items slot ≡ Live th n
-    → IsSlot (versions_of m.program) (table_of m.program) (is_over w) (Live th n) (in_slot w slot)
-lives m w slot th n h e = subst (λ s. IsSlot (versions_of m.program) (table_of m.program) (is_over w) s (in_slot w slot)) e (h.slots slot)
+    → IsSlot (table_of m.program) (is_over w) (Live th n) (in_slot w slot)
+lives m w slot th n h e = subst (λ s. IsSlot (table_of m.program) (is_over w) s (in_slot w slot)) e (h.slots slot)
 
 -- with that thread taken the machine stands for the world but for its slot
 pub taking : (m : Machine) (v : Vec Slot Global) (w : World) (slot : ℕ) (own : SeenThread) → Stands m w → slot < length m.slots.items
@@ -67,24 +65,22 @@ taking m v w slot own h below e is = record {
     program = h.all.program;
     history = h.all.history;
     text = h.all.text;
-    first = h.all.first;
     store = h.all.store;
     threads = h.all.threads;
     misused = h.all.misused;
-    closed = h.all.closed;
     finish = h.all.finish;
     count = h.all.count ∙ sym (ap length e ∙ length-set m.slots.items slot (Over 0 (Started None)));
   };
   within = subst (λ n. slot < n) (sym (ap length e ∙ length-set m.slots.items slot (Over 0 (Started None)))) below;
-  others = λ n apart. subst (λ s. IsSlot (versions_of m.program) (table_of m.program) (is_over w) s (in_slot w n))
+  others = λ n apart. subst (λ s. IsSlot (table_of m.program) (is_over w) s (in_slot w n))
       (sym (ap (λ ss. slot_at ss n) e ∙ get_or-set_other m.slots.items slot n (Over 0 (Started None)) Free apart)) (h.slots n);
   taken = ap (λ ss. slot_at ss slot) e ∙ get_or-set_same m.slots.items slot (Over 0 (Started None)) Free below;
   own = is;
 }
 
 pub slot_is : (m : Machine) (w : World) (slot : ℕ) (s : Slot) → Stands m w → s ≡ slot_at m.slots.items slot
-    → IsSlot (versions_of m.program) (table_of m.program) (is_over w) s (in_slot w slot)
-slot_is m w slot s h e = subst (λ x. IsSlot (versions_of m.program) (table_of m.program) (is_over w) x (in_slot w slot)) (sym e) (h.slots slot)
+    → IsSlot (table_of m.program) (is_over w) s (in_slot w slot)
+slot_is m w slot s h e = subst (λ x. IsSlot (table_of m.program) (is_over w) x (in_slot w slot)) (sym e) (h.slots slot)
 
 -- what was in a slot put back
 pub twice : (ss : List Slot) (n : ℕ) (x s : Slot) → s ≡ slot_at ss n → slice_set (slice_set ss n x) n s ≡ ss

@@ -1,7 +1,6 @@
 pub mod FoundChanges
 pub mod Frames
 pub mod Joins
-pub mod Listed
 pub mod Machines
 pub mod Makes
 pub mod NewData

@@ -8,7 +8,6 @@ use Rattle.c_tree.specs.BareDef.{BareDef}
 use Rattle.c_semantics.specs.Texts.{definition}
 use Rattle.c_semantics.specs.Threads.{Use, Frame as SeenFrame, Enter as SeenEnter, Thread as SeenThread, next_of, started}
 use Rattle.c_semantics.specs.Values.{ThreadRef as SeenRef}
-use Rattle.source_model.specs.Versions.{first_table}
 use Rattle.source_model.specs.Worlds.{World, is_over, in_slot, with_thread}
 use Rattle.source_model.specs.Worlds as world
 use Rattle.source_model.specs.Moves.{Standing, is_free}
@@ -57,23 +56,17 @@ IsNext t (next.Enter e) below entering frames = (entering ≡ Some (enter_of t e
 IsNext t (next.Halt f halt) below entering frames =
     (entering ≡ None) × ((own : SeenFrame) × (frames ≡ own ∷ below) × IsFrame t f halt own)
 
--- a use of the first entry of a name that is defined, where there is one version alone
-abbrev pub IsOfFirst : List (List BareDef) → Use → Type 0
-IsOfFirst versions use_made =
-    length versions ≡ 1 → (use_made.entry ≡ 0) × IsTrue (is_some (definition (last_text versions) use_made.name))
-
 -- a thread; where the run has ended, what it does next is no matter
-pub record IsThread (versions : List (List BareDef)) (t : Table) (over : Bool) (th : Thread) (n : Next) (own : SeenThread) : Type 0 where
+pub record IsThread (t : Table) (over : Bool) (th : Thread) (n : Next) (own : SeenThread) : Type 0 where
   pub serial : own.serial ≡ th.serial
   pub depth : own.depth ≡ th.depth
-  pub uses : All (IsOfFirst versions) own.uses
   pub does : over ≡ false → IsNext t n (frames_of t th.below.items) own.entering own.frames
 
 -- a slot
-abbrev pub IsSlot : List (List BareDef) → Table → Bool → Slot → world.Slot → Type 0
-IsSlot versions t over Free own = own ≡ world.Free
-IsSlot versions t over (Live th n) own = (m : SeenThread) × (own ≡ world.Live m) × IsThread versions t over th n m
-IsSlot versions t over (Over serial value) own = own ≡ world.Over serial (seen value)
+abbrev pub IsSlot : Table → Bool → Slot → world.Slot → Type 0
+IsSlot t over Free own = own ≡ world.Free
+IsSlot t over (Live th n) own = (m : SeenThread) × (own ≡ world.Live m) × IsThread t over th n m
+IsSlot t over (Over serial value) own = own ≡ world.Over serial (seen value)
 
 -- the slot with a number; a slot that isn't there is free
 abbrev pub slot_at : List Slot → ℕ → Slot
@@ -84,56 +77,42 @@ abbrev pub finish_of : Finish → world.Finish
 finish_of (Finished r) = world.Finished (value_of r)
 finish_of (Trapped kind slot) = world.Trapped kind slot
 
--- a transaction that was closed
-abbrev pub IsClosed : List (List BareDef) → ℕ → world.Closed → Type 0
-IsClosed versions slot own = (own.slot ≡ slot) × All (IsOfFirst versions) own.uses
-
-abbrev pub AreClosed : List (List BareDef) → List ℕ → List world.Closed → Type 0
-AreClosed versions [] [] = Unit {0}
-AreClosed versions (slot ∷ slots) (own ∷ others) = IsClosed versions slot own × AreClosed versions slots others
-AreClosed versions [] (own ∷ others) = ⊥
-AreClosed versions (slot ∷ slots) [] = ⊥
-
 -- all of a machine but its slots stands for a world
 pub record StandsFor (m : Machine) (w : World) : Type 0 where
   pub program : ArePrograms m.program
   pub history : IsHistory (versions_of m.program) w.table
   pub text : w.text ≡ current_of m.program
-  pub first : length (versions_of m.program) ≡ 1 → w.table ≡ first_table (current_of m.program)
   pub store : w ≡ with_store (table_of m.program) m.store w
   pub threads : w.threads ≡ m.threads
   pub misused : w.misused ≡ m.misused
-  pub closed : AreClosed (versions_of m.program) m.closed.items w.closed
   pub finish : w.finish ≡ option_map finish_of m.finish
   pub count : length w.slots ≡ length m.slots.items
 
 -- a machine stands for a world
 pub record Stands (m : Machine) (w : World) : Type 0 where
   pub all : StandsFor m w
-  pub slots : (n : ℕ) → IsSlot (versions_of m.program) (table_of m.program) (is_over w) (slot_at m.slots.items n) (in_slot w n)
+  pub slots : (n : ℕ) → IsSlot (table_of m.program) (is_over w) (slot_at m.slots.items n) (in_slot w n)
 
 -- a machine stands for a world but for one slot, whose thread moves: in the world the thread is there still, and the
 -- machine has only that the slot isn't free
 pub record StandsBut (m : Machine) (slot : ℕ) (w : World) (before : SeenThread) : Type 0 where
   pub all : StandsFor m w
   pub within : slot < length m.slots.items
-  pub others : (n : ℕ) → (n ≡ slot → ⊥) → IsSlot (versions_of m.program) (table_of m.program) (is_over w) (slot_at m.slots.items n) (in_slot w n)
+  pub others : (n : ℕ) → (n ≡ slot → ⊥) → IsSlot (table_of m.program) (is_over w) (slot_at m.slots.items n) (in_slot w n)
   pub taken : slot_at m.slots.items slot ≡ Over 0 (Started None)
   pub own : in_slot w slot ≡ world.Live before
 
 -- a thread whose frame is after a stop
-pub record IsReady (versions : List (List BareDef)) (t : Table) (th : Thread) (f : Frame) (own : SeenThread) : Type 0 where
+pub record IsReady (t : Table) (th : Thread) (f : Frame) (own : SeenThread) : Type 0 where
   pub serial : own.serial ≡ th.serial
   pub depth : own.depth ≡ th.depth
-  pub uses : All (IsOfFirst versions) own.uses
   pub entering : own.entering ≡ None
   pub frames : own.frames ≡ frame_of t f ∷ frames_of t th.below.items
 
 -- a thread at a stop whose use was made; its frames are those with which the stop is made
-pub record IsUser (versions : List (List BareDef)) (th : Thread) (own : SeenThread) : Type 0 where
+pub record IsUser (th : Thread) (own : SeenThread) : Type 0 where
   pub serial : own.serial ≡ th.serial
   pub depth : own.depth ≡ th.depth
-  pub uses : All (IsOfFirst versions) own.uses
   pub entering : own.entering ≡ None
 
 -- a frame at the stop of a point
@@ -144,8 +123,8 @@ frame_at t f point = record (frame_of t f) { standing = point }
 pub record IsAtStop (m : Machine) (slot : ℕ) (th : Thread) (f : Frame) (stop : Stop) (point : ℕ) (w : World) (before user : SeenThread) : Type 0 where
   pub but : StandsBut m slot w before
   pub going : is_over w ≡ false
-  pub same : IsThread (versions_of m.program) (table_of m.program) false th (next.Halt f (At stop point)) before
-  pub used : IsUser (versions_of m.program) th user
+  pub same : IsThread (table_of m.program) false th (next.Halt f (At stop point)) before
+  pub used : IsUser th user
 
 -- how it stands there
 abbrev pub standing_at : Table → World → ℕ → Thread → Frame → ℕ → SeenThread → Standing
@@ -176,8 +155,8 @@ started_as w (Some place) = Some (record { slot = place; serial = w.threads })
 pub record IsPut (old new : Machine) (place : ℕ) (name : Word) (argument : Value) (version : ℕ) : Type 0 where
   pub same : new ≡ record old { slots = new.slots; threads = suc old.threads }
   pub slot : (s : Slot) × (new.slots.items ≡ slice_set old.slots.items place s)
-      × ((versions : List (List BareDef)) (t : Table) (over : Bool)
-      → IsSlot versions t over s (world.Live (started old.threads (enter_with t name argument version))))
+      × ((t : Table) (over : Bool)
+      → IsSlot t over s (world.Live (started old.threads (enter_with t name argument version))))
 
 -- a thread was started in the least free slot, if there is one
 pub record IsStarted (m : Machine) (slot : ℕ) (w : World) (before : SeenThread) (enter : SeenEnter) (ref : Option ThreadRef) : Type 0 where

@@ -17,7 +17,6 @@ use Rattle.source_runner.specs.declared.run.Stepped.{Stepped}
 use Rattle.source_runner.specs.declared.run.Stepped.TheVariants.{Done, CannotMove}
 use Rattle.source_runner.specs.declared.run.SourceRun.{SourceRun}
 use Rattle.source_runner.specs.Machines.{Stands}
-use Rattle.source_runner.specs.Listed.{span_of, spans_of}
 
 -- the trees of a run's texts, and the table of its words; neither changes while it runs
 abbrev pub trees_of : SourceRun → List Tree
@@ -34,16 +33,13 @@ move_of (Move slot) = source.Move slot
 abbrev pub world_after : List (List BareDef) → Limits → List SourceMove → Option World
 world_after texts limits moves = option_and_then (run texts moves) (start texts limits)
 
--- a run is that of some texts within limits after moves; the spans of its records are listed as long as no text was installed
+-- a run is that of some texts within limits after moves
 pub record IsRun (texts : List (List BareDef)) (limits : Limits) (moves : List SourceMove) (r : SourceRun) : Type 0 where
   pub world : World
   pub ran : world_after texts limits moves ≡ Some world
   pub stands : Stands r.machine world
   pub loaded : texts_of r.machine.program ≡ texts
   pub versions : versions_of r.machine.program ≡ versions_by texts moves
-  pub small : length r.machine.slots.items ≤ 256
-  pub counted : r.counted ≡ length r.machine.closed.items
-  pub listed : length (versions_by texts moves) ≡ 1 → map span_of r.spans.items ≡ spans_of r.machine
 
 -- what a step by a move came to: the move was made, or it can't be made and the run is what it was
 abbrev pub CameBy : List (List BareDef) → Limits → List SourceMove → SourceMove → SourceRun → Stepped → Type 0

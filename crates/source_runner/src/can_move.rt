@@ -119,7 +119,7 @@ impl Machine {
     /// Whether a thread can do what it does next, in a run that goes on.
     fn can_act(&self, thread: &Thread, next: &Next) -> bool
         ensures { (w : World) (slot : ℕ) (own : SeenThread) → Stands self.now w
-            → IsThread (versions_of self.now.program) (table_of self.now.program) false thread.now next.now own
+            → IsThread (table_of self.now.program) false thread.now next.now own
             → result ≡ is_some (thread_move w slot own own.entering) }
     {
         match next {
@@ -154,7 +154,7 @@ fn as_int(n: Int) -> i32
 
 /// Whether what a thread does next leads to a check-in.
 fn next_leads(thread: &Thread, next: &Next) -> bool
-    ensures { (versions : List (List BareDef)) (t : Table) (own : SeenThread) → IsThread versions t false thread.now next.now own
+    ensures { (t : Table) (own : SeenThread) → IsThread t false thread.now next.now own
         → result ≡ (is_some own.entering || frames_lead own.frames) }
 {
     match next {

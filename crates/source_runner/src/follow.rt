@@ -20,7 +20,7 @@ impl Machine {
             → OnOk result (Stands self.new (installed (text_at self.old.program number) w)) }
         ensures follows { OnOk result (versions_of self.new.program ≡ versions_of self.old.program ++ text_at self.old.program number ∷ []) }
         ensures same { (trees_of self.new.program ≡ trees_of self.old.program) × (table_of self.new.program ≡ table_of self.old.program) }
-        ensures kept { (self.new.slots ≡ self.old.slots) × (self.new.closed ≡ self.old.closed) }
+        ensures kept { self.new.slots ≡ self.old.slots }
         ensures fault { OnErr result (self.new ≡ self.old) }
     {
         let alloc = *self.slots.allocator();

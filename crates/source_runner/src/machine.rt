@@ -54,8 +54,6 @@ pub(crate) struct Machine {
     pub threads: usize,
     /// Whether a definition was misused.
     pub misused: bool,
-    /// The slots of the transactions that were closed, in order.
-    pub closed: Vec<u8>,
     pub finish: Option<Finish>,
 }
 
@@ -67,7 +65,7 @@ fn taken() -> Slot
 }
 
 /// The name that a stop uses, if it uses one.
-fn use_at(stop: Stop) -> Option<Name>
+pub(crate) fn use_at(stop: Stop) -> Option<Name>
     ensures { (t : Table) → option_map (name_of t) result ≡ use_at (stop_of t stop) }
 {
     match stop {
@@ -140,7 +138,7 @@ impl Machine {
     fn act(&mut self, slot: u8, thread: Thread, next: Next) -> Result<bool, AllocError>
         requires { slot < length self.old.slots.items }
         ensures moves { (w : World) (before : SeenThread) → StandsBut self.old slot w before → is_over w ≡ false
-            → IsThread (versions_of self.old.program) (table_of self.old.program) false thread next before
+            → IsThread (table_of self.old.program) false thread next before
             → Moves self.new w result (thread_move w slot before before.entering) }
         ensures same { self.new.program ≡ self.old.program }
     {
@@ -154,7 +152,7 @@ impl Machine {
     pub(crate) fn keep(&mut self, slot: u8, thread: Thread, next: Next)
         requires { slot < length self.old.slots.items }
         ensures stands { (w : World) (before after : SeenThread) → StandsBut self.old slot w before
-            → IsThread (versions_of self.old.program) (table_of self.old.program) (is_over w) thread next after
+            → IsThread (table_of self.old.program) (is_over w) thread next after
             → Stands self.new (with_thread slot after w) }
         ensures same { self.new.program ≡ self.old.program }
     {
@@ -170,7 +168,7 @@ impl Machine {
     ) -> Result<bool, AllocError>
         requires { slot < length self.old.slots.items }
         ensures moves { (w : World) (before after : SeenThread) → StandsBut self.old slot w before
-            → IsReady (versions_of self.old.program) (table_of self.old.program) thread frame after
+            → IsReady (table_of self.old.program) thread frame after
             → Moves self.new w result (Some (with_thread slot after w)) }
         ensures same { self.new.program ≡ self.old.program }
     {
@@ -190,7 +188,7 @@ impl Machine {
     ) -> Result<bool, AllocError>
         requires { slot < length self.old.slots.items }
         ensures moves { (w : World) (before after : SeenThread) → StandsBut self.old slot w before
-            → IsThread (versions_of self.old.program) (table_of self.old.program) true thread next after
+            → IsThread (table_of self.old.program) true thread next after
             → Moves self.new w result (Some (record (with_thread slot after w) { finish = Some (Trapped kind slot) })) }
         ensures same { self.new.program ≡ self.old.program }
     {
@@ -203,7 +201,7 @@ impl Machine {
     fn misuse(&mut self, slot: u8, thread: Thread, next: Next) -> Result<bool, AllocError>
         requires { slot < length self.old.slots.items }
         ensures moves { (w : World) (before : SeenThread) → StandsBut self.old slot w before
-            → IsThread (versions_of self.old.program) (table_of self.old.program) true thread next before
+            → IsThread (table_of self.old.program) true thread next before
             → Moves self.new w result (Some (marked w)) }
         ensures same { self.new.program ≡ self.old.program }
     {
@@ -216,7 +214,7 @@ impl Machine {
     pub(crate) fn stay(&mut self, slot: u8, thread: Thread, next: Next) -> Result<bool, AllocError>
         requires { slot < length self.old.slots.items }
         ensures moves { (w : World) (before : SeenThread) → StandsBut self.old slot w before
-            → IsThread (versions_of self.old.program) (table_of self.old.program) (is_over w) thread next before
+            → IsThread (table_of self.old.program) (is_over w) thread next before
             → Moves self.new w result None }
         ensures same { self.new.program ≡ self.old.program }
     {
@@ -228,7 +226,7 @@ impl Machine {
     fn enter(&mut self, slot: u8, thread: Thread, due: Enter) -> Result<bool, AllocError>
         requires { slot < length self.old.slots.items }
         ensures moves { (w : World) (before : SeenThread) → StandsBut self.old slot w before → is_over w ≡ false
-            → IsThread (versions_of self.old.program) (table_of self.old.program) false thread (Entering due) before
+            → IsThread (table_of self.old.program) false thread (Entering due) before
             → Moves self.new w result (enter w slot before (enter_of (table_of self.old.program) due)) }
         ensures same { self.new.program ≡ self.old.program }
     {
@@ -274,7 +272,7 @@ impl Machine {
     ) -> Result<bool, AllocError>
         requires { slot < length self.old.slots.items }
         ensures moves { (w : World) (before : SeenThread) → StandsBut self.old slot w before → is_over w ≡ false
-            → IsThread (versions_of self.old.program) (table_of self.old.program) false thread (Halting frame halt) before
+            → IsThread (table_of self.old.program) false thread (Halting frame halt) before
             → Moves self.new w result (in_frames w slot before before.frames) }
         ensures same { self.new.program ≡ self.old.program }
     {
@@ -316,7 +314,7 @@ impl Machine {
     fn stop(&mut self, at: Stopped, stop: Stop) -> Result<bool, AllocError>
         requires { at.slot < length self.old.slots.items }
         ensures moves { let t = table_of self.old.program in (w : World) (before : SeenThread) → StandsBut self.old at.slot w before → is_over w ≡ false
-            → IsThread (versions_of self.old.program) t false at.thread (Halting at.frame (AtStop stop at.point)) before
+            → IsThread t false at.thread (Halting at.frame (AtStop stop at.point)) before
             → Moves self.new w result (stop_made (stop_of t stop) w at.slot before (frame_at t at.frame at.point) (frames_of t at.thread.below.items)) }
         ensures same { self.new.program ≡ self.old.program }
     {

@@ -1,18 +1,20 @@
-//! What is asked of the thread in a slot: where its innermost frame is, whether it is in a transaction, and which function
-//! it enters. Nothing changes here.
+//! What is asked of the thread in a slot: where its innermost frame is, whether it is in a transaction, which function it
+//! enters, and which name its next move uses. Nothing changes here.
 ghost use Rattle.std.specs.Prelude.{◌≡◌, ◌∷◌, false, option_map};
 ghost use Rattle.c_semantics.specs.Threads.{Frame as SeenFrame};
 ghost use Rattle.source_model.specs.Guards.{in_transaction};
 ghost use Rattle.source_model.specs.Worlds.{World, in_slot, is_over};
 ghost use Rattle.resolved_tree.specs.Nodes.{Table, word};
-ghost use Rattle.source_programs.specs.Programs.{table_of};
+ghost use Rattle.source_programs.specs.Programs.{name_of, table_of};
 ghost use Rattle.source_runner.specs.Frames.{frame_of, frames_of};
 ghost use Rattle.source_runner.specs.Machines.{Stands};
-ghost use Rattle.source_runner.specs.Queries.{entering_in, innermost, innermost_in, place_at, place_of};
+ghost use Rattle.source_runner.specs.Queries.{entering_in, innermost, innermost_in, place_at, place_of, use_due};
 
-use crate::machine::Machine;
+use crate::machine::{Machine, use_at};
 use crate::thread::{Frame, Next, Slot};
+use local_evaluation::Halt;
 use resolved_tree::Word;
+use source_programs::Name;
 
 /// Where a frame is.
 #[derive(Clone, Copy)]
@@ -67,6 +69,18 @@ impl Machine {
     {
         match self.slots.get(slot) {
             Some(Slot::Live(_, Next::Enter(due))) => Some(due.function),
+            _ => None,
+        }
+    }
+
+    /// The name that the next move of the thread in a slot uses, if it uses one.
+    pub(crate) fn next_use(&self, slot: usize) -> Option<Name>
+        ensures { (w : World) → Stands self.now w → is_over w ≡ false
+            → option_map (name_of (table_of self.now.program)) result ≡ use_due (in_slot w slot) }
+    {
+        match self.slots.get(slot) {
+            Some(Slot::Live(_, Next::Enter(due))) => Some(Name::Plain(due.function)),
+            Some(Slot::Live(_, Next::Halt(_, Halt::At(stop, _)))) => use_at(*stop),
             _ => None,
         }
     }

@@ -9,25 +9,22 @@ ghost use Rattle.source_model.specs.Guards.{in_transaction, move_leads};
 ghost use Rattle.version_laws.specs.Histories.{last_text, versions_by};
 ghost use Rattle.resolved_tree.specs.Nodes.{word as word_text};
 ghost use Rattle.type_transformers.specs.Changes.{IsChange, changing, name_of};
-ghost use Rattle.source_programs.specs.Programs.{text_in};
+ghost use Rattle.source_programs.specs.Programs.{name_of as word_name, text_in};
 ghost use Rattle.source_runner.specs.States.{as_int, ending_of, state_of};
 ghost use Rattle.source_runner.specs.declared.run.SourceMove.TheVariants.{Move};
-ghost use Rattle.source_model.specs.Spans.{spans};
-ghost use Rattle.source_runner.specs.Listed.{span_of};
 ghost use Rattle.source_runner.specs.Waits.{waiting_of};
-ghost use Rattle.source_runner.specs.Queries.{entering_in, innermost_in, place_at};
+ghost use Rattle.source_runner.specs.Queries.{entering_in, innermost_in, place_at, use_due};
 ghost use Rattle.source_runner.specs.SourceRuns.{CameBy, IsRun, KeepsTexts, Steps, trees_of, words_of};
 
 use crate::can_move::SourceState;
 use crate::machine::Machine;
 use crate::queries::FrameAt;
-use crate::spans::{Span, list_spans};
 use crate::start::start;
 use crate::waits::SourceWait;
 use bytecode::Ending;
 use c_types::Typed;
 use resolved_tree::Word;
-use source_programs::Programs;
+use source_programs::{Name, Programs};
 use std::alloc::{AllocError, Global};
 use type_transformers::Change;
 
@@ -52,9 +49,6 @@ pub enum Stepped {
 #[derive(Drop)]
 pub struct SourceRun {
     machine: Machine,
-    /// The spans of the records as long as no text was installed, and how many of the records are closed.
-    spans: Vec<Span>,
-    counted: usize,
     /// Whether a step ran out of memory.
     failed: bool,
 }
@@ -74,8 +68,6 @@ impl SourceRun {
         let program = Programs::load(alloc, texts)?;
         Ok(SourceRun {
             machine: start(alloc, program, objects as usize, slots as usize)?,
-            spans: Vec::new(alloc),
-            counted: 0,
             failed: false,
         })
     }
@@ -116,8 +108,6 @@ impl SourceRun {
         ensures same { KeepsTexts self.old self.new }
     {
         if self.machine.make(slot)? {
-            list_spans(&self.machine, &mut self.spans, self.counted)?;
-            self.counted = self.machine.closed.len();
             Ok(Stepped::Done)
         } else {
             Ok(Stepped::CannotMove)
@@ -161,13 +151,12 @@ impl SourceRun {
         self.machine.misused
     }
 
-    /// The versions that the definitions of each record share, as long as no text was installed: of closed ones in order of
-    /// closing, then of open ones by slot.
-    pub fn spans(&self) -> &[Span]
+    /// How many threads were started, that of `main` among them.
+    pub fn threads(&self) -> usize
         ensures { (texts : List (List BareDef)) (limits : Limits) (moves : List Made) → IsRun texts limits moves self.now
-            → length (versions_by texts moves) ≡ 1 → option_map (λ x. spans x.world) (source_run texts limits moves) ≡ Some (map span_of result.now) }
+            → option_map (λ x. x.world.threads) (source_run texts limits moves) ≡ Some result }
     {
-        self.spans.as_slice()
+        self.machine.threads
     }
 
     /// How the run stands.
@@ -273,5 +262,16 @@ impl SourceRun {
             ≡ Some (option_map (word_text (words_of self.now)) result) }
     {
         self.machine.entering(slot as usize)
+    }
+
+    /// The name that the next move of the thread in a slot uses, if it uses one: the function of the enter that is due, else
+    /// the name that its stop uses. It is asked of a run that isn't over.
+    pub fn next_use(&self, slot: u8) -> Option<Name>
+        ensures { (texts : List (List BareDef)) (limits : Limits) (moves : List Made) → IsRun texts limits moves self.now
+            → option_map (λ x. is_over x.world) (source_run texts limits moves) ≡ Some false
+            → option_map (λ x. use_due (in_slot x.world slot)) (source_run texts limits moves)
+            ≡ Some (option_map (word_name (words_of self.now)) result) }
+    {
+        self.machine.next_use(slot as usize)
     }
 }

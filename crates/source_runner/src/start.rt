@@ -17,7 +17,7 @@ use std::alloc::{AllocError, Global};
 
 /// The thread of main.
 fn main_slot(alloc: Global, main: Word) -> Slot
-    ensures { (versions : List (List BareDef)) (t : Table) (over : Bool) → word t main ≡ codes "main" → IsSlot versions t over result (IsLive (started 0 main_enter)) }
+    ensures { (t : Table) (over : Bool) → word t main ≡ codes "main" → IsSlot t over result (IsLive (started 0 main_enter)) }
 {
     Slot::Live(
         Thread {
@@ -73,7 +73,6 @@ pub(crate) fn start(
         slots,
         threads: 1,
         misused: false,
-        closed: Vec::new(alloc),
         finish: None,
     })
 }

@@ -82,8 +82,8 @@ fn entering(
     argument: Value,
     version: usize,
 ) -> Result<Slot, AllocError>
-    ensures { IfOk result (λ slot. (versions : List (List BareDef)) (t : Table) (over : Bool)
-        → IsSlot versions t over slot (IsLive (started serial (enter_with t name argument version)))) }
+    ensures { IfOk result (λ slot. (t : Table) (over : Bool)
+        → IsSlot t over slot (IsLive (started serial (enter_with t name argument version)))) }
 {
     let mut arguments = Vec::new(alloc);
     arguments.push(argument)?;
@@ -337,7 +337,7 @@ impl Machine {
     ) -> Result<bool, AllocError>
         requires { slot < length self.old.slots.items }
         ensures moves { let t = table_of self.old.program in (w : World) (before user : SeenThread) (point : ℕ) → StandsBut self.old slot w before
-            → IsUser (versions_of self.old.program) thread user → IsUser (versions_of self.old.program) thread before
+            → IsUser thread user → IsUser thread before
             → Moves self.new w result (return_to (standing_at t w slot thread frame point user) (seen value) (frames_of t thread.below.items)) }
         ensures same { self.new.program ≡ self.old.program }
     {
@@ -362,7 +362,7 @@ impl Machine {
     ) -> Result<bool, AllocError>
         requires { slot < length self.old.slots.items }
         ensures moves { (w : World) (before user : SeenThread) (point : ℕ) → StandsBut self.old slot w before
-            → IsUser (versions_of self.old.program) thread user → IsUser (versions_of self.old.program) thread before
+            → IsUser thread user → IsUser thread before
             → Moves self.new w result (finish_thread (standing_at (table_of self.old.program) w slot thread frame point user) (seen value) slot) }
         ensures same { self.new.program ≡ self.old.program }
     {
@@ -406,7 +406,7 @@ impl Machine {
         self.go_on(slot, thread, frame)
     }
 
-    /// Ends the innermost transaction; the record of the outermost one is closed.
+    /// Ends the innermost transaction, if there is one.
     pub(crate) fn end(&mut self, at: Stopped) -> Result<bool, AllocError>
         requires { at.slot < length self.old.slots.items }
         ensures moves { let t = table_of self.old.program in (w : World) (before user : SeenThread)
@@ -420,15 +420,14 @@ impl Machine {
                 at.thread,
                 Next::Halt(at.frame, Halt::At(Stop::End, at.point)),
             ),
-            1 => self.close(at),
-            _ => self.end_inner(at),
+            _ => self.close(at),
         }
     }
 
-    /// Ends an inner transaction.
-    fn end_inner(&mut self, at: Stopped) -> Result<bool, AllocError>
+    /// Ends the innermost of the transactions that a thread is in.
+    fn close(&mut self, at: Stopped) -> Result<bool, AllocError>
         requires slot { at.slot < length self.old.slots.items }
-        requires depth { 1 < at.thread.depth }
+        requires depth { 0 < at.thread.depth }
         ensures moves { let t = table_of self.old.program in (w : World) (before user : SeenThread)
             → IsStopped self.old at AtEnd w before user
             → Moves self.new w result (end_at (stands_at t w at user) user.depth (gone_on (stands_at t w at user) (newest at.frame.work.values.items))) }
@@ -443,29 +442,6 @@ impl Machine {
         let mut thread = thread;
         let mut frame = frame;
         thread.depth -= 1;
-        frame.standing = point;
-        self.go_on(slot, thread, frame)
-    }
-
-    /// Ends an outermost transaction.
-    fn close(&mut self, at: Stopped) -> Result<bool, AllocError>
-        requires slot { at.slot < length self.old.slots.items }
-        requires depth { at.thread.depth ≡ 1 }
-        ensures moves { let t = table_of self.old.program in (w : World) (before user : SeenThread)
-            → IsStopped self.old at AtEnd w before user
-            → Moves self.new w result (end_at (stands_at t w at user) user.depth (gone_on (stands_at t w at user) (newest at.frame.work.values.items))) }
-        ensures same { self.new.program ≡ self.old.program }
-    {
-        let Stopped {
-            slot,
-            thread,
-            frame,
-            point,
-        } = at;
-        let mut thread = thread;
-        let mut frame = frame;
-        self.closed.push(slot)?;
-        thread.depth = 0;
         frame.standing = point;
         self.go_on(slot, thread, frame)
     }

@@ -4,7 +4,7 @@
 //! Read in this order: `checks` (runs over texts, and what they must do), `runs` (texts, with what each prints and how it
 //! ends), `moves` (what is asked of a run between its moves, and threads that share objects and mutexes), `installs`
 //! (newer texts that are installed while a run goes on), `misuses` (what old code uses that is no longer what it was),
-//! `queries` (where a thread stands, across an install), `evaluation` (where a thread's private work stops).
+//! `queries` (where a thread stands and what its next move uses), `evaluation` (where a thread's private work stops).
 #![tactic(auto)]
 
 #[cfg(test)]

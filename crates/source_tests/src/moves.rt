@@ -1,15 +1,15 @@
 //! What is asked of a run between its moves.
 use crate::checks::{Case, Check, first_wrong, holds};
 use bytecode::TrapKind;
-use source_runner::{SourceMove, SourceRun, SourceState, SourceWait, Span, Stepped};
+use source_runner::{SourceMove, SourceRun, SourceState, SourceWait, Stepped};
 use std::alloc::Global;
 use std::test::Fail;
 
 /// A transaction with an update point.
 const UPDATE: &str = "int main(void) { dsu_tx { dsu_update(); } return 0; }";
 
-/// A move of a slot's thread and what it comes to, how the run is after it, and how many records have a span.
-type Asked = (u8, Stepped, SourceState, usize);
+/// A move of a slot's thread and what it comes to, and how the run is after it.
+type Asked = (u8, Stepped, SourceState);
 
 /// It comes to what a script says, move by move.
 struct Script(&'static [Asked]);
@@ -19,68 +19,54 @@ static SCRIPTS: [Case<Script>; 3] = [
     (
         &["int main(void) { return 7; }"],
         Script(&[
-            (1, Stepped::CannotMove, SourceState::Going, 0),
-            (2, Stepped::CannotMove, SourceState::Going, 0),
-            (9, Stepped::CannotMove, SourceState::Going, 0),
-            (0, Stepped::Done, SourceState::Going, 0),
-            (0, Stepped::Done, SourceState::Finished(7), 0),
-            (0, Stepped::CannotMove, SourceState::Finished(7), 0),
+            (1, Stepped::CannotMove, SourceState::Going),
+            (2, Stepped::CannotMove, SourceState::Going),
+            (9, Stepped::CannotMove, SourceState::Going),
+            (0, Stepped::Done, SourceState::Going),
+            (0, Stepped::Done, SourceState::Finished(7)),
+            (0, Stepped::CannotMove, SourceState::Finished(7)),
         ]),
     ),
-    // A record is open from the begin of its transaction on, and then closed.
+    // The begin and the end of a transaction, and an update point, are moves.
     (
         &[UPDATE],
         Script(&[
-            (0, Stepped::Done, SourceState::Going, 0),
-            (0, Stepped::Done, SourceState::Going, 1),
-            (0, Stepped::Done, SourceState::Going, 1),
-            (0, Stepped::Done, SourceState::Going, 1),
-            (0, Stepped::Done, SourceState::Finished(0), 1),
+            (0, Stepped::Done, SourceState::Going),
+            (0, Stepped::Done, SourceState::Going),
+            (0, Stepped::Done, SourceState::Going),
+            (0, Stepped::Done, SourceState::Going),
+            (0, Stepped::Done, SourceState::Finished(0)),
         ]),
     ),
     // A trap ends the run.
     (
         &["int main(void) { return 1 / 0; }"],
         Script(&[
-            (0, Stepped::Done, SourceState::Going, 0),
-            (0, Stepped::Done, SourceState::Trap(TrapKind::Divide, 0), 0),
+            (0, Stepped::Done, SourceState::Going),
+            (0, Stepped::Done, SourceState::Trap(TrapKind::Divide, 0)),
             (
                 0,
                 Stepped::CannotMove,
                 SourceState::Trap(TrapKind::Divide, 0),
-                0,
             ),
         ]),
     ),
 ];
-
-/// The span of a record of `main`.
-const SPAN: Span = Span {
-    slot: 0,
-    first: 1,
-    last: 1,
-};
 
 impl Check for Script {
     fn holds(&self, _alloc: Global, run: &mut SourceRun) -> Result<bool, Fail> {
         if run.state() != SourceState::Going {
             return Ok(false);
         }
-        for (slot, stepped, state, spans) in self.0 {
+        for (slot, stepped, state) in self.0 {
             if run.can_move(*slot) != (*stepped == Stepped::Done)
                 || run.step(SourceMove::Move(*slot))? != *stepped
                 || run.state() != *state
-                || run.spans().len() != *spans
             {
                 return Ok(false);
             }
         }
-        let is_of_main = match run.spans() {
-            [] => true,
-            [span] => *span == SPAN,
-            _ => false,
-        };
-        Ok(is_of_main && run.output().is_empty() && !run.misused())
+        Ok(run.output().is_empty() && !run.misused())
     }
 }
 

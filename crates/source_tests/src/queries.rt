@@ -1,6 +1,7 @@
-//! Where a thread stands, across an install.
+//! Where a thread stands, across an install, and what its next move uses.
 use crate::checks::{Check, holds};
 use crate::installs::install;
+use source_programs::Name;
 use source_runner::{SourceMove, SourceRun, Stepped};
 use std::alloc::Global;
 use std::test::Fail;
@@ -108,5 +109,63 @@ impl Check for Bare {
 #[test]
 fn slots_without_a_thread_and_texts_are_reported(rt: HostRuntime) -> Result<(), Fail> {
     assert!(rt; holds(rt.alloc(), &[OLD, NEW], &Bare)?);
+    Ok(())
+}
+
+/// A function that a thread starts with, a struct, and a global.
+const USING: &str = r#"struct s { int v; };
+int g;
+int w(int x) { return x; }
+int main(void) {
+  thrd_t t;
+  struct s *p;
+  p = calloc(1, sizeof(struct s));
+  p->v = g;
+  thrd_create(&t, w, 0);
+  thrd_join(t, NULL);
+  return 0;
+}
+"#;
+
+/// A name, and whether it is the tag of a struct.
+type Used = (&'static str, bool);
+
+/// The next moves of its `main` use these names, before which so many threads were started.
+struct Uses(&'static [(Option<Used>, usize)]);
+
+static USES: Uses = Uses(&[
+    (Some(("main", false)), 1),
+    (Some(("s", true)), 1),
+    (Some(("g", false)), 1),
+    (Some(("s", true)), 1),
+    (Some(("w", false)), 1),
+    (None, 2),
+]);
+
+/// Whether the next move of the thread in a slot uses that name.
+fn uses(run: &SourceRun, slot: u8, used: Option<Used>) -> bool {
+    match (run.next_use(slot), used) {
+        (Some(Name::Plain(word)), Some((name, false))) => run.word(word) == name,
+        (Some(Name::Struct(tag)), Some((name, true))) => run.word(tag) == name,
+        (None, None) => true,
+        _ => false,
+    }
+}
+
+impl Check for Uses {
+    fn holds(&self, _alloc: Global, run: &mut SourceRun) -> Result<bool, Fail> {
+        for (used, threads) in self.0 {
+            if !uses(run, 0, *used) || run.threads() != *threads {
+                return Ok(false);
+            }
+            run.step(SourceMove::Move(0))?;
+        }
+        Ok(uses(run, 1, Some(("w", false))) && uses(run, 2, None) && uses(run, 9, None))
+    }
+}
+
+#[test]
+fn what_the_next_move_uses_is_reported(rt: HostRuntime) -> Result<(), Fail> {
+    assert!(rt; holds(rt.alloc(), &[USING], &USES)?);
     Ok(())
 }

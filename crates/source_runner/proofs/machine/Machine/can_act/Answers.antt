@@ -14,5 +14,5 @@ returns-in-At c = λ w slot own h same.
     let f = c.in-Halt.frame in
     c.can_stop.ensures w slot own c.in-At.field-1 (frames_of t th.below.items) h same.depth
     ∙ sym (ap is_some
-    (moves_at (versions_of m.program) t w slot th f c.in-At.stop c.in-At.field-1 c.args.next.now own
+    (moves_at t w slot th f c.in-At.stop c.in-At.field-1 c.args.next.now own
     (c.in-Halt.is ∙ ap (Halt f) c.in-At.is) same))

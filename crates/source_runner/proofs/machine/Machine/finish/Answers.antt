@@ -18,5 +18,5 @@ returns-then-slot-eq0-clause-moves c = λ w before user point but used had.
     (finish_main t w c.args.slot c.args.thread c.args.frame point user (seen c.args.value) _ c.if-slot-eq0.true c.number_of.ensures)
     (record {
       came = subst (λ v. Stands c.keep.new.self v) (with_same _ _ _ before end)
-          (c.keep.ensures.stands _ before before end (trapped (versions_of m.program) t c.args.thread _ before.frames _ before (or_true w.misused) had));
+          (c.keep.ensures.stands _ before before end (trapped t c.args.thread _ before.frames _ before (or_true w.misused) had));
     })

@@ -8,7 +8,7 @@ pub returns-in_ok-push-in-Some-clause-moves : goal.returns-in_ok-push-in-Some-cl
 returns-in_ok-push-in-Some-clause-moves c = λ w before user point but used had.
     let m = c.args.self.now in
     let t = table_of m.program in
-    let goes = returns_to (versions_of m.program) t w c.args.slot c.args.thread c.pop_frame.new.frames c.args.frame c.in-Some.caller c.push.new.values point user
+    let goes = returns_to t w c.args.slot c.args.thread c.pop_frame.new.frames c.args.frame c.in-Some.caller c.push.new.values point user
     c.args.value (c.in-Some.ensures t) c.in_ok-push-in-Some.ensures used in
     moves_as _ w _ _ _ goes.1 (c.go_on.ensures.moves w before goes.0 but goes.2)
 
@@ -17,4 +17,4 @@ returns-in-None-clause-moves c = λ w before user point but used had.
     let m = c.args.self.now in
     let t = table_of m.program in
     moves_as _ w _ _ _ (returns_last t w c.args.slot c.args.thread c.args.frame point user (seen c.args.value) (c.in-None.ensures t).0)
-    (c.finish.ensures.moves w before user point but (user_with _ _ _ _ used) (user_with _ _ _ _ had))
+    (c.finish.ensures.moves w before user point but (user_with _ _ _ used) (user_with _ _ _ had))

@@ -10,7 +10,7 @@ returns-in-Some-clause-moves c = λ w before user at.
     moves_as _ w _ _ _
     (returned (table_of m.program) w c.args.at.slot c.args.at.thread c.args.at.frame c.args.at.point user c.in-Some.value
     (newest_at _ _ c.in-Some.value c.as_slice.ensures.value c.in-Some.ensures))
-    (c.give.ensures.moves w before user c.args.at.point at.but at.used (user_before _ _ _ _ _ _ at.same))
+    (c.give.ensures.moves w before user c.args.at.point at.but at.used (user_before _ _ _ _ _ at.same))
 
 pub returns-in-None-clause-moves : goal.returns-in-None-clause-moves
 returns-in-None-clause-moves c = λ w before user at.
@@ -18,4 +18,4 @@ returns-in-None-clause-moves c = λ w before user at.
     moves_as _ w _ _ _
     (returned_none (table_of m.program) w c.args.at.slot c.args.at.thread c.args.at.frame c.args.at.point user
     (newest_none _ _ c.as_slice.ensures.value c.in-None.ensures))
-    (c.stay.ensures.moves w before at.but (at_over _ _ _ _ _ _ at.going at.same))
+    (c.stay.ensures.moves w before at.but (at_over _ _ _ _ _ at.going at.same))

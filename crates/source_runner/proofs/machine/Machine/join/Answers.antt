@@ -21,4 +21,4 @@ returns-in-None-clause-moves c = λ w before user at.
     let m = c.args.self.now in
     let s = standing_at (table_of m.program) w c.args.at.slot c.args.at.thread c.args.at.frame c.args.at.point user in
     moves_as _ w _ _ _ (no_handle s _ c.args.at.frame.work.values.items c.as_slice.ensures.value (c.in-None.ensures s))
-    (c.stay.ensures.moves w before at.but (at_over _ _ _ _ _ _ at.going at.same))
+    (c.stay.ensures.moves w before at.but (at_over _ _ _ _ _ at.going at.same))

@@ -18,4 +18,4 @@ returns-in-None-clause-moves c = λ w before user at.
     let t = table_of m.program in
     let s = standing_at t w c.args.at.slot c.args.at.thread c.args.at.frame c.args.at.point user in
     moves_as _ w _ _ _ (handle_none s c.args.named _ c.in-None.is)
-    (c.trap.ensures.moves w before (gone_on s s.frame.values) at.but (trapped (versions_of m.program) t c.args.at.thread _ _ true user refl at.used))
+    (c.trap.ensures.moves w before (gone_on s s.frame.values) at.but (trapped t c.args.at.thread _ _ true user refl at.used))

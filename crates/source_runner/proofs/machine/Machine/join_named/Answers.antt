@@ -29,4 +29,4 @@ returns-in-None-clause-moves c = λ w before user at.
     (join_as m c.args.at.slot w before user c.args.at.thread c.args.at.frame c.args.at.point c.args.named (drop 1 (newest c.args.at.frame.work.values.items))
     None at.but
     (found_in slots m.slots.items c.args.at.slot c.args.named c.result_of.result None c.as_slice.ensures.value c.result_of.ensures c.in-None.is))
-    (c.trap.ensures.moves w before (gone_on s s.frame.values) at.but (trapped (versions_of m.program) t c.args.at.thread _ _ true user refl at.used))
+    (c.trap.ensures.moves w before (gone_on s s.frame.values) at.but (trapped t c.args.at.thread _ _ true user refl at.used))

@@ -22,7 +22,7 @@ returns-in-On-clause-moves c = λ w before user at not_threads.
     (c.in_ok-perform.ensures.made at.but.all.program not_threads) c.in-On.is)
     (moves_from _ _ w _ _
     (c.go_on.ensures.moves (with_store t new w) before (gone_on s (newest values.items)) (stored m new c.args.at.slot w before at.but)
-    (went_on (versions_of m.program) t c.args.at.thread c.args.at.frame values c.args.at.point w c.args.at.slot user at.used)))
+    (went_on t c.args.at.thread c.args.at.frame values c.args.at.point w c.args.at.slot user at.used)))
 
 pub returns-in-Trap-clause-moves : goal.returns-in-Trap-clause-moves
 returns-in-Trap-clause-moves c = λ w before user at not_threads.
@@ -35,7 +35,7 @@ returns-in-Trap-clause-moves c = λ w before user at not_threads.
     c.perform.new.values.items at.but (c.in_ok-perform.ensures.made at.but.all.program not_threads) c.in-Trap.is)
     (moves_from _ _ w _ _
     (c.trap.ensures.moves (with_store t new w) before (gone_on s s.frame.values) (stored m new c.args.at.slot w before at.but)
-    (trapped (versions_of m.program) t c.args.at.thread _ _ _ user refl at.used)))
+    (trapped t c.args.at.thread _ _ _ user refl at.used)))
 
 pub returns-in-Nothing-clause-moves : goal.returns-in-Nothing-clause-moves
 returns-in-Nothing-clause-moves c = λ w before user at not_threads.
@@ -48,4 +48,4 @@ returns-in-Nothing-clause-moves c = λ w before user at not_threads.
     (performed_as m c.args.at.slot c.args.at.thread c.args.at.frame c.args.stop c.args.at.point w before user c.in_ok-perform.field-0 Nothing new values.items at.but
     (c.in_ok-perform.ensures.made at.but.all.program not_threads) c.in-Nothing.is)
     (c.stay.ensures.moves w before (same_store m new c.args.at.slot w before kept.0 at.but)
-    (at_over _ _ _ _ _ _ at.going (same_values (versions_of m.program) t _ c.args.at.thread c.args.at.frame _ values before kept.1 at.same)))
+    (at_over _ _ _ _ _ at.going (same_values t _ c.args.at.thread c.args.at.frame _ values before kept.1 at.same)))

@@ -23,4 +23,4 @@ returns-clause-moves c = λ w before user at.
     (moves_from _ _ w _ _
     (c.go_on.ensures.moves _ before (gone_on s (newest values.items)) is.stands
     (ready_in m.program c.start.new.self.program c.args.at.thread _ _ (sym c.in_ok-started.ensures.same)
-    (went_on (versions_of m.program) t c.args.at.thread c.args.at.frame values c.args.at.point w c.args.at.slot user at.used))))
+    (went_on t c.args.at.thread c.args.at.frame values c.args.at.point w c.args.at.slot user at.used))))

@@ -16,7 +16,7 @@ returns-then-not-is_right-clause-moves c = λ w before but going same.
     let below = frames_of t c.args.at.thread.below.items in
     let wrong = sym (c.is_right.ensures w.table but.all.program but.all.history) ∙ c.if-not-is_right.true in
     moves_as _ w _ _ _ (wrong_use s w c.args.at.slot before f below (use_at s) wrong)
-    (c.misuse.ensures.moves w before but (halted_thread _ _ _ true _ _ _ _ refl same))
+    (c.misuse.ensures.moves w before but (halted_thread _ _ true _ _ _ _ refl same))
 
 pub returns-in-Spawn-clause-moves : goal.returns-in-Spawn-clause-moves
 returns-in-Spawn-clause-moves c = λ w before but going same.

@@ -17,7 +17,7 @@ returns-in-Live-clause-moves c = λ w h going.
     moves_as _ w _ _ _ (ap (move_of w slot) there.1)
     (c.act.ensures.moves w there.0
     (taking m _ w slot there.0 h c.in-Some.ensures.item.3.0 (ap (slice_set m.slots.items slot) (c.replace.ensures.after ∙ c.taken.ensures)) there.1)
-    going (not_over _ _ _ _ _ _ going there.2))
+    going (not_over _ _ _ _ _ going there.2))
 
 pub returns-in_default-replace-clause-moves : goal.returns-in_default-replace-clause-moves
 returns-in_default-replace-clause-moves c = λ w h going.

@@ -24,4 +24,4 @@ returns-clause-moves c = λ w before user at apart.
     (but_same _ c.set_free.new.self c.args.at.slot _ before c.set_free.ensures.same
     (put_other m c.set_free.new.self.slots c.args.at.slot c.args.named.slot w before Free world.Free at.but (λ e. apart (sym e)) c.set_free.ensures.slots refl))
     (ready_in m.program c.set_free.new.self.program c.args.at.thread _ _ (sym (ap (λ x. x.program) c.set_free.ensures.same))
-    (went_on (versions_of m.program) t c.args.at.thread c.args.at.frame values c.args.at.point w c.args.at.slot user at.used))))
+    (went_on t c.args.at.thread c.args.at.frame values c.args.at.point w c.args.at.slot user at.used))))

@@ -25,4 +25,4 @@ returns-clause-made c = λ texts limits moves h named are.
     (c.is_none.ensures ∙ ap not c.if-is_none.false) in
     installed_run texts limits moves c.args.number run new h (sym (c.is_over.ensures h.world h.stands) ∙ c.if-is_over.false) below
     (followed.stands h.world h.stands (installs texts limits moves c.args.number run c.args.changes.now h named are))
-    followed.same.0 followed.follows followed.kept.0 followed.kept.1 refl
+    followed.same.0 followed.follows

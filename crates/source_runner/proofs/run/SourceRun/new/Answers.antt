@@ -18,10 +18,9 @@ returns-clause-run c =
     let same = texts_are c.in_ok-program.program c.args.texts.items loaded.texts in
     let some = subst (λ n. 0 < n) (sym (length-map c.args.texts.items text_in)) c.requires in
     let stands = subst (λ ts. Stands m (first_world (slice_index_or ts 0 []) limits)) same (made.stands loaded.sound loaded.first) in
-    first_run texts limits (record { machine = m; spans = c.new.result; counted = 0; failed = false }) some stands
+    first_run texts limits (record { machine = m; failed = false }) some stands
     (ap texts_of made.program ∙ same)
     (ap versions_of made.program ∙ loaded.first ∙ ap (λ ts. slice_index_or ts 0 [] ∷ []) same)
-    (omega (arith, c.ranges.slots.fits)) c.new.ensures.items refl
 
 pub returns-clause-trees : goal.returns-clause-trees
 returns-clause-trees c = ap trees_of c.in_ok-start.ensures.program ∙ c.in_ok-program.ensures.texts
