@@ -2,7 +2,6 @@
 use Rattle.std.proofs.Common.{◌≡◌, ℕ, zero, suc, Bool, List, [], ◌∷◌, map, drop, Option, Some, None, refl, sym, ap, subst, ◌∙◌}
 use Rattle.std.specs.Prelude.{Vec, ℤ}
 use Rattle.std.specs.declared.alloc.Global.{Global}
-use Rattle.c_tree.specs.BareDef.{BareDef}
 use Rattle.c_semantics.specs.Values.{Value as Seen}
 use Rattle.c_semantics.specs.Threads.{Frame as SeenFrame, Thread as SeenThread}
 use Rattle.source_model.specs.Worlds.{World, with_thread, with_slot}
@@ -48,7 +47,7 @@ returns_to t w slot th below f caller values point user v e more h = (
   record {
     serial = h.serial;
     depth = h.depth;
-      entering = h.entering;
+    entering = h.entering;
     frames = ap made (sym more);
   },
 )
@@ -84,7 +83,7 @@ called t over w slot th below f values arguments name count point user args rest
   record {
     serial = h.serial;
     depth = h.depth;
-      does = λ going. (
+    does = λ going. (
       ap (λ vs. Some (record { function = word t name; arguments = vs; version = f.version })) (sym args),
       ap (λ vs. record (frame_at t f point) { values = vs } ∷ frames_of t th.below.items) (sym rest) ∙ sym pushed,
     );

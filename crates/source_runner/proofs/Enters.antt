@@ -4,7 +4,7 @@ use Rattle.c_tree.specs.BareDef.{BareDef}
 use Rattle.bytecode.specs.declared.trap.TrapKind.TheVariants.{Depth}
 use Rattle.c_semantics.specs.Texts.{definition}
 use Rattle.c_semantics.specs.Threads.{Enter as SeenEnter, Thread as SeenThread, entered}
-use Rattle.source_model.specs.Versions.{current, first_table}
+use Rattle.source_model.specs.Versions.{current}
 use Rattle.source_model.specs.Worlds.{World, Trapped, now, with_thread}
 use Rattle.source_model.specs.Uses.{is_right, marked, recorded}
 use Rattle.source_model.specs.Moves.{enter, enter_with, frame_count, frame_of as entered_frame}

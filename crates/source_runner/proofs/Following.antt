@@ -1,21 +1,14 @@
 -- A newer text is installed: threads stay as they are.
-use Rattle.std.proofs.Common.{◌≡◌, ℕ, ◌<◌, Bool, List, [], ◌∷◌, ◌++◌, length, refl, sym, ap, subst, ◌∙◌, arith, All}
-use Rattle.std.proofs.lemmas.List.{length-append, length-map}
+use Rattle.std.proofs.Common.{◌≡◌, ℕ, ◌<◌, List, [], ◌∷◌, ◌++◌, length, sym, ap, subst, ◌∙◌}
 use Rattle.c_tree.specs.BareDef.{BareDef}
-use Rattle.c_semantics.specs.Threads.{Record, Thread as SeenThread}
 use Rattle.source_model.specs.Installs.{installed}
-use Rattle.source_model.specs.Versions.{Table as Versioned, current, next_table}
+use Rattle.source_model.specs.Versions.{current, next_table}
 use Rattle.source_model.specs.Worlds.{World, Closed, is_over}
 use Rattle.source_model.specs.Worlds as world
 use Rattle.version_laws.specs.Histories.{IsHistory, last_text}
-use Rattle.version_laws.proofs.TableHistories.{last_is_next, next_history, one_longer}
+use Rattle.version_laws.proofs.TableHistories.{last_is_next, next_history}
 use Rattle.source_runner.specs.declared.machine.Machine.{Machine}
 use Rattle.source_runner.specs.declared.store.Store.{Store}
-use Rattle.source_runner.specs.declared.thread.Next.{Next}
-use Rattle.source_runner.specs.declared.thread.Slot.{Slot}
-use Rattle.source_runner.specs.declared.thread.Slot.TheVariants.{Free, Live, Over}
-use Rattle.source_runner.specs.declared.thread.Thread.{Thread}
-use Rattle.resolved_tree.specs.Nodes.{Table}
 use Rattle.source_programs.specs.declared.programs.Programs.{Programs}
 use Rattle.source_programs.specs.Programs.{ArePrograms, table_of, text_at, versions_of}
 use Rattle.source_runner.specs.Machines.{IsSlot, Stands, slot_at}

@@ -1,6 +1,5 @@
 -- Where the run ends, what threads would do next is no matter any more.
 use Rattle.std.proofs.Common.{◌≡◌, ℕ, zero, suc, ◌<◌, Bool, true, false, List, [], ◌∷◌, length, slice_index_or, slice_set, Some, refl, sym, ap, subst, ◌∙◌, ◌||◌, arith}
-use Rattle.c_tree.specs.BareDef.{BareDef}
 use Rattle.c_semantics.specs.Threads.{Thread as SeenThread}
 use Rattle.source_model.specs.Worlds.{World, with_thread}
 use Rattle.source_model.specs.Worlds as world

@@ -1,5 +1,5 @@
 -- A run that installs a text.
-use Rattle.std.proofs.Common.{◌≡◌, ℕ, suc, ◌<◌, ◌≤◌, Bool, true, false, List, [], ◌∷◌, ◌++◌, map, length, Option, Some, None, refl, sym, ap, subst, ◌∙◌, if◌then◌else◌, arith, All}
+use Rattle.std.proofs.Common.{◌≡◌, ℕ, ◌<◌, Bool, true, false, List, [], ◌∷◌, ◌++◌, map, length, Option, Some, None, refl, sym, ap, subst, ◌∙◌, if◌then◌else◌, All}
 use Rattle.std.specs.Prelude.{slice_get, slice_index_or}
 use Rattle.c_tree.specs.BareDef.{BareDef}
 use Rattle.source_model.specs.Installs.{installed}
@@ -10,8 +10,7 @@ use Rattle.version_laws.specs.Histories.{last_text, versions_by}
 use Rattle.version_laws.proofs.GlobalsOfRuns.{globals_are_named}
 use Rattle.type_transformers.specs.declared.change.Change.{Change}
 use Rattle.type_transformers.specs.Changes.{IsChange, changing, name_of}
-use Rattle.version_laws.proofs.TableHistories.{one_longer}
-use Rattle.source_programs.specs.Programs.{text_at, texts_of, trees_of, versions_of}
+use Rattle.source_programs.specs.Programs.{text_at, trees_of, versions_of}
 use Rattle.source_runner.specs.Machines.{Stands}
 use Rattle.source_runner.specs.NewData.{IsInstall}
 use Rattle.source_runner.specs.SourceRuns.{IsRun, world_after}

@@ -1,7 +1,6 @@
 -- Joins.
 use Rattle.std.proofs.Common.{◌≡◌, ℕ, ◌==◌, Bool, true, false, List, ◌∷◌, drop, ◌⊎◌, inl, inr, Option, Some, None, option_map, if◌then◌else◌, refl, sym, ap, subst, ◌∙◌}
 use Rattle.std.proofs.lemmas.Bool.{eq-eqb, ne_eqb}
-use Rattle.c_tree.specs.BareDef.{BareDef}
 use Rattle.c_semantics.specs.Values.{Value as Seen}
 use Rattle.c_semantics.specs.Values as value
 use Rattle.c_semantics.specs.Threads.{Thread as SeenThread}

@@ -1,6 +1,5 @@
 -- A thread that comes after a stop, with its private work done.
-use Rattle.std.proofs.Common.{◌≡◌, Bool, List, Some, refl, subst}
-use Rattle.c_tree.specs.BareDef.{BareDef}
+use Rattle.std.proofs.Common.{◌≡◌, Bool, Some, refl, subst}
 use Rattle.c_semantics.specs.Threads.{Thread as SeenThread}
 use Rattle.c_semantics.specs.Evaluation.{local}
 use Rattle.local_evaluation.specs.declared.work.Halt.{Halt}

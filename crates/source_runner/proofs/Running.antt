@@ -1,14 +1,11 @@
 -- One move more of a run.
-use Rattle.std.proofs.Common.{◌≡◌, ℕ, zero, suc, ◌-◌, ◌<◌, ◌≤◌, Bool, true, false, List, [], ◌∷◌, ◌++◌, map, length, take, Option, Some, None, Ok, refl, sym, ap, subst, ◌∙◌, arith}
-use Rattle.std.specs.Prelude.{option_map, replicate, slice_index_or}
-use Rattle.std.proofs.lemmas.List.{length-append, length-map, length-replicate, map-append, take-map}
+use Rattle.std.proofs.Common.{◌≡◌, ℕ, ◌<◌, Bool, true, false, List, [], ◌∷◌, length, Option, Some, None, Ok, refl, sym, ap, subst, ◌∙◌, arith}
+use Rattle.std.specs.Prelude.{option_map, slice_index_or}
 use Rattle.c_tree.specs.BareDef.{BareDef}
-use Rattle.source_model.specs.Versions.{Table}
-use Rattle.source_model.specs.Worlds.{World, Closed, Limits, Free, first_world, is_over}
+use Rattle.source_model.specs.Worlds.{World, Limits, first_world, is_over}
 use Rattle.source_model.specs.Moves.{move}
 use Rattle.source_model.specs.Runs.{SourceMove, Result, result, source_run}
 use Rattle.source_model.specs.Runs as source
-use Rattle.source_model.proofs.Moved.{Keeps, move_keeps, of_outcome}
 use Rattle.version_laws.specs.Histories.{versions_by}
 use Rattle.source_programs.specs.Programs.{texts_of, versions_of}
 use Rattle.source_programs.specs.declared.programs.Programs.{Programs}

@@ -3,14 +3,13 @@ use Rattle.std.proofs.Common.{◌≡◌, ℕ, zero, suc, ◌<◌, Bool, List, []
 use Rattle.std.specs.Prelude.{Vec}
 use Rattle.std.specs.declared.alloc.Global.{Global}
 use Rattle.std.proofs.lemmas.List.{length-set}
-use Rattle.c_tree.specs.BareDef.{BareDef}
 use Rattle.c_semantics.specs.Threads.{Thread as SeenThread}
 use Rattle.source_model.specs.Worlds.{World, is_over, in_slot, with_slot}
 use Rattle.source_model.specs.Worlds as world
 use Rattle.source_runner.specs.declared.thread.Slot.{Slot}
 use Rattle.source_runner.specs.declared.machine.Machine.{Machine}
 use Rattle.resolved_tree.specs.Nodes.{Table}
-use Rattle.source_programs.specs.Programs.{versions_of, table_of}
+use Rattle.source_programs.specs.Programs.{table_of}
 use Rattle.source_runner.specs.Machines.{IsSlot, Stands, StandsBut, slot_at}
 
 -- each slot stands for its own where the others do and the changed one does

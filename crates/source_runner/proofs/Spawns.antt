@@ -5,7 +5,6 @@ use Rattle.std.specs.List.{position, position_or_len}
 use Rattle.std.specs.declared.alloc.Global.{Global}
 use Rattle.std.proofs.lemmas.List.{get_or-set_other, length-set}
 use Rattle.std.proofs.lemmas.List.Recursion.{is_position_or_len}
-use Rattle.c_tree.specs.BareDef.{BareDef}
 use Rattle.c_semantics.specs.Values.{Value as Seen, ThreadRef as SeenRef}
 use Rattle.c_semantics.specs.Values as value
 use Rattle.c_semantics.specs.Threads.{Enter as SeenEnter, Thread as SeenThread, started}
@@ -20,7 +19,7 @@ use Rattle.source_runner.specs.declared.thread.Slot.{Slot}
 use Rattle.source_runner.specs.declared.thread.Slot.TheVariants.{Free, Live, Over}
 use Rattle.source_runner.specs.declared.machine.Machine.{Machine}
 use Rattle.resolved_tree.specs.Nodes.{Table, word}
-use Rattle.source_programs.specs.Programs.{versions_of, table_of}
+use Rattle.source_programs.specs.Programs.{table_of}
 use Rattle.source_runner.specs.Joins.{is_free_slot}
 use Rattle.local_evaluation.specs.Values.{seen}
 use Rattle.local_evaluation.specs.Work.{newest}

@@ -1,21 +1,17 @@
 -- From what a thread is at to the move that the definitions make of it.
-use Rattle.std.proofs.Common.{◌≡◌, ℕ, zero, suc, Bool, true, false, List, [], ◌∷◌, length, Option, Some, None, Result, refl, sym, ap, ap₂, subst, ◌∙◌, if◌then◌else◌, All}
+use Rattle.std.proofs.Common.{◌≡◌, ℕ, Bool, true, false, List, ◌∷◌, Option, Some, None, Result, refl, sym, ap, ap₂, subst, ◌∙◌, if◌then◌else◌}
 use Rattle.std.specs.Option.{option_map_or}
 use Rattle.std.specs.declared.alloc.AllocError.{AllocError}
 use Rattle.std.specs.declared.alloc.Global.{Global}
 use Rattle.std.specs.Prelude.{Vec}
-use Rattle.std.proofs.lemmas.List.Elements.{All-append, All-cons, All-nil}
 use Rattle.c_tree.specs.BareExpr.{Bytes}
-use Rattle.c_tree.specs.BareDef.{BareDef}
 use Rattle.c_semantics.specs.Stops.{Stop as SeenStop}
 use Rattle.c_semantics.specs.Pieces.{Halt as SeenHalt}
-use Rattle.c_semantics.specs.Threads.{Frame as SeenFrame, Record, Thread as SeenThread}
-use Rattle.source_model.specs.Versions.{Table as Versioned, first_table}
-use Rattle.version_laws.specs.Histories.{IsHistory, last_text}
+use Rattle.c_semantics.specs.Threads.{Frame as SeenFrame, Thread as SeenThread}
 use Rattle.bytecode.specs.declared.trap.TrapKind.{TrapKind}
 use Rattle.source_model.specs.Worlds.{World, Trapped, is_over, with_thread}
 use Rattle.source_model.specs.Worlds as world
-use Rattle.source_model.specs.Uses.{use_at, use_of, is_right, recorded, recorded_at, marked}
+use Rattle.source_model.specs.Uses.{use_at, is_right, recorded, marked}
 use Rattle.source_model.specs.Moves.{behind, in_frames, perform, stop_made, with_use}
 use Rattle.resolved_tree.specs.declared.words.Word.{Word}
 use Rattle.local_evaluation.specs.declared.piece.Stop.{Stop}
@@ -31,7 +27,7 @@ use Rattle.resolved_tree.specs.Nodes.{Table}
 use Rattle.source_runner.specs.Stores.{is_threads}
 use Rattle.local_evaluation.specs.Pieces.{pending, stop_of}
 use Rattle.local_evaluation.specs.Work.{newest, scopes_of, went}
-use Rattle.source_programs.specs.Programs.{versions_of, table_of}
+use Rattle.source_programs.specs.Programs.{table_of}
 use Rattle.source_runner.proofs.Halted.{with_same}
 use Rattle.source_runner.specs.Machines.{Moves, IsAtStop, IsFrame, IsThread, IsUser, StandsBut, frame_at, standing_at}
 use Rattle.source_runner.specs.Frames.{frames_of}

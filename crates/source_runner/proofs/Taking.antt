@@ -14,7 +14,7 @@ use Rattle.source_runner.specs.declared.thread.Thread.{Thread}
 use Rattle.source_runner.specs.declared.thread.Slot.{Slot}
 use Rattle.source_runner.specs.declared.thread.Slot.TheVariants.{Free, Live, Over}
 use Rattle.source_runner.specs.declared.machine.Machine.{Machine}
-use Rattle.source_programs.specs.Programs.{versions_of, table_of}
+use Rattle.source_programs.specs.Programs.{table_of}
 use Rattle.source_runner.specs.Machines.{IsSlot, Stands, StandsBut, slot_at}
 
 -- nothing moves in a run that is over, and no thread that waits

@@ -1,19 +1,13 @@
 -- A thread that begins or ends a transaction.
 use Rattle.std.proofs.Common.{◌≡◌, ℕ, zero, suc, ◌+◌, [], ◌∷◌, ◌++◌, Option, Some, refl, sym, ap, ◌∙◌, arith}
-use Rattle.std.proofs.lemmas.List.Elements.{All-nil}
-use Rattle.std.specs.Prelude.{Vec}
-use Rattle.std.specs.declared.alloc.Global.{Global}
-use Rattle.c_tree.specs.BareDef.{BareDef}
 use Rattle.c_semantics.specs.Threads.{Record, Thread as SeenThread}
 use Rattle.source_model.specs.Worlds.{World, with_thread}
-use Rattle.source_model.specs.Worlds as world
 use Rattle.source_model.specs.Moves.{begin_at, end_at, gone_on}
 use Rattle.source_runner.specs.declared.thread.Frame.{Frame}
 use Rattle.source_runner.specs.declared.thread.Thread.{Thread}
 use Rattle.source_runner.specs.declared.machine.Machine.{Machine}
 use Rattle.resolved_tree.specs.Nodes.{Table}
 use Rattle.local_evaluation.specs.Work.{newest}
-use Rattle.source_programs.specs.Programs.{versions_of}
 use Rattle.source_runner.specs.Machines.{IsReady, IsUser, StandsBut, standing_at}
 
 -- what a move makes where it is made: a thread that is ready, in its slot

@@ -1,12 +1,9 @@
 -- The state of a run, as the definitions have it.
-use Rattle.std.specs.Prelude.{◌≡◌, ℕ, suc, ◌<◌, Bool, true, false, IsTrue, List, [], ◌∷◌, map, length, slice_index_or, slice_set, Option, Some, None, option_map, All, Result, IfOk}
-use Rattle.std.specs.Option.{is_some}
+use Rattle.std.specs.Prelude.{◌≡◌, ℕ, suc, ◌<◌, Bool, true, false, List, [], ◌∷◌, map, length, slice_index_or, slice_set, Option, Some, None, option_map, Result, IfOk}
 use Rattle.std.specs.List.{position}
 use Rattle.std.specs.declared.alloc.AllocError.{AllocError}
 use Rattle.c_ints.specs.Number.{value_of}
-use Rattle.c_tree.specs.BareDef.{BareDef}
-use Rattle.c_semantics.specs.Texts.{definition}
-use Rattle.c_semantics.specs.Threads.{Use, Frame as SeenFrame, Enter as SeenEnter, Thread as SeenThread, next_of, started}
+use Rattle.c_semantics.specs.Threads.{Frame as SeenFrame, Enter as SeenEnter, Thread as SeenThread, next_of, started}
 use Rattle.c_semantics.specs.Values.{ThreadRef as SeenRef}
 use Rattle.source_model.specs.Worlds.{World, is_over, in_slot, with_thread}
 use Rattle.source_model.specs.Worlds as world
@@ -34,7 +31,7 @@ use Rattle.local_evaluation.specs.Values.{seen, seen_thread}
 use Rattle.local_evaluation.specs.Pieces.{pending}
 use Rattle.local_evaluation.specs.Work.{newest, scopes_of, went}
 use Rattle.source_runner.specs.Frames.{frame_of, frames_of}
-use Rattle.version_laws.specs.Histories.{IsHistory, last_text}
+use Rattle.version_laws.specs.Histories.{IsHistory}
 use Rattle.source_programs.specs.Programs.{ArePrograms, current_of, table_of, versions_of}
 use Rattle.source_runner.specs.Stores.{with_store}
 

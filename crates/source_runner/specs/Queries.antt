@@ -3,7 +3,7 @@ use Rattle.std.specs.Prelude.{ℕ, List, [], ◌∷◌, Option, Some, None, opti
 use Rattle.std.specs.Option.{option_or}
 use Rattle.c_tree.specs.BareExpr.{Bytes}
 use Rattle.c_semantics.specs.Pieces.{Halt, Stopped}
-use Rattle.c_semantics.specs.Threads.{Frame, Thread, next_of}
+use Rattle.c_semantics.specs.Threads.{Frame, next_of}
 use Rattle.source_model.specs.Uses.{use_at}
 use Rattle.source_model.specs.Worlds.{Slot, Free, Live, Over}
 use Rattle.resolved_tree.specs.Nodes.{Table, word}

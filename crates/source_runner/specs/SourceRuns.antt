@@ -1,5 +1,5 @@
 -- What contracts see of a run, and when it is the run of the definitions.
-use Rattle.std.specs.Prelude.{◌≡◌, ◌≤◌, ◌++◌, [], ◌∷◌, List, length, map, Option, Some, None, Result, IfOk}
+use Rattle.std.specs.Prelude.{◌≡◌, ◌++◌, [], ◌∷◌, List, Option, Some, None, Result, IfOk}
 use Rattle.std.specs.Option.{option_and_then}
 use Rattle.std.specs.declared.alloc.AllocError.{AllocError}
 use Rattle.c_tree.specs.BareDef.{BareDef}

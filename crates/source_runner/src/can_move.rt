@@ -3,7 +3,6 @@ ghost use Rattle.std.specs.Prelude.{◌≡◌, ◌||◌, ℕ, List, drop, false}
 ghost use Rattle.std.specs.Option.{is_some};
 ghost use Rattle.c_ints.specs.Number.{value_of, reduced};
 ghost use Rattle.c_ints.specs.declared.kind.Kind.TheVariants.{I32};
-ghost use Rattle.c_tree.specs.BareDef.{BareDef};
 ghost use Rattle.c_semantics.specs.Threads.{Frame as SeenFrame, Thread as SeenThread};
 ghost use Rattle.source_model.specs.Guards.{frames_lead, leads, move_leads};
 ghost use Rattle.source_model.specs.Moves.{stop_made, thread_move};
@@ -14,7 +13,7 @@ ghost use Rattle.source_runner.specs.Machines.{IsThread, Stands, frame_at};
 ghost use Rattle.source_runner.specs.Makes.{can_make, has_values, is_handle, is_number, is_reference};
 ghost use Rattle.resolved_tree.specs.Nodes.{Table};
 ghost use Rattle.local_evaluation.specs.Pieces.{stop_of};
-ghost use Rattle.source_programs.specs.Programs.{table_of, versions_of};
+ghost use Rattle.source_programs.specs.Programs.{table_of};
 ghost use Rattle.source_runner.specs.States.{as_int, ending_of, state_of};
 ghost use Rattle.local_evaluation.specs.Work.{newest};
 

@@ -1,6 +1,5 @@
 //! The start of a run.
-ghost use Rattle.std.specs.Prelude.{◌≡◌, ◌-◌, ◌∷◌, [], Bool, List, codes, replicate, IfOk};
-ghost use Rattle.c_tree.specs.BareDef.{BareDef};
+ghost use Rattle.std.specs.Prelude.{◌≡◌, ◌-◌, ◌∷◌, [], Bool, codes, replicate, IfOk};
 ghost use Rattle.c_semantics.specs.Threads.{started};
 ghost use Rattle.source_model.specs.Worlds.{first_world, main_enter, Live as IsLive};
 ghost use Rattle.source_runner.specs.declared.thread.Slot.TheVariants.{Free as FreeSlot};

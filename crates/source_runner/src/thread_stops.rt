@@ -1,7 +1,6 @@
 //! Stops that change threads.
-ghost use Rattle.std.specs.Prelude.{◌≡◌, ◌<◌, ◌∷◌, Bool, List, ℕ, drop, length, slice_index_or, slice_set, true, None, option_map, IfOk, IfSome, OnOk, MatchOption};
+ghost use Rattle.std.specs.Prelude.{◌≡◌, ◌<◌, ◌∷◌, Bool, ℕ, drop, length, slice_index_or, slice_set, true, None, option_map, IfOk, IfSome, OnOk, MatchOption};
 ghost use Rattle.c_semantics.specs.Values.{Started as IsStartedValue};
-ghost use Rattle.c_tree.specs.BareDef.{BareDef};
 ghost use Rattle.std.specs.List.{position};
 ghost use Rattle.c_ints.specs.Number.{value_of};
 ghost use Rattle.c_semantics.specs.Threads.{Thread as SeenThread, started};
@@ -13,7 +12,7 @@ ghost use Rattle.source_runner.specs.Frames.{frames_of};
 ghost use Rattle.source_runner.specs.Joins.{is_free_slot, result_of};
 ghost use Rattle.source_runner.specs.Machines.{IsPut, IsSlot, IsStarted, IsStopped, IsUser, Moves, Stands, StandsBut, enter_with, standing_at, stands_at};
 ghost use Rattle.resolved_tree.specs.Nodes.{Table, word};
-ghost use Rattle.source_programs.specs.Programs.{table_of, versions_of};
+ghost use Rattle.source_programs.specs.Programs.{table_of};
 ghost use Rattle.local_evaluation.specs.Values.{seen, seen_thread};
 ghost use Rattle.local_evaluation.specs.Work.{newest};
 

@@ -1,4 +1,4 @@
-use Rattle.source_programs.specs.Programs.{table_of, versions_of}
+use Rattle.source_programs.specs.Programs.{table_of}
 use Rattle.source_runner.proofs.Calls.{called}
 use Rattle.source_runner.proofs.Stopping.{moves_as}
 use Rattle.source_runner.proofs.machine.Machine.call.Goals as goal

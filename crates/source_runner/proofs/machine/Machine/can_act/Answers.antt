@@ -2,7 +2,7 @@ use Rattle.std.proofs.Common.{sym, ap, ◌∙◌}
 use Rattle.std.specs.Option.{is_some}
 use Rattle.source_runner.specs.declared.thread.Next.TheVariants.{Halt}
 use Rattle.source_runner.specs.Frames.{frames_of}
-use Rattle.source_programs.specs.Programs.{table_of, versions_of}
+use Rattle.source_programs.specs.Programs.{table_of}
 use Rattle.source_runner.proofs.Looking.{moves_at}
 use Rattle.source_runner.proofs.machine.Machine.can_act.Goals as goal
 

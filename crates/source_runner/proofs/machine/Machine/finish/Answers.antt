@@ -1,6 +1,6 @@
 use Rattle.std.proofs.Common.{subst}
 use Rattle.source_runner.specs.declared.machine.Finish.TheVariants.{Finished}
-use Rattle.source_programs.specs.Programs.{table_of, versions_of}
+use Rattle.source_programs.specs.Programs.{table_of}
 use Rattle.local_evaluation.specs.Values.{seen}
 use Rattle.source_runner.specs.Machines.{Stands}
 use Rattle.source_runner.proofs.Calls.{finish_main}

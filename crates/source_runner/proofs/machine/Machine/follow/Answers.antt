@@ -1,4 +1,4 @@
-use Rattle.std.proofs.Common.{◌<◌, length, refl, sym, subst}
+use Rattle.std.proofs.Common.{◌<◌, subst}
 use Rattle.std.proofs.lemmas.List.{length-map}
 use Rattle.source_programs.specs.Programs.{table_of, text_at}
 use Rattle.source_runner.proofs.Following.{follows}

@@ -1,4 +1,4 @@
-use Rattle.source_programs.specs.Programs.{table_of, versions_of}
+use Rattle.source_programs.specs.Programs.{table_of}
 use Rattle.local_evaluation.specs.Values.{seen}
 use Rattle.source_runner.proofs.Calls.{returns_last, returns_to}
 use Rattle.source_runner.proofs.Stopping.{moves_as, user_with}

@@ -1,6 +1,6 @@
 use Rattle.std.proofs.Common.{true, refl}
 use Rattle.source_model.specs.Moves.{gone_on}
-use Rattle.source_programs.specs.Programs.{table_of, versions_of}
+use Rattle.source_programs.specs.Programs.{table_of}
 use Rattle.source_runner.specs.Machines.{standing_at}
 use Rattle.source_runner.proofs.Joining.{handle_none, handle_some}
 use Rattle.source_runner.proofs.Stopping.{moves_as}

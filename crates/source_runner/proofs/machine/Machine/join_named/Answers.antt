@@ -1,6 +1,6 @@
 use Rattle.std.proofs.Common.{true, Some, None, refl, drop}
 use Rattle.source_model.specs.Moves.{gone_on}
-use Rattle.source_programs.specs.Programs.{table_of, versions_of}
+use Rattle.source_programs.specs.Programs.{table_of}
 use Rattle.source_runner.specs.Machines.{standing_at}
 use Rattle.local_evaluation.specs.Work.{newest}
 use Rattle.source_runner.proofs.Joining.{found_in, join_as, result_apart}

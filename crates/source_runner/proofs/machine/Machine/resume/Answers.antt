@@ -1,7 +1,7 @@
 use Rattle.std.proofs.Common.{true, refl, ap, ◌∙◌}
 use Rattle.source_model.specs.Worlds.{Trapped}
 use Rattle.source_runner.specs.declared.thread.Next.TheVariants.{Halt}
-use Rattle.source_programs.specs.Programs.{table_of, versions_of}
+use Rattle.source_programs.specs.Programs.{table_of}
 use Rattle.source_runner.specs.Frames.{frames_of}
 use Rattle.source_runner.proofs.Stopping.{ended_same, frame_with, moves_as, resumes_at, stays_at, thread_at, traps_at}
 use Rattle.source_runner.proofs.Halted.{at_over, halted_thread}

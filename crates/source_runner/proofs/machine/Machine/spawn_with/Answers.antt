@@ -1,7 +1,7 @@
 use Rattle.std.proofs.Common.{sym}
 use Rattle.source_model.specs.Moves.{gone_on}
 use Rattle.local_evaluation.specs.declared.value.Value.TheVariants.{Started}
-use Rattle.source_programs.specs.Programs.{table_of, versions_of}
+use Rattle.source_programs.specs.Programs.{table_of}
 use Rattle.local_evaluation.specs.Work.{newest}
 use Rattle.source_runner.specs.Machines.{enter_with, standing_at}
 use Rattle.source_runner.proofs.Spawns.{pushed_on, spawned}

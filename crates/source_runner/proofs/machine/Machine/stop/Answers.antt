@@ -1,7 +1,7 @@
 use Rattle.std.proofs.Common.{true, refl, sym, ◌∙◌}
 use Rattle.source_model.specs.Uses.{use_at}
 use Rattle.local_evaluation.specs.Pieces.{stop_of}
-use Rattle.source_programs.specs.Programs.{table_of, versions_of}
+use Rattle.source_programs.specs.Programs.{table_of}
 use Rattle.source_runner.specs.Machines.{frame_at}
 use Rattle.source_runner.specs.Frames.{frames_of}
 use Rattle.source_runner.proofs.Stopping.{at_stop, moves_as, not_of_threads, stop_as, wrong_use}

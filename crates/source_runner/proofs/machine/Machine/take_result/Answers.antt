@@ -2,7 +2,7 @@ use Rattle.std.proofs.Common.{refl, sym, ap}
 use Rattle.source_model.specs.Worlds as world
 use Rattle.source_model.specs.Moves.{gone_on}
 use Rattle.source_runner.specs.declared.thread.Slot.TheVariants.{Free}
-use Rattle.source_programs.specs.Programs.{table_of, versions_of}
+use Rattle.source_programs.specs.Programs.{table_of}
 use Rattle.local_evaluation.specs.Work.{newest}
 use Rattle.source_runner.specs.Machines.{standing_at}
 use Rattle.source_runner.proofs.Joining.{taken_result}

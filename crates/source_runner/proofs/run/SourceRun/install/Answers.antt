@@ -1,4 +1,4 @@
-use Rattle.std.proofs.Common.{not, refl, sym, ap, ◌∙◌}
+use Rattle.std.proofs.Common.{not, sym, ap, ◌∙◌}
 use Rattle.source_programs.specs.Programs.{trees_of}
 use Rattle.source_runner.proofs.Installing.{installs, installed_run, none_cannot, over_cannot}
 use Rattle.source_runner.proofs.Texts.{asked_none, asked_some}
