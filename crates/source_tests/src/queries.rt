@@ -143,7 +143,7 @@ static USES: Uses = Uses(&[
 ]);
 
 /// Whether the next move of the thread in a slot uses that name.
-fn uses(run: &SourceRun, slot: u8, used: Option<Used>) -> bool {
+fn is_used(run: &SourceRun, slot: u8, used: Option<Used>) -> bool {
     match (run.next_use(slot), used) {
         (Some(Name::Plain(word)), Some((name, false))) => run.word(word) == name,
         (Some(Name::Struct(tag)), Some((name, true))) => run.word(tag) == name,
@@ -155,12 +155,12 @@ fn uses(run: &SourceRun, slot: u8, used: Option<Used>) -> bool {
 impl Check for Uses {
     fn holds(&self, _alloc: Global, run: &mut SourceRun) -> Result<bool, Fail> {
         for (used, threads) in self.0 {
-            if !uses(run, 0, *used) || run.threads() != *threads {
+            if !is_used(run, 0, *used) || run.threads() != *threads {
                 return Ok(false);
             }
             run.step(SourceMove::Move(0))?;
         }
-        Ok(uses(run, 1, Some(("w", false))) && uses(run, 2, None) && uses(run, 9, None))
+        Ok(is_used(run, 1, Some(("w", false))) && is_used(run, 2, None) && is_used(run, 9, None))
     }
 }
 
