@@ -11,7 +11,7 @@ use c_tree::{Array, Binding, CType, Def, DefKind, Function, same_def};
 use source_model::equal_bodies_are_equal;
 
 /// Whether two definitions of one name are the same.
-pub(crate) fn same_definition(a: &Def, b: &Def) -> bool
+pub fn same_definition(a: &Def, b: &Def) -> bool
     ensures { (name : Bytes) → defined (bare_def a.now) ≡ Some name → defined (bare_def b.now) ≡ Some name
         → result ≡ same_definition (bare_def a.now) (bare_def b.now) }
 {

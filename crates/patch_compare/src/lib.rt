@@ -16,7 +16,7 @@ mod comparison;
 mod laws;
 mod lookup;
 
-pub use alike::same_interface;
+pub use alike::{same_definition, same_interface};
 pub use answer::{Changes, CompareFault};
 pub use comparison::compare;
 pub use laws::{lists_are_ordered, same_text_changes_nothing};
