@@ -1,0 +1,11 @@
+pub mod Numbers
+pub mod AmongTexts
+pub mod NextEntries
+pub mod Beginning
+pub mod Tables
+pub mod DifferingNames
+pub mod FollowingTexts
+pub mod Intervals
+pub mod KeptNames
+pub mod AddedUses
+pub mod FollowedUses
