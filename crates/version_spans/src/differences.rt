@@ -4,18 +4,16 @@ ghost use Rattle.std.specs.Option.{option_map};
 ghost use Rattle.c_tree.specs.Bare.{bare_def};
 ghost use Rattle.c_tree.specs.BareExpr.{Bytes};
 ghost use Rattle.name_sets.specs.NameLists.{is_among, name_set};
-ghost use Rattle.c_semantics.specs.Changes.{same_definition};
 ghost use Rattle.c_semantics.specs.Texts.{defined, definition, names};
 ghost use Rattle.version_spans.specs.declared.names.NameForm.{NameForm as Form};
 ghost use Rattle.version_spans.specs.Beginnings.{differ};
 ghost use Rattle.version_spans.specs.Kept.{AreDifferences, name_of, texts_in};
 
 use crate::names::NameSet;
-use c_tree::{Def, DefKind, same_def};
+use c_tree::Def;
 use c_types::Known;
-use patch_compare::same_interface;
+use patch_compare::same_definition;
 use sorted_names::names_in_order;
-use source_model::equal_bodies_are_equal;
 use std::alloc::{AllocError, Global};
 
 /// The names on which two texts differ. Each table is owned by a function of its own, which lends it on.
@@ -120,16 +118,4 @@ fn definition<'a>(known: &Known<'a>, name: &str) -> Option<&'a Def>
     ensures named { IfSome result (λ d. defined (bare_def d.now) ≡ Some name.now) }
 {
     known.declared(name)
-}
-
-/// Whether two definitions of one name are the same.
-fn same_definition(a: &Def, b: &Def) -> bool
-    ensures { (name : Bytes) → defined (bare_def a.now) ≡ Some name → defined (bare_def b.now) ≡ Some name
-        → result ≡ same_definition (bare_def a.now) (bare_def b.now) }
-{
-    equal_bodies_are_equal();
-    match &a.kind {
-        DefKind::Function(_) => same_def(a, b),
-        _ => same_interface(&a.kind, &b.kind),
-    }
 }
