@@ -1,6 +1,7 @@
 -- The install of an admitted patch.
 use Rattle.std.proofs.Common.{◌≡◌, ℕ, zero, suc, ◌+◌, ◌<◌, Bool, true, false, List, [], ◌∷◌, ◌++◌, All, map, length, slice_get, slice_index_or, Option, Some, None, refl, sym, ◌∙◌, ap, subst, arith}
-use Rattle.std.specs.Prelude.{option_map, if◌then◌else◌}
+use Rattle.std.specs.Prelude.{◌||◌, option_map, if◌then◌else◌}
+use Rattle.std.proofs.lemmas.Bool.{true≢false}
 use Rattle.std.proofs.lemmas.List.{append-nil, length-append, map-append}
 use Rattle.std.proofs.lemmas.List.Elements.{All-weaker}
 use Rattle.std.proofs.lemmas.Option.{get_or_from_slice_get, none-some, same_Some}
@@ -21,7 +22,7 @@ use Rattle.source_model.specs.Journals.{happens}
 use Rattle.source_model.specs.Patches.{all_names, last_definitions}
 use Rattle.source_model.specs.Runs.{SourceMove, install, is_live}
 use Rattle.source_model.specs.Runs as source
-use Rattle.source_model.specs.Worlds.{World, alive_in, in_slot, is_over}
+use Rattle.source_model.specs.Worlds.{World, Slot, Free, Live, Over, alive_in, in_slot, is_over}
 use Rattle.version_laws.specs.Histories.{last_text, text_in, versions_by}
 use Rattle.resolved_tree.specs.Nodes.{Table}
 use Rattle.rows_in_force.proofs.LaterBodies.{mark_stays}
@@ -51,6 +52,7 @@ use Rattle.plain_engine.specs.Kept.{ArePinned, IsOfVersion, is_there, mark_of}
 use Rattle.plain_engine.specs.Plain.{AreSeats, IsStateAt}
 use Rattle.plain_engine.specs.Steps.{Happened, IsDecided, IsFollowed, Stayed}
 use Rattle.plain_engine.proofs.Moving.{unmoved}
+use Rattle.plain_engine.proofs.SlotsAfter.{alive_is, from_zero}
 use Rattle.plain_engine.proofs.Deciding.{decides_none, decides_one, not_over, offer_is, says, text_is, within_for}
 
 -- ---- marks over the bodies of one version more
@@ -106,6 +108,25 @@ length_pinned : (rules : Rules) (bodies : List Body) (names : Names) (w : World)
     → length (pinned_from rules bodies names w n ss) ≡ length ss
 length_pinned rules bodies names w n [] = refl
 length_pinned rules bodies names w n (s ∷ ss) = ap suc (length_pinned rules bodies names w (suc n) ss)
+
+pinned_from_at : (rules : Rules) (bodies : List Body) (names : Names) (w : World) (m : ℕ) (ss : List guard.Seat) (i n : ℕ) (now : guard.Seat)
+    → m + i ≡ n → slice_get (pinned_from rules bodies names w m ss) i ≡ Some now
+    → (own : guard.Seat) × (slice_get ss i ≡ Some own) × (now ≡ pinned_seat rules bodies names (alive_in w n) own)
+pinned_from_at rules bodies names w m [] i n now e at = absurd (none-some now at)
+pinned_from_at rules bodies names w m (s ∷ ss) zero n now e at =
+    (s, refl, sym (same_Some _ now at) ∙ ap (λ k. pinned_seat rules bodies names (alive_in w k) s) same)
+  where
+    same : m ≡ n
+    same = omega (arith, e)
+pinned_from_at rules bodies names w m (s ∷ ss) (suc i) n now e at =
+    pinned_from_at rules bodies names w (suc m) ss i n now (omega (arith, e)) at
+
+-- an install pins no slot without a live thread
+dead_unpinned : (rules : Rules) (bodies : List Body) (names : Names) (alive : Slot) (s : guard.Seat) → is_live alive ≡ false → s.pinned ≡ false
+    → (pinned_seat rules bodies names alive s).pinned ≡ false
+dead_unpinned rules bodies names (Live th) s dead e = absurd (true≢false dead)
+dead_unpinned rules bodies names Free s dead e = ap (λ b. b || false) e
+dead_unpinned rules bodies names (Over serial result) s dead e = ap (λ b. b || false) e
 
 pinned_at : (pins : List Bool) (ss : List guard.Seat) (n : ℕ) (now : guard.Seat) → slice_get (with_pins pins ss) n ≡ Some now
     → (own : guard.Seat) × (slice_get ss n ≡ Some own) × (now.mark ≡ own.mark) × (now.at_check_in ≡ own.at_check_in)
@@ -283,6 +304,16 @@ module _ (setup : Setup) (g : Guard) (k : ℕ) (s : State) (at : IsStateAt setup
             pinned = same_Some own.pinned kept.pinned (sym old.4 ∙ was.4);
             there = ap is_there was.2 ∙ base.there ∙ ap is_live (sym (slots_stay n));
             lives = λ e. ap is_live (slots_stay n) ∙ base.lives (sym was.3 ∙ e);
+            idle = λ none.
+                let from =
+                pinned_from_at any_rules (bodies_of g) (changed (last_definitions g.versions) (text_of is.next).definitions) g.world 0 g.seats n n own (from_zero n)
+                (ap (λ ss. slice_get ss n) (pins_set any_rules any_are_rows) ∙ at_own) in
+                let there_not = ap is_there (sym was.2) ∙ none in
+                sym (same_Some own.pinned kept.pinned (sym old.4 ∙ was.4))
+                ∙ ap (λ (x : guard.Seat). x.pinned) from.2
+                ∙ dead_unpinned any_rules (bodies_of g) (changed (last_definitions g.versions) (text_of is.next).definitions) (alive_in g.world n) from.0
+                (ap is_live (alive_is g.world n going) ∙ sym base.there ∙ there_not)
+                (ap (λ (x : guard.Seat). x.pinned) (same_Some from.0 old.0 (sym from.1 ∙ old.1)) ∙ base.pinned ∙ base.idle there_not);
             mark = λ _.
                 old.2 ∙ base.mark on
                 ∙ sym (marks_of_more (words_of s.run) g.versions (text_of is.next) was.0.kept (base.version on))

@@ -21,10 +21,10 @@ use Rattle.source_runner.proofs.AfterMoves.{moved_versions, then_move}
 use Rattle.dsu_runs.proofs.Books.{same_offers}
 use Rattle.plain_engine.specs.declared.seat.Seat.{Seat}
 use Rattle.plain_engine.specs.declared.state.State.{State}
-use Rattle.plain_engine.specs.Kept.{AreAfter, IsSeat}
+use Rattle.plain_engine.specs.Kept.{AreAfter, IsSeat, NoneNew}
 use Rattle.plain_engine.specs.Plain.{AreSeats, IsRunAt, IsStateAt}
 use Rattle.plain_engine.specs.Steps.{MovesTo, Stayed}
-use Rattle.plain_engine.proofs.SlotsAfter.{goes_on, mover, slots_after}
+use Rattle.plain_engine.proofs.SlotsAfter.{goes_on, mover, none_new, slots_after}
 use Rattle.plain_engine.proofs.Standing.{Gives, gives}
 
 -- a move is made where the run goes on and the thread is at no check-in, and only there
@@ -156,3 +156,14 @@ module _ (setup : Setup) (g : Guard) (s : State) (at : IsStateAt setup g s) wher
         grew = keeps.grows.1;
       },
     )
+
+    -- the same of a move that started no thread, by how many were started before and after it
+    pub made_alone : (threads : ℕ) → length s.seats ≡ 16 → Gives (λ x. x.world.threads) setup at.run.moves threads
+        → Gives (λ x. x.world.threads) setup (at.run.moves ++ source.Move slot ∷ []) threads → (later : List Seat)
+        → (NoneNew r.world slot s.seats → AreAfter (words_of new) r.world slot leads s.seats later)
+        → MovesTo setup (Move slot) g (record s { run = new; seats = later }) true
+    made_alone threads many before after later follows =
+        made later
+        (follows (none_new g slot r.world s.run s.seats at.seats many to
+        (gives (λ x. x.world.threads) setup (at.run.moves ++ source.Move slot ∷ []) r.world threads r.ran after
+        ∙ sym (gives (λ x. x.world.threads) setup at.run.moves g.world threads at.run.world before))))

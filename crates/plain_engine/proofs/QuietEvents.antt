@@ -223,6 +223,7 @@ module _ (setup : Setup) (g : Guard) (slot : ℕ) (s : State) (at : IsStateAt se
     pinned = base.pinned;
     there = sym (base.lives (sym base.at_check_in ∙ at_one));
     lives = λ e. absurd (false≢true e);
+    idle = λ e. absurd (false≢true (sym e));
     mark = λ still.
         ap (guard.mark_of (bodies_of g)) (alive_is g.world slot going)
         ∙ slot_mark (words_of s.run) (bodies_of g) are (in_slot g.world slot) frame (framed still);

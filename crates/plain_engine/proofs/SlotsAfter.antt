@@ -1,10 +1,11 @@
 -- The slots after a move are what the definitions make of them.
-use Rattle.std.proofs.Common.{◌≡◌, ℕ, zero, suc, ◌+◌, ◌<◌, Bool, true, false, List, [], ◌∷◌, length, slice_get, Option, Some, None, refl, sym, ◌∙◌, ap, subst, arith}
+use Rattle.std.proofs.Common.{◌≡◌, ℕ, zero, suc, ◌+◌, ◌<◌, ◌≤◌, Bool, true, false, List, [], ◌∷◌, length, slice_get, Option, Some, None, refl, sym, ◌∙◌, ap, subst, arith}
 use Rattle.std.specs.Prelude.{◌≢◌, ◌==◌, ◌&&◌, ◌||◌, option_map, slice_set, if◌then◌else◌}
 use Rattle.std.specs.Option.{is_some}
 use Rattle.std.proofs.lemmas.Bool.{true≢false, false≢true}
 use Rattle.std.proofs.lemmas.Bool.Decides.{nat_tests}
-use Rattle.std.proofs.lemmas.Option.{none-some, same_Some}
+use Rattle.std.proofs.lemmas.Option.{none-some, same_Some, slice_get_within}
+use Rattle.offer_decision.proofs.Filled.{set_here, set_there}
 use Rattle.c_semantics.specs.Store.{Body, Start}
 use Rattle.c_semantics.specs.Threads.{Enter, Thread}
 use Rattle.source_model.specs.Worlds.{World, Finish, Slot, Free, Live, Over, alive_in, in_slot, is_finished, is_over}
@@ -18,9 +19,10 @@ use Rattle.resolved_tree.specs.Nodes.{Table, word}
 use Rattle.resolved_tree.specs.declared.words.Word.{Word}
 use Rattle.source_runner.specs.declared.run.SourceRun.{SourceRun}
 use Rattle.source_runner.specs.SourceRuns.{words_of}
-use Rattle.plain_engine.specs.declared.seat.Kept.TheVariants.{Empty}
+use Rattle.plain_engine.specs.declared.seat.Kept.{Kept}
+use Rattle.plain_engine.specs.declared.seat.Kept.TheVariants.{Empty, Started, Passed}
 use Rattle.plain_engine.specs.declared.seat.Seat.{Seat}
-use Rattle.plain_engine.specs.Kept.{AreAfter, IsAfter, IsMoved, IsNew, IsOfVersion, IsOther, IsSeat, empty, is_there, mark_of, name_of}
+use Rattle.plain_engine.specs.Kept.{AreAfter, IsAfter, IsMoved, IsNew, IsOfVersion, IsOther, IsSeat, NoneNew, empty, is_there, mark_of, name_of}
 use Rattle.plain_engine.specs.Plain.{AreSeats}
 
 -- ---- one slot
@@ -42,6 +44,7 @@ module _ (t : Table) (bodies : List Body) (count : ℕ) (over leads : Bool) wher
     pinned = sym pinned;
     there = ap is_there kept ∙ sym none;
     lives = λ e. absurd (true≢false (sym e ∙ at));
+    idle = λ there_not. pinned;
     mark = λ going. sym (ap (mark_of t bodies) kept);
     version = λ going. subst (IsOfVersion count) (sym kept) tt;
   }
@@ -55,6 +58,7 @@ module _ (t : Table) (bodies : List Body) (count : ℕ) (over leads : Bool) wher
     pinned = ap (λ p. p && in_transaction (Live b)) h.pinned ∙ sym m.pinned;
     there = ap is_there m.kept ∙ h.there;
     lives = λ e. refl;
+    idle = λ there_not. absurd (true≢false (sym (ap is_there m.kept ∙ h.there) ∙ there_not));
     mark = λ going. h.mark refl ∙ ap (mark_of t bodies) (sym m.kept);
     version = λ going. subst (IsOfVersion count) (sym m.kept) (h.version refl);
   }
@@ -71,6 +75,7 @@ module _ (t : Table) (bodies : List Body) (count : ℕ) (over leads : Bool) wher
     pinned = h.pinned;
     there = h.there;
     lives = h.lives;
+    idle = h.idle;
     mark = λ going. h.mark refl;
     version = λ going. h.version refl;
   })
@@ -89,6 +94,7 @@ module _ (t : Table) (bodies : List Body) (count : ℕ) (over leads : Bool) wher
         pinned = refl;
         there = refl;
         lives = λ e. refl;
+        idle = λ e. absurd (true≢false e);
         mark = λ going. ap (λ f. Some (Start f)) (entered t is.0 b.entering (is.2 going));
         version = λ going. tt;
       })
@@ -155,6 +161,37 @@ later_same (y ∷ xs) zero (suc n) x below = refl
 later_same (y ∷ xs) (suc k) zero x below = absurd (omega (arith, below))
 later_same (y ∷ xs) (suc k) (suc n) x below = later_same xs k n x (omega (arith, below))
 
+-- no thread is kept
+unkept : (k : Kept) → is_there k ≡ false → k ≡ Empty
+unkept Empty e = refl
+unkept (Started function) e = absurd (true≢false e)
+unkept (Passed frame) e = absurd (true≢false e)
+
+off : (b : Bool) → (b ≡ true → ⊥) → b ≡ false
+off true never = absurd (never refl)
+off false never = refl
+
+seat_is : (s : Seat) → s.kept ≡ Empty → s.at_check_in ≡ false → s.pinned ≡ false → s ≡ empty
+seat_is s kept at pinned =
+    ap (λ k. record s { kept = k }) kept
+    ∙ ap (λ b. record empty { at_check_in = b; pinned = s.pinned }) at
+    ∙ ap (λ b. record empty { pinned = b }) pinned
+
+-- a slot where no thread is kept is an empty one
+pub unkept_is : (t : Table) (bodies : List Body) (count : ℕ) (over : Bool) (alive : Slot) (kept : Seat) (own : guard.Seat)
+    → IsSeat t bodies count over alive kept own → is_there kept.kept ≡ false → kept ≡ empty
+unkept_is t bodies count over alive kept own h none =
+    seat_is kept (unkept kept.kept none)
+    (off kept.at_check_in (λ at. true≢false (sym (h.lives at) ∙ sym h.there ∙ none)))
+    (h.idle none)
+
+-- another slot that stays as it is
+other_as_is : (t : Table) (w : World) (n : ℕ) (there lives : Bool) (s : Seat) → (there ≡ false → (lives ≡ false) × (s ≡ empty))
+    → IsOther there lives t (is_over w) (in_slot w n) s s
+other_as_is t w n true lives s e = refl
+other_as_is t w n false true s e = absurd (true≢false (e refl).0)
+other_as_is t w n false false s e = (e refl).1
+
 -- what a list of them has after a move
 after_at : (k mover : ℕ) (leads : Bool) (before after : World) (ss : List guard.Seat) (i n : ℕ) (now : guard.Seat) → k + i ≡ n
     → slice_get (seats_from k mover leads before after ss) i ≡ Some now
@@ -208,8 +245,64 @@ same_number i t e = grind (arith, nat_tests, e)
 other_number : (n t : ℕ) → (n == t) ≡ false → n ≢ t
 other_number n t test same = absurd (true≢false (sym (grind (arith, nat_tests, same)) ∙ test))
 
-from_zero : (n : ℕ) → 0 + n ≡ n
+-- where the mover's seat alone is another, the slots are those after a move that started no thread
+pub one_moved : (t : Table) (w : World) (mover : ℕ) (leads : Bool) (seats : List Seat) (old new : Seat) → slice_get seats mover ≡ Some old
+    → IsMoved (in_slot w mover) leads old new → NoneNew w mover seats → AreAfter t w mover leads seats (slice_set seats mover new)
+one_moved t w mover leads seats old new at_old is none n later at = by (n == mover) refl
+  where
+    by : (b : Bool) → (n == mover) ≡ b
+        → (old : Seat) × (slice_get seats n ≡ Some old) × IsAfter t (is_over w) (in_slot w n) (n == mover) leads old later
+    by true test =
+        let same : n ≡ mover = same_number n mover test in (
+          old,
+          ap (slice_get seats) same ∙ at_old,
+          after_as (n == mover) true t (is_over w) (in_slot w n) leads old later test
+              (subst (λ m. IsMoved (in_slot w m) leads old later) (sym same)
+              (subst (IsMoved (in_slot w mover) leads old)
+              (set_here seats mover new later (ap (slice_get (slice_set seats mover new)) (sym same) ∙ at)) is)),
+        )
+    by false test =
+        let was : slice_get seats n ≡ Some later = set_there seats mover n new later (other_number n mover test) at in (
+          later,
+          was,
+          after_as (n == mover) false t (is_over w) (in_slot w n) leads later later test
+              (other_as_is t w n (is_there later.kept) (is_live (in_slot w n)) later (none n later was test)),
+        )
+
+-- no slot has the mover's number
+pub none_moved : (t : Table) (w : World) (mover : ℕ) (leads : Bool) (seats : List Seat) → length seats ≡ 16 → 16 ≤ mover
+    → NoneNew w mover seats → AreAfter t w mover leads seats seats
+none_moved t w mover leads seats many past none n later at =
+    let within = slice_get_within seats n later at in
+    let test = differs n mover (λ same. omega (arith, same, within, many, past)) in (
+      later,
+      at,
+      after_as (n == mover) false t (is_over w) (in_slot w n) leads later later test
+          (other_as_is t w n (is_there later.kept) (is_live (in_slot w n)) later (none n later at test)),
+    )
+
+pub from_zero : (n : ℕ) → 0 + n ≡ n
 from_zero n = omega arith
+
+-- a move that starts no thread makes none live where none is kept
+pub none_new : (g : Guard) (slot : ℕ) (w : World) (old : SourceRun) (seats : List Seat) → AreSeats g old seats
+    → length seats ≡ 16 → move g.world slot ≡ Some w → w.threads ≡ g.world.threads → NoneNew w slot seats
+none_new g slot w old seats are many to same n kept at_kept test none =
+    let going = goes_on g.world (mover g.world w slot to).0 in
+    let own = seat_there g.seats n (let within = slice_get_within seats n kept at_kept in let long = are.many in omega (arith, within, long, many)) in
+    let seat = are.each going n kept own.0 at_kept own.1 in (
+      off (is_live (in_slot w n))
+          (λ lives. true≢false
+          (sym ((of_outcome (Keeps slot g.world) (move g.world slot) w to (move_keeps g.world slot)).settled same n (other_number n slot test) lives)
+          ∙ sym seat.there
+          ∙ none)),
+      unkept_is (words_of old) (bodies_of g) (length g.versions) (is_over g.world) (in_slot g.world n) kept own.0 seat none,
+    )
+  where
+    seat_there : (ss : List guard.Seat) (n : ℕ) → n < length ss → (own : guard.Seat) × (slice_get ss n ≡ Some own)
+    seat_there [] n below = absurd (omega (arith, below))
+    seat_there (s ∷ ss) zero below = (s, refl)
+    seat_there (s ∷ ss) (suc n) below = seat_there ss n (omega (arith, below))
 
 pub slots_after : (g : Guard) (slot : ℕ) (w : World) (old new : SourceRun) (seats later : List Seat) (leads : Bool)
     → AreSeats g old seats → move g.world slot ≡ Some w → move_leads (in_slot g.world slot) ≡ leads → words_of new ≡ words_of old

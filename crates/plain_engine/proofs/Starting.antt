@@ -113,6 +113,7 @@ first_slots setup r function seats slots named is = record {
           pinned = refl;
           there = refl;
           lives = λ e. absurd (false≢true e);
+          idle = λ e. absurd (false≢true (sym e));
           mark = λ on. ap (λ f. Some (Start f)) (entered (words_of r) function (Some main_enter) named);
           version = λ on. tt;
         }))
@@ -125,6 +126,7 @@ first_slots setup r function seats slots named is = record {
           pinned = refl;
           there = sym (ap is_live (in_free (setup.limits.slots - 1) n));
           lives = λ e. absurd (false≢true e);
+          idle = λ e. refl;
           mark = λ on. refl;
           version = λ on. tt;
         }))

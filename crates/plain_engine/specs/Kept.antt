@@ -54,6 +54,7 @@ pub record IsSeat (t : Table) (bodies : List Body) (count : ℕ) (over : Bool) (
   pub pinned : own.pinned ≡ kept.pinned
   pub there : is_there kept.kept ≡ is_live alive
   pub lives : kept.at_check_in ≡ true → is_live alive ≡ true
+  pub idle : is_there kept.kept ≡ false → kept.pinned ≡ false
   pub mark : over ≡ false → own.mark ≡ mark_of t bodies kept.kept
   pub version : over ≡ false → IsOfVersion count kept.kept
 
@@ -84,6 +85,12 @@ abbrev pub AreAfter : Table → World → ℕ → Bool → List Seat → List Se
 AreAfter t w mover leads seats later =
     (n : ℕ) (new : Seat) → slice_get later n ≡ Some new
     → (old : Seat) × (slice_get seats n ≡ Some old) × IsAfter t (is_over w) (in_slot w n) (n == mover) leads old new
+
+-- a move started no thread: a slot other than the mover's in which no thread is kept is empty, and none lives there after it
+abbrev pub NoneNew : World → ℕ → List Seat → Type 0
+NoneNew w mover seats =
+    (n : ℕ) (old : Seat) → slice_get seats n ≡ Some old → (n == mover) ≡ false → is_there old.kept ≡ false
+    → (is_live (in_slot w n) ≡ false) × (old ≡ empty)
 
 -- the slots with other pins
 abbrev pub ArePinned : List Bool → List Seat → List Seat → Type 0

@@ -5,7 +5,7 @@ ghost use Rattle.source_model.specs.Runs.{SourceMove as Made, is_live};
 ghost use Rattle.source_model.specs.Worlds.{Limits, World, in_slot, is_over};
 ghost use Rattle.source_model.specs.Guards.{in_transaction};
 ghost use Rattle.source_runner.specs.SourceRuns.{IsRun, words_of, world_after};
-ghost use Rattle.plain_engine.specs.Kept.{AreAfter, IsAfter, IsMoved, IsOther, is_there};
+ghost use Rattle.plain_engine.specs.Kept.{AreAfter, IsAfter, IsMoved, IsOther, NoneNew, is_there};
 
 use crate::seat::Seat;
 use source_runner::SourceRun;
@@ -69,7 +69,8 @@ fn after(run: &SourceRun, seat: Seat, slot: u8, mover: u8, leads: bool) -> Seat
     }
 }
 
-/// Makes the slots those after a move of the thread in slot `mover`, by whether the move led to a check-in.
+/// Makes the slots those after a move of the thread in slot `mover`, by whether the move led to a check-in. Each slot in
+/// which no thread was is looked at, since one may be new.
 pub(crate) fn follow_move(run: &SourceRun, seats: &mut [Seat; 16], mover: u8, leads: bool)
     ensures { (texts : List (List BareDef)) (limits : Limits) (moves : List Made) (w : World)
         → IsRun texts limits moves run.now → world_after texts limits moves ≡ Some w
@@ -79,4 +80,16 @@ pub(crate) fn follow_move(run: &SourceRun, seats: &mut [Seat; 16], mover: u8, le
         let seat = seats[slot as usize];
         seats[slot as usize] = after(run, seat, slot, mover, leads);
     }
+}
+
+/// The same of a move that started no thread: the other slots stay.
+pub(crate) fn follow_mover(run: &SourceRun, seats: &mut [Seat; 16], mover: u8, leads: bool)
+    ensures { (texts : List (List BareDef)) (limits : Limits) (moves : List Made) (w : World)
+        → IsRun texts limits moves run.now → world_after texts limits moves ≡ Some w → NoneNew w mover seats.old
+        → AreAfter (words_of run.now) w mover leads seats.old seats.new }
+{
+    if mover >= 16 {
+        return;
+    }
+    seats[mover as usize] = moved(run, seats[mover as usize], mover, leads);
 }

@@ -10,7 +10,7 @@ ghost use Rattle.plain_engine.specs.declared.seat.Kept.TheVariants.{Passed};
 ghost use Rattle.plain_engine.specs.Plain.{AreSeats, IsRunAt, IsStateAt};
 ghost use Rattle.plain_engine.specs.Steps.{ComesTo, MovesTo};
 
-use crate::moves::follow_move;
+use crate::moves::{follow_move, follow_mover};
 use crate::seat::{Kept, Seat};
 use c_types::Typed;
 use dsu_runs::Book;
@@ -114,10 +114,15 @@ impl State {
         }
         // Where the move leads is asked before it is made.
         let leads = self.run.leads(slot);
+        let threads = self.run.threads();
         match self.run.step(SourceMove::Move(slot))? {
             Stepped::CannotMove => Ok(false),
             Stepped::Done => {
-                follow_move(&self.run, &mut self.seats, slot, leads);
+                if self.run.threads() == threads {
+                    follow_mover(&self.run, &mut self.seats, slot, leads);
+                } else {
+                    follow_move(&self.run, &mut self.seats, slot, leads);
+                }
                 Ok(true)
             }
         }
