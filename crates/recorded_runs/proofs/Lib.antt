@@ -1,0 +1,3 @@
+pub mod MovedRecords
+pub mod KeptRecords
+pub mod Runs

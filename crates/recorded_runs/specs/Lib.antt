@@ -1,0 +1,2 @@
+pub mod MoveRecords
+pub mod RecordedRuns
