@@ -14,7 +14,7 @@ ghost use Rattle.source_programs.specs.Programs.{name_of as word_name, text_in};
 ghost use Rattle.source_runner.specs.declared.run.SourceMove.TheVariants.{Move};
 ghost use Rattle.source_runner.specs.Queries.{use_due};
 ghost use Rattle.source_runner.specs.declared.run.SourceRun.{SourceRun};
-ghost use Rattle.source_runner.specs.SourceRuns.{IsRun, trees_of, words_of};
+ghost use Rattle.source_runner.specs.SourceRuns.{IsRun, KeepsTexts, trees_of, words_of};
 ghost use Rattle.version_spans.specs.Beginnings.{IsTableOf, is_defined};
 ghost use Rattle.version_spans.specs.Kept.{AreBeginnings, span_of};
 ghost use Rattle.recorded_runs.specs.MoveRecords.{uses_by, with_uses};
@@ -52,7 +52,8 @@ impl RecordedRun {
         slots: u8,
     ) -> Result<RecordedRun, AllocError>
         requires { 0 < length texts.items }
-        ensures { IfOk result (IsRecorded (map text_in texts.items) (record { objects = objects; slots = slots }) []) }
+        ensures run { IfOk result (IsRecorded (map text_in texts.items) (record { objects = objects; slots = slots }) []) }
+        ensures trees { IfOk result (λ r. trees_of r.run ≡ texts.items) }
     {
         let began = Began::new(alloc, &texts[0])?;
         let records = Records::new(alloc, (slots as usize).max(1))?;
@@ -71,6 +72,7 @@ impl RecordedRun {
             → Steps texts limits moves m self.new result }
         ensures fails { OnErr result (self.new.failed ≡ true) }
         ensures failed { self.old.failed ≡ true → result ≡ Err (record {}) }
+        ensures same { KeepsTexts self.old.run self.new.run }
     {
         if self.failed {
             return Err(AllocError);
@@ -84,8 +86,9 @@ impl RecordedRun {
 
     /// Makes a move, if it can be made.
     fn make(&mut self, m: SourceMove) -> Result<Stepped, AllocError>
-        ensures { (texts : List (List BareDef)) (limits : Limits) (moves : List Made) → IsRecorded texts limits moves self.old
+        ensures stepped { (texts : List (List BareDef)) (limits : Limits) (moves : List Made) → IsRecorded texts limits moves self.old
             → Steps texts limits moves m self.new result }
+        ensures same { KeepsTexts self.old.run self.new.run }
     {
         match m {
             SourceMove::Move(slot) => self.make_move(slot),
@@ -94,8 +97,9 @@ impl RecordedRun {
 
     /// Makes the move of the thread in a slot, if it can be made, and records it.
     fn make_move(&mut self, slot: u8) -> Result<Stepped, AllocError>
-        ensures { (texts : List (List BareDef)) (limits : Limits) (moves : List Made) → IsRecorded texts limits moves self.old
+        ensures stepped { (texts : List (List BareDef)) (limits : Limits) (moves : List Made) → IsRecorded texts limits moves self.old
             → Steps texts limits moves (Move slot) self.new result }
+        ensures same { KeepsTexts self.old.run self.new.run }
     {
         let used = self.run.next_use(slot);
         match self.run.step(SourceMove::Move(slot))? {
@@ -109,10 +113,11 @@ impl RecordedRun {
 
     /// Records the move that the thread in a slot has made, which used a name or none.
     fn record_move(&mut self, slot: u8, used: Option<Name>) -> Result<(), AllocError>
-        ensures { (texts : List (List BareDef)) (limits : Limits) (moves : List Made) (before : SourceRun)
+        ensures moved { (texts : List (List BareDef)) (limits : Limits) (moves : List Made) (before : SourceRun)
             → IsRecorded texts limits moves (record self.old { run = before }) → IsRun texts limits (moves ++ MoveOf slot ∷ []) self.old.run
             → option_map (λ x. use_due (in_slot x.world slot)) (source_run texts limits moves) ≡ Some (option_map (word_name (words_of self.old.run)) used)
             → OnOk result (IsRecorded texts limits (moves ++ MoveOf slot ∷ []) self.new) }
+        ensures run { self.new.run ≡ self.old.run }
     {
         records_follow_moves();
         tables_of_runs();
@@ -133,6 +138,7 @@ impl RecordedRun {
             → IfOk result (CameBy texts limits moves (Install number) self.new) }
         ensures stays { OnErr result ((texts : List (List BareDef)) (limits : Limits) (moves : List Made) → IsRecorded texts limits moves self.old
             → IsRecorded texts limits moves self.new) }
+        ensures same { KeepsTexts self.old.run self.new.run }
     {
         tables_of_runs();
         if self.run.text(number).is_none() {

@@ -6,7 +6,7 @@ use Rattle.recorded_runs.specs.RecordedRuns.{Steps}
 use Rattle.recorded_runs.proofs.Runs.{by_slot}
 use Rattle.recorded_runs.proofs.run.RecordedRun.make.Goals as goal
 
-pub returns : goal.returns
-returns c = λ texts limits moves h.
+pub returns-clause-stepped : goal.returns-clause-stepped
+returns-clause-stepped c = λ texts limits moves h.
     subst (λ m. Steps texts limits moves m c.make_move.new.self c.make_move.result)
-    (by_slot (λ m. Move (values_d enum 0 (0, tt) m).0 ≡ m) (λ slot. refl) c.args.m) (c.make_move.ensures texts limits moves h)
+    (by_slot (λ m. Move (values_d enum 0 (0, tt) m).0 ≡ m) (λ slot. refl) c.args.m) (c.make_move.ensures.stepped texts limits moves h)

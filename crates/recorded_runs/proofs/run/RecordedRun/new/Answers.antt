@@ -5,8 +5,8 @@ use Rattle.version_spans.specs.Kept.{AreBeginnings}
 use Rattle.recorded_runs.proofs.Runs.{first_run, first_text}
 use Rattle.recorded_runs.proofs.run.RecordedRun.new.Goals as goal
 
-pub returns : goal.returns
-returns c =
+pub returns-clause-run : goal.returns-clause-run
+returns-clause-run c =
     let limits : Limits = record { objects = c.args.objects; slots = c.args.slots } in
     let records = c.in_ok-records.ensures in
     first_run (map text_in c.args.texts.items) limits _ c.max.result c.in_ok-new.ensures.run records.0

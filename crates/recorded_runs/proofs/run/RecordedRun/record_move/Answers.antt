@@ -12,8 +12,8 @@ use Rattle.recorded_runs.specs.RecordedRuns.{AreKept, changed_at, open_in, stand
 use Rattle.recorded_runs.proofs.Runs.{after_move, answered, is_moved, settled, slot_within, stayed, table_is}
 use Rattle.recorded_runs.proofs.run.RecordedRun.record_move.Goals as goal
 
-pub returns-then-misused : goal.returns-then-misused
-returns-then-misused c = λ texts limits moves before h g uses.
+pub returns-then-misused-clause-moved : goal.returns-then-misused-clause-moved
+returns-then-misused-clause-moved c = λ texts limits moves before h g uses.
     let slot = c.args.slot in
     let later = moves ++ Move slot ∷ [] in
     let moved = is_moved texts limits moves slot before c.args.self.now.run h.run g in
@@ -22,8 +22,8 @@ returns-then-misused c = λ texts limits moves before h g uses.
     (stayed h.run.world g.world c.args.self.now.records slot moved ((c.records_follow_moves.ensures h.run.world g.world slot moved).0 misused) h.records)
     refl refl refl
 
-pub returns : goal.returns
-returns c = λ texts limits moves before h g uses.
+pub returns-clause-moved : goal.returns-clause-moved
+returns-clause-moved c = λ texts limits moves before h g uses.
     let slot = c.args.slot in
     let run = c.args.self.now.run in
     let later = moves ++ Move slot ∷ [] in
