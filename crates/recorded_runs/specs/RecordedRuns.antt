@@ -31,6 +31,7 @@ IsOpen table None (Some uses) = ⊥
 abbrev pub IsClosed : Table → ClosedRecord → Closed → Type 0
 IsClosed table c own = (own.slot ≡ c.slot) × IsKept table own.uses c.kept
 
+-- those of all that were closed, in their order
 abbrev pub AreClosed : Table → List ClosedRecord → List Closed → Type 0
 AreClosed table [] [] = Unit {0}
 AreClosed table (c ∷ more) (own ∷ others) = IsClosed table c own × AreClosed table more others
@@ -59,10 +60,12 @@ changed_at t changed slots k = if k == t then changed else slots k
 abbrev pub stand_in : Slot → Stand
 stand_in s = if in_transaction s then Inside else (if is_live s then Outside else Gone)
 
+-- whether it is in a transaction
 abbrev pub is_inside : Stand → Bool
 is_inside Inside = true
 is_inside _ = false
 
+-- whether it goes on in none, so that a record it had is closed
 abbrev pub has_left : Stand → Bool
 has_left Outside = true
 has_left _ = false

@@ -6,12 +6,12 @@ use std::alloc::{AllocError, Global};
 use std::test::Fail;
 
 /// How many slots there are, and how many objects may live at once.
-const SLOTS: u8 = 4;
+pub(crate) const SLOTS: u8 = 4;
 
-const OBJECTS: u32 = 2;
+pub(crate) const OBJECTS: u32 = 2;
 
 /// More turns than any of these texts takes.
-const TURNS: usize = 1000;
+pub(crate) const TURNS: usize = 1000;
 
 /// The end of most runs.
 pub(crate) const DONE: SourceState = SourceState::Finished(0);
@@ -34,7 +34,7 @@ pub(crate) fn read(alloc: Global, text: &str) -> Result<Typed, Fail> {
 }
 
 /// The trees of some texts.
-fn read_all(alloc: Global, sources: &[&str]) -> Result<Vec<Typed>, Fail> {
+pub(crate) fn read_all(alloc: Global, sources: &[&str]) -> Result<Vec<Typed>, Fail> {
     let mut texts = Vec::new(alloc);
     for source in sources {
         texts.push(read(alloc, *source)?)?;

@@ -217,7 +217,7 @@ static MUTEXES: [Case<Installs>; 4] = [
 ];
 
 /// The changes from one of a run's texts to another.
-fn changes_between(
+pub(crate) fn changes_between(
     alloc: Global,
     run: &SourceRun,
     from: usize,
