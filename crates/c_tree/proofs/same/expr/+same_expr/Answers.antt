@@ -2,7 +2,7 @@ use Rattle.std.proofs.Common.{rules, ◌≡◌, map, ◌<◌, length, arith, ap,
 use Rattle.c_tree.specs.declared.expr.ExprNode.TheVariants.{Number, Character, Null, Success, Error, Variable, Unary, Step, Cast, Binary, And, Or, Choice, Assign, Update, Call, Element, Arrow, Dot, Print, Calloc, Free, Create, Join, JoinInto, InitMutex, Lock, Unlock}
 use Rattle.c_tree.specs.Bare.{bare_arguments, bare_expr}
 use Rattle.c_tree.proofs.Lists.{equal_at}
-use Rattle.c_tree.proofs.Exprs.{arguments_once, of_call, of_print}
+use Rattle.c_tree.proofs.Exprs.{arguments_once, of_call, of_print, of_number, of_character, of_null, of_success, of_error, of_variable, of_unary, of_step, of_cast, of_binary, of_and, of_or, of_choice, of_assign, of_update, of_element, of_arrow, of_dot, of_calloc, of_free, of_create, of_join, of_join_into, of_init_mutex, of_lock, of_unlock}
 use Rattle.c_tree.proofs.Forms.{same_form}
 use Rattle.c_tree.proofs.same.expr.+same_expr.Goals as goal
 
@@ -273,3 +273,159 @@ same_exprs-returns-then-not-same_expr t c = (
       let r = c.same_expr.ensures.1 k in
       search (rules, r),
 )
+
+pub same_expr-returns-in-Number-node : goal.same_expr-returns-in-Number-node
+same_expr-returns-in-Number-node t c =
+    let p = of_number _ _ c.in-Number.is in
+    let q = of_number _ _ c.in-Number-node.is in
+    search (rules, p, q)
+
+pub same_expr-returns-in-Character-node : goal.same_expr-returns-in-Character-node
+same_expr-returns-in-Character-node t c =
+    let p = of_character _ _ c.in-Character.is in
+    let q = of_character _ _ c.in-Character-node.is in
+    search (rules, p, q)
+
+pub same_expr-returns-in-Null-node : goal.same_expr-returns-in-Null-node
+same_expr-returns-in-Null-node t c =
+    let p = of_null _ c.in-Null.is in
+    let q = of_null _ c.in-Null-node.is in
+    search (rules, p, q)
+
+pub same_expr-returns-in-Success-node : goal.same_expr-returns-in-Success-node
+same_expr-returns-in-Success-node t c =
+    let p = of_success _ c.in-Success.is in
+    let q = of_success _ c.in-Success-node.is in
+    search (rules, p, q)
+
+pub same_expr-returns-in-Error-node : goal.same_expr-returns-in-Error-node
+same_expr-returns-in-Error-node t c =
+    let p = of_error _ c.in-Error.is in
+    let q = of_error _ c.in-Error-node.is in
+    search (rules, p, q)
+
+pub same_expr-returns-in-Variable-node : goal.same_expr-returns-in-Variable-node
+same_expr-returns-in-Variable-node t c =
+    let p = of_variable _ _ c.in-Variable.is in
+    let q = of_variable _ _ c.in-Variable-node.is in
+    search (rules, p, q)
+
+pub same_expr-returns-then-eq : goal.same_expr-returns-then-eq
+same_expr-returns-then-eq t c =
+    let p = of_unary _ _ _ c.in-Unary.is in
+    let q = of_unary _ _ _ c.in-Unary-node.is in
+    search (rules, p, q)
+
+pub same_expr-returns-then-eq-2 : goal.same_expr-returns-then-eq-2
+same_expr-returns-then-eq-2 t c =
+    let p = of_step _ _ _ c.in-Step.is in
+    let q = of_step _ _ _ c.in-Step-node.is in
+    search (rules, p, q)
+
+pub same_expr-returns-then-same_type : goal.same_expr-returns-then-same_type
+same_expr-returns-then-same_type t c =
+    let p = of_cast _ _ _ c.in-Cast.is in
+    let q = of_cast _ _ _ c.in-Cast-node.is in
+    search (rules, p, q)
+
+pub same_expr-returns-then-same_part : goal.same_expr-returns-then-same_part
+same_expr-returns-then-same_part t c =
+    let p = of_binary _ _ _ _ c.in-Binary.is in
+    let q = of_binary _ _ _ _ c.in-Binary-node.is in
+    search (rules, p, q)
+
+pub same_expr-returns-then-same_part-2 : goal.same_expr-returns-then-same_part-2
+same_expr-returns-then-same_part-2 t c =
+    let p = of_and _ _ _ c.in-And.is in
+    let q = of_and _ _ _ c.in-And-node.is in
+    search (rules, p, q)
+
+pub same_expr-returns-then-same_part-3 : goal.same_expr-returns-then-same_part-3
+same_expr-returns-then-same_part-3 t c =
+    let p = of_or _ _ _ c.in-Or.is in
+    let q = of_or _ _ _ c.in-Or-node.is in
+    search (rules, p, q)
+
+pub same_expr-returns-then-same_part-5 : goal.same_expr-returns-then-same_part-5
+same_expr-returns-then-same_part-5 t c =
+    let p = of_choice _ _ _ _ c.in-Choice.is in
+    let q = of_choice _ _ _ _ c.in-Choice-node.is in
+    search (rules, p, q)
+
+pub same_expr-returns-then-same_part-6 : goal.same_expr-returns-then-same_part-6
+same_expr-returns-then-same_part-6 t c =
+    let p = of_assign _ _ _ c.in-Assign.is in
+    let q = of_assign _ _ _ c.in-Assign-node.is in
+    search (rules, p, q)
+
+pub same_expr-returns-then-same_part-7 : goal.same_expr-returns-then-same_part-7
+same_expr-returns-then-same_part-7 t c =
+    let p = of_update _ _ _ _ c.in-Update.is in
+    let q = of_update _ _ _ _ c.in-Update-node.is in
+    search (rules, p, q)
+
+pub same_expr-returns-then-eq-6 : goal.same_expr-returns-then-eq-6
+same_expr-returns-then-eq-6 t c =
+    let p = of_element _ _ _ c.in-Element.is in
+    let q = of_element _ _ _ c.in-Element-node.is in
+    search (rules, p, q)
+
+pub same_expr-returns-then-eq-7 : goal.same_expr-returns-then-eq-7
+same_expr-returns-then-eq-7 t c =
+    let p = of_arrow _ _ _ c.in-Arrow.is in
+    let q = of_arrow _ _ _ c.in-Arrow-node.is in
+    search (rules, p, q)
+
+pub same_expr-returns-then-eq-8 : goal.same_expr-returns-then-eq-8
+same_expr-returns-then-eq-8 t c =
+    let p = of_dot _ _ _ c.in-Dot.is in
+    let q = of_dot _ _ _ c.in-Dot-node.is in
+    search (rules, p, q)
+
+pub same_expr-returns-in-Calloc-node : goal.same_expr-returns-in-Calloc-node
+same_expr-returns-in-Calloc-node t c =
+    let p = of_calloc _ _ c.in-Calloc.is in
+    let q = of_calloc _ _ c.in-Calloc-node.is in
+    search (rules, p, q)
+
+pub same_expr-returns-in-Free-node : goal.same_expr-returns-in-Free-node
+same_expr-returns-in-Free-node t c =
+    let p = of_free _ _ c.in-Free.is in
+    let q = of_free _ _ c.in-Free-node.is in
+    search (rules, p, q)
+
+pub same_expr-returns-then-same_part-8 : goal.same_expr-returns-then-same_part-8
+same_expr-returns-then-same_part-8 t c =
+    let p = of_create _ _ _ _ c.in-Create.is in
+    let q = of_create _ _ _ _ c.in-Create-node.is in
+    search (rules, p, q)
+
+pub same_expr-returns-in-Join-node : goal.same_expr-returns-in-Join-node
+same_expr-returns-in-Join-node t c =
+    let p = of_join _ _ c.in-Join.is in
+    let q = of_join _ _ c.in-Join-node.is in
+    search (rules, p, q)
+
+pub same_expr-returns-then-same_part-9 : goal.same_expr-returns-then-same_part-9
+same_expr-returns-then-same_part-9 t c =
+    let p = of_join_into _ _ _ c.in-JoinInto.is in
+    let q = of_join_into _ _ _ c.in-JoinInto-node.is in
+    search (rules, p, q)
+
+pub same_expr-returns-in-InitMutex-node : goal.same_expr-returns-in-InitMutex-node
+same_expr-returns-in-InitMutex-node t c =
+    let p = of_init_mutex _ _ c.in-InitMutex.is in
+    let q = of_init_mutex _ _ c.in-InitMutex-node.is in
+    search (rules, p, q)
+
+pub same_expr-returns-in-Lock-node : goal.same_expr-returns-in-Lock-node
+same_expr-returns-in-Lock-node t c =
+    let p = of_lock _ _ c.in-Lock.is in
+    let q = of_lock _ _ c.in-Lock-node.is in
+    search (rules, p, q)
+
+pub same_expr-returns-in-Unlock-node : goal.same_expr-returns-in-Unlock-node
+same_expr-returns-in-Unlock-node t c =
+    let p = of_unlock _ _ c.in-Unlock.is in
+    let q = of_unlock _ _ c.in-Unlock-node.is in
+    search (rules, p, q)

@@ -1,7 +1,7 @@
 use Rattle.std.proofs.Common.{rules, ◌≡◌, map, ◌<◌, length, arith, ap, sym, ◌∙◌}
 use Rattle.c_tree.specs.Bare.{bare_block, bare_stmt}
 use Rattle.c_tree.proofs.Lists.{equal_at}
-use Rattle.c_tree.proofs.Stmts.{block_once, of_transaction}
+use Rattle.c_tree.proofs.Stmts.{block_once, of_transaction, of_if, of_if_else, of_while, of_do_while, of_for}
 use Rattle.c_tree.proofs.StmtForms.{same_form}
 use Rattle.c_tree.proofs.same.stmt.+same_stmt.Goals as goal
 
@@ -155,3 +155,33 @@ same_stmt-returns-in_default-node-14 t c = (
       let same = same_form _ _ _ c.in-Transaction.is e in
       absurd (c.in_default-node-14.not-Transaction same.0 same.1 same.2),
 )
+
+pub same_stmt-returns-then-same_expr : goal.same_stmt-returns-then-same_expr
+same_stmt-returns-then-same_expr t c =
+    let p = of_if _ _ _ c.in-If.is in
+    let q = of_if _ _ _ c.in-If-node.is in
+    search (rules, p, q)
+
+pub same_stmt-returns-then-same_inner : goal.same_stmt-returns-then-same_inner
+same_stmt-returns-then-same_inner t c =
+    let p = of_if_else _ _ _ _ c.in-IfElse.is in
+    let q = of_if_else _ _ _ _ c.in-IfElse-node.is in
+    search (rules, p, q)
+
+pub same_stmt-returns-then-same_expr-3 : goal.same_stmt-returns-then-same_expr-3
+same_stmt-returns-then-same_expr-3 t c =
+    let p = of_while _ _ _ c.in-While.is in
+    let q = of_while _ _ _ c.in-While-node.is in
+    search (rules, p, q)
+
+pub same_stmt-returns-then-same_expr-4 : goal.same_stmt-returns-then-same_expr-4
+same_stmt-returns-then-same_expr-4 t c =
+    let p = of_do_while _ _ _ c.in-DoWhile.is in
+    let q = of_do_while _ _ _ c.in-DoWhile-node.is in
+    search (rules, p, q)
+
+pub same_stmt-returns-then-same_optional-2 : goal.same_stmt-returns-then-same_optional-2
+same_stmt-returns-then-same_optional-2 t c =
+    let p = of_for _ _ _ _ _ c.in-For.is in
+    let q = of_for _ _ _ _ _ c.in-For-node.is in
+    search (rules, p, q)
