@@ -18,8 +18,8 @@ pub fn evaluate(trees: &Trees, work: &mut Work) -> Result<Halt, AllocError>
         ≡ went t (Some halt) (pending t work.new.pieces.items) (newest work.new.values.items) (scopes_of t work.new.scopes.items)) }
 {
     while let Some(piece) = next(&mut work.pieces) {
-        if let Some(halt) = step(trees, work, piece)? {
-            return Ok(halt);
+        if let Some(end) = step(trees, work, piece)? {
+            return Ok(end.halt(piece));
         }
     }
     Ok(Halt::Nothing)

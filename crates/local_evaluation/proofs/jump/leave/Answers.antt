@@ -9,7 +9,7 @@ use Rattle.local_evaluation.proofs.Leaving.{way_closes, no_way, after_body_of_lo
 use Rattle.local_evaluation.proofs.jump.leave.Goals as goal
 
 pub returns-then-not-close-clause-meaning : goal.returns-then-not-close-clause-meaning
-returns-then-not-close-clause-meaning c = λ t values.
+returns-then-not-close-clause-meaning c = λ t q values.
     let j = c.args.jump in
     let rest = pending t c.next.new.pieces.items in
     let scopes = scopes_of t c.loop-piece.scopes.items in
@@ -40,7 +40,7 @@ loop-piece-preserved-else-not-close c = record {
 }
 
 pub returns-in_ok-put-in-AfterBody-clause-meaning : goal.returns-in_ok-put-in-AfterBody-clause-meaning
-returns-in_ok-put-in-AfterBody-clause-meaning c = λ t values.
+returns-in_ok-put-in-AfterBody-clause-meaning c = λ t q values.
     let rest = pending t c.next.new.pieces.items in
     let scopes = scopes_of t c.loop-piece.scopes.items in
     let on : way Continue (ways (piece_of t c.in-Some.piece ∷ rest)) ≡ local (piece_of t c.in-Some.piece ∷ rest) =
@@ -60,7 +60,7 @@ returns-in_ok-put-in-AfterBody-clause-falls c = λ t.
     omega arith
 
 pub returns-in_default-jump-clause-meaning : goal.returns-in_default-jump-clause-meaning
-returns-in_default-jump-clause-meaning c = λ t values.
+returns-in_default-jump-clause-meaning c = λ t q values.
     let rest = pending t c.next.new.pieces.items in
     let scopes = scopes_of t c.loop-piece.scopes.items in
     let on : way Break (ways (piece_of t c.in-Some.piece ∷ rest)) ≡ local rest =
@@ -88,7 +88,7 @@ loop-piece-preserved c = record {
 }
 
 pub returns-clause-meaning : goal.returns-clause-meaning
-returns-clause-meaning c = λ t values.
+returns-clause-meaning c = λ t q values.
     let scopes = scopes_of t c.loop-piece.scopes.items in
     c.loop-piece.invariant.meaning t values
     ∙ ap (λ ps. way c.args.jump (ways ps) values scopes) ((c.in_default.ensures.first t).0)

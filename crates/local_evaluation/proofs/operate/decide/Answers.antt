@@ -6,7 +6,7 @@ use Rattle.local_evaluation.proofs.StepLaws.{weight_append}
 use Rattle.local_evaluation.proofs.operate.decide.Goals as goal
 
 pub returns-in_ok-put-clause-meaning : goal.returns-in_ok-put-clause-meaning
-returns-in_ok-put-clause-meaning c = λ t scopes.
+returns-in_ok-put-clause-meaning c = λ t q scopes.
     let rest = pending t c.args.work.now.pieces.items in
     let yes = local (map (piece_of t) c.args.yes.now ++ rest) in
     let no = local (map (piece_of t) c.args.no.now ++ rest) in
@@ -20,7 +20,7 @@ returns-in_ok-put-clause-falls c = λ t.
     rw (c.in_ok-put.ensures t, weight_append (map (piece_of t) c.args.yes.now) (pending t c.args.work.now.pieces.items)) (omega arith)
 
 pub returns-in_ok-put-2-clause-meaning : goal.returns-in_ok-put-2-clause-meaning
-returns-in_ok-put-2-clause-meaning c = λ t scopes.
+returns-in_ok-put-2-clause-meaning c = λ t q scopes.
     let rest = pending t c.args.work.now.pieces.items in
     let yes = local (map (piece_of t) c.args.yes.now ++ rest) in
     let no = local (map (piece_of t) c.args.no.now ++ rest) in

@@ -9,7 +9,7 @@ use Rattle.local_evaluation.proofs.Following.{from_decide}
 use Rattle.local_evaluation.proofs.step.and_then.Goals as goal
 
 pub returns : goal.returns
-returns c = λ t.
-    from_decide t (AndThen (expression_at t c.args.b) c.args.n) c.args.work.now c.decide.new.work c.decide.result
+returns c = λ t q.
+    from_decide t q (AndThen (expression_at t c.args.b) c.args.n) c.args.work.now c.decide.new.work c.decide.result
     (node.Compute c.args.b c.args.n ∷ node.Truth ∷ []) (node.Push (Number (I32 (pos 0))) ∷ []) refl (omega arith)
     c.decide.ensures.meaning c.decide.ensures.scopes c.decide.ensures.falls

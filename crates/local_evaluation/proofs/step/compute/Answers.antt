@@ -9,7 +9,7 @@ use Rattle.local_evaluation.proofs.StepLaws.{expression_law, expression_falls}
 use Rattle.local_evaluation.proofs.step.compute.Goals as goal
 
 pub returns : goal.returns
-returns c =
+returns c = λ q.
     let t = table c.args.trees.now in
     let e = expression_at t c.args.e in
     let rest = pending t c.args.work.now.pieces.items in

@@ -9,7 +9,7 @@ use Rattle.local_evaluation.proofs.Following.{repeat_stops}
 use Rattle.local_evaluation.proofs.step.repeat.Goals as goal
 
 pub returns : goal.returns
-returns c =
+returns c = λ q.
     let t = table c.args.trees.now in
     record {
       meaning = repeat_stops (statement_at t c.args.body) (expression_at t c.args.c) c.args.n c.in_ok-at.at (pending t c.args.work.now.pieces.items)

@@ -14,23 +14,23 @@ use Rattle.local_evaluation.proofs.StepLaws.{statement_law, statement_falls}
 use Rattle.local_evaluation.proofs.step.statement.Goals as goal
 
 pub returns-in-Break : goal.returns-in-Break
-returns-in-Break c =
+returns-in-Break c = λ q.
     let old = c.args.work.now in
     let new : Work = record { pieces = c.leave.new.pieces; values = old.values; scopes = c.leave.new.scopes } in
     rw c.in-Break.is
-    (from_leave (table c.args.trees.now) tree.Break c.args.n Break old new c.leave.result refl (omega arith)
+    (from_leave (table c.args.trees.now) q tree.Break c.args.n Break old new c.leave.result refl (omega arith)
     c.leave.ensures.meaning c.leave.ensures.falls refl)
 
 pub returns-in-Continue : goal.returns-in-Continue
-returns-in-Continue c =
+returns-in-Continue c = λ q.
     let old = c.args.work.now in
     let new : Work = record { pieces = c.leave-in-Continue.new.pieces; values = old.values; scopes = c.leave-in-Continue.new.scopes } in
     rw c.in-Continue.is
-    (from_leave (table c.args.trees.now) tree.Continue c.args.n Continue old new c.leave-in-Continue.result refl (omega arith)
+    (from_leave (table c.args.trees.now) q tree.Continue c.args.n Continue old new c.leave-in-Continue.result refl (omega arith)
     c.leave-in-Continue.ensures.meaning c.leave-in-Continue.ensures.falls refl)
 
 pub returns-in_ok-statement-in_default : goal.returns-in_ok-statement-in_default
-returns-in_ok-statement-in_default c =
+returns-in_ok-statement-in_default c = λ q.
     let t = table c.args.trees.now in
     let s = statement_of t c.args.node in
     let rest = pending t c.args.work.now.pieces.items in

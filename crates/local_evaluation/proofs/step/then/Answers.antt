@@ -6,7 +6,7 @@ use Rattle.local_evaluation.proofs.Following.{from_decide}
 use Rattle.local_evaluation.proofs.step.then.Goals as goal
 
 pub returns : goal.returns
-returns c = λ t.
-    from_decide t (Then (statement_at t c.args.s) c.args.n) c.args.work.now c.decide.new.work c.decide.result
+returns c = λ t q.
+    from_decide t q (Then (statement_at t c.args.s) c.args.n) c.args.work.now c.decide.new.work c.decide.result
     (node.Do c.args.s c.args.n ∷ []) [] refl (omega arith)
     c.decide.ensures.meaning c.decide.ensures.scopes c.decide.ensures.falls

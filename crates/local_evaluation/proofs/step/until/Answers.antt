@@ -5,7 +5,7 @@ use Rattle.local_evaluation.specs.Work.{newest, scopes_of}
 use Rattle.local_evaluation.proofs.step.until.Goals as goal
 
 pub returns : goal.returns
-returns c =
+returns c = λ q.
     let t = table c.args.trees.now in
     let values = newest c.args.work.now.values.items in
     let scopes = scopes_of t c.args.work.now.scopes.items in
