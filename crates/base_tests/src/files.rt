@@ -34,7 +34,7 @@ fn folder(alloc: Global) -> Result<MemoryFiles, AllocError> {
         let name = String::from_str(alloc, name)?;
         held.push((name, content.as_bytes().to_vec(alloc)?))?;
     }
-    Ok(MemoryFiles::of(held, [5u64].to_vec(alloc)?))
+    Ok(MemoryFiles::of(alloc, held, [5u64].to_vec(alloc)?))
 }
 
 /// Reads in a row from that folder into one buffer, the bytes that are there then, and the faults so far.
@@ -90,7 +90,7 @@ fn std_files_are_read_whole(rt: HostRuntime) {
     let _ = fs::remove_dir_all(&rt, FOLDER);
     assert!(rt; fs::create_dir(&rt, FOLDER).is_ok());
     assert!(rt; fs::write(&rt, FILE, content.as_slice()).is_ok());
-    let mut files = StdFiles::new(&rt);
+    let mut files = StdFiles::new(&rt, rt.alloc());
     for (read, count, faults) in &PATHS {
         let ends = ends_as_listed(&mut files, &mut buffer, read, content.get(..*count));
         assert!(rt; ends && files.faults() == *faults, "{} {}", read.0, read.1);

@@ -1,5 +1,5 @@
 -- Bytes that are written in pieces.
-use Rattle.std.proofs.Common.{◌≡◌, ℕ, ◌+◌, ◌-◌, ◌≤◌, ◌<◌, Bor, List, [], ◌∷◌, ◌++◌, length, take, drop, get_or, None, Some, refl, sym, ◌∙◌, ap, subst, arith, append_assoc, append-nil, length-drop, length-append}
+use Rattle.std.proofs.Common.{◌≡◌, ℕ, ◌+◌, ◌-◌, ◌<◌, Bor, List, [], ◌∷◌, ◌++◌, length, take, drop, get_or, None, Some, refl, sym, ◌∙◌, ap, subst, arith, append_assoc, append-nil, length-drop, length-append}
 use Rattle.std.proofs.lemmas.List.{take_more, drop_more, take-append-drop, take-append-le}
 use Rattle.dsu_io.specs.Sinks.{AppendsFront, joined}
 use Rattle.std.specs.declared.option.Option.{Option}
@@ -27,16 +27,16 @@ Appends-then (Some os) None new xs ys first second = absurd first
 Appends-then (Some os) (Some ms) None xs ys first second = absurd second
 Appends-then (Some os) (Some ms) (Some ns) xs ys first second = second ∙ ap (λ zs. zs ++ ys) first ∙ append_assoc os xs ys
 
--- bytes, and then a prefix of more of them
+-- bytes, and then a shorter prefix of more of them
 pub AppendsFront-then : (old mid new : Option (List ℕ)) (xs ys zs : List ℕ) → Appends old mid xs → AppendsFront mid new ys
     → AppendsFront old new (xs ++ (ys ++ zs))
 AppendsFront-then old mid new xs ys zs first (n, within, second) =
-    let longer : length xs + n ≤ length (xs ++ (ys ++ zs)) =
-    subst {A = ℕ} (λ k. length xs + n ≤ k) (sym (length-append xs (ys ++ zs) ∙ ap (λ k. length xs + k) (length-append ys zs))) (omega (arith, within)) in (
+    let longer : length xs + n < length (xs ++ (ys ++ zs)) =
+    subst {A = ℕ} (λ k. length xs + n < k) (sym (length-append xs (ys ++ zs) ∙ ap (λ k. length xs + k) (length-append ys zs))) (omega (arith, within)) in (
       length xs + n,
       longer,
       subst {A = List ℕ} (λ bytes. Appends old new bytes)
-          (sym (take-append-add xs (ys ++ zs) n ∙ ap (λ front. xs ++ front) (take-append-le n ys zs within)))
+          (sym (take-append-add xs (ys ++ zs) n ∙ ap (λ front. xs ++ front) (take-append-le n ys zs (omega (arith, within)))))
           (Appends-then old mid new xs (take n ys) first second),
     )
 
@@ -63,7 +63,7 @@ pieces-more old mid new pieces i d within first second =
     subst {A = List ℕ} (λ bytes. Appends old new bytes) (sym (joined-more pieces i d within))
     (Appends-then old mid new (joined (take i pieces)) (get_or pieces i d).now first second)
 
--- a prefix of one more piece
+-- a shorter prefix of one more piece
 pub pieces-front : (old mid new : Option (List ℕ)) (pieces : List (Bor (List ℕ))) (i : ℕ) (d : Bor (List ℕ)) → i < length pieces
     → Appends old mid (joined (take i pieces)) → AppendsFront mid new (get_or pieces i d).now → AppendsFront old new (joined pieces)
 pieces-front old mid new pieces i d within first second =

@@ -1,6 +1,7 @@
 -- Files in memory, as a value: their names and contents, and which reads fail.
-use Rattle.std.specs.Prelude.{ℕ, Bool, if◌then◌else◌, ◌||◌, is_none, List, [], ◌∷◌, nat_eq, Option, None, Some}
+use Rattle.std.specs.Prelude.{ℕ, Bool, if◌then◌else◌, ◌||◌, is_none, List, [], ◌∷◌, ◌++◌, nat_eq, Option, None, Some}
 use lib.Pointwise.{pointwise}
+use Rattle.dsu_io.specs.Causes.{FailedReads}
 use Rattle.dsu_io.specs.MemorySink.{next_count, is_listed}
 
 pub record Folder : Type 0 where
@@ -9,7 +10,7 @@ pub record Folder : Type 0 where
   -- the numbers of the reads that fail, counted from 1
   pub failing : List ℕ
   pub calls : ℕ
-  pub faults : ℕ
+  pub faults : FailedReads
 
 -- the content of the first file with a name
 abbrev pub content_of : List (List ℕ × List ℕ) → List ℕ → Option (List ℕ)
@@ -20,9 +21,13 @@ content_of (file ∷ files) name = if pointwise nat_eq file.0 name then Some fil
 abbrev pub read_fails : Folder → List ℕ → Bool
 read_fails folder name = is_listed folder.failing folder.calls || is_none (content_of folder.files name)
 
--- the folder after a read
+-- one more read failed, of a file with this name
+abbrev pub one_more_failed : FailedReads → List ℕ → FailedReads
+one_more_failed faults name = record { count = next_count faults.count; names = faults.names ++ name ∷ [] }
+
+-- the folder after a read that was answered
 abbrev pub after_read : Folder → List ℕ → Folder
 after_read folder name =
     if read_fails folder name
-    then record folder { calls = next_count folder.calls; faults = next_count folder.faults }
+    then record folder { calls = next_count folder.calls; faults = one_more_failed folder.faults name }
     else record folder { calls = next_count folder.calls }

@@ -2,14 +2,16 @@
 //! outputs that count their faults, and files that count theirs.
 //!
 //! The contract is about bytes and causes. A sink appends what it says it took; `put` appends all of a
-//! text, or a prefix of it where it fails. A file read in full is its content. Every fault that is
-//! answered has raised the count of faults of the object that was lent.
+//! text, or a shorter prefix of it where it fails. A file read in full is its content. Every fault that is
+//! answered has raised the count of faults of the object that was lent; that of files has added the file's
+//! name too.
 //!
 //! Read in this order: `text`, `list`, `boxed` (data); `sink`, `memory_sink`, `null_sink`, `std_sink`
-//! (outputs); `files`, `memory_files`, `std_files` (inputs).
+//! (outputs); `files`, `failures` (the reads that failed), `memory_files`, `std_files` (inputs).
 #![tactic(auto)]
 
 mod boxed;
+mod failures;
 mod files;
 mod list;
 mod memory_files;

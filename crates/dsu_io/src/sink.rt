@@ -25,7 +25,7 @@ pub trait Sink {
         ensures cause { HasCause (faults self.old) (faults self.new) result };
 }
 
-/// Appends all of `bytes`, in as many writes as the sink needs. `Failed`: a prefix of them was appended.
+/// Appends all of `bytes`, in as many writes as the sink needs. `Failed`: a prefix of them was appended, and not all.
 pub fn put<S: Sink>(sink: &mut S, bytes: &[u8]) -> Result<(), Failed>
     ensures bytes { PutAppends (S.told sink.old) (S.told sink.new) result bytes.now }
     ensures cause { HasCause (S.faults sink.old) (S.faults sink.new) result }
@@ -37,7 +37,7 @@ pub fn put<S: Sink>(sink: &mut S, bytes: &[u8]) -> Result<(), Failed>
     Ok(())
 }
 
-/// Appends the pieces one after the other. `Failed`: a prefix of them all was appended.
+/// Appends the pieces one after the other. `Failed`: a prefix of them all was appended, and not all.
 pub fn put_all<S: Sink>(sink: &mut S, pieces: &[&[u8]]) -> Result<(), Failed>
     ensures bytes { PutAppends (S.told sink.old) (S.told sink.new) result (joined pieces.now) }
     ensures cause { HasCause (S.faults sink.old) (S.faults sink.new) result }

@@ -1,6 +1,8 @@
 ghost use Rattle.std.specs.Prelude.{◌≡◌, ◌≤◌, ◌<◌, ◌+◌, [], ℕ, List, length, OnOk, IsErrOf, None};
 
+use crate::failures::Failures;
 use crate::{FileFault, Files};
+use std::alloc::Global;
 use std::fs;
 use std::io::Read;
 use std::rt::Files as FileSystem;
@@ -13,21 +15,27 @@ const PIECE: usize = 16_384;
 #[derive(Drop)]
 pub struct StdFiles<'a, R: FileSystem> {
     rt: &'a R,
-    faults: u64,
+    alloc: Global,
+    faults: Failures,
 }
 
 impl<'a, R: FileSystem> StdFiles<'a, R> {
-    pub fn new(rt: &'a R) -> StdFiles<'a, R>
-        ensures { result.faults ≡ 0 }
+    /// Memory is taken for the names of reads that fail alone, where they fail.
+    pub fn new(rt: &'a R, alloc: Global) -> StdFiles<'a, R>
+        ensures { result.faults ≡ record { count = 0; names = [] } }
     {
-        StdFiles { rt, faults: 0 }
+        StdFiles {
+            rt,
+            alloc,
+            faults: Failures::new(alloc),
+        }
     }
 
     /// How often opening or reading has failed.
     pub fn faults(&self) -> u64
-        ensures { result ≡ self.now.faults }
+        ensures { result ≡ self.now.faults.count }
     {
-        self.faults
+        self.faults.count()
     }
 }
 
@@ -61,7 +69,7 @@ impl<R: FileSystem> Files for StdFiles<'_, R> {
             Err(_) => Err(FileFault::Failed),
         };
         if let Err(FileFault::Failed) = result {
-            self.faults = self.faults.saturating_add(1);
+            self.faults.add(self.alloc, name)?;
         }
         result
     }
