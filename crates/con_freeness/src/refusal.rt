@@ -7,11 +7,11 @@ pub enum Effect {
     /// The concrete effect has this name, and the patch changes its interface: active code may still use what it
     /// names in the old shape.
     Concrete(NameId),
-    /// The prior effect has the first name and the future effect the second, and the patch changes both: the
-    /// transaction would count neither as wholly new nor as wholly old.
+    /// The prior effect has the first name and the future effect the second, and the patch changes both: what the
+    /// transaction uses while it is open might belong to no one version.
     Both(NameId, NameId),
-    /// The thread is pinned, which means that its transaction already counts as wholly old; its future effect has
-    /// this name, and the patch changes it.
+    /// The thread is pinned: an earlier patch was admitted since what its transaction may still use stays as it
+    /// was. Its future effect has this name, and the patch changes it.
     Pinned(NameId),
 }
 
