@@ -1,11 +1,11 @@
 -- Runs whose texts are accepted.
 use Rattle.std.specs.Prelude.{◌≡◌, ℕ, false, List, Some}
 use Rattle.bytecode.specs.declared.run.Event.{Event}
+use Rattle.effects.specs.Rows.{AreRows}
 use Rattle.source_model.specs.Guards.{Guard, Offer, Rules, Setup, offer_at}
 use Rattle.source_model.specs.Journals.{guard_after}
 use Rattle.source_model.specs.Runs.{result}
 use Rattle.frame_bodies.specs.AcceptedTexts.{IsAccepted}
-use Rattle.admission_laws.specs.Rules.{AreRows}
 use Rattle.admission_laws.specs.SoundTexts.{AllSound}
 use Rattle.admission_laws.specs.AdmissionLaws.{IsVersionConsistent}
 
@@ -22,10 +22,10 @@ AcceptedRunsAreSound = (setup : Setup) → TextsAreAccepted setup → AllSound s
 abbrev pub NoRunMisuses : Type 0
 NoRunMisuses =
     (rules : Rules) (setup : Setup) (events : List Event) (g : Guard)
-    → AreRows rules → TextsAreAccepted setup → guard_after rules setup events ≡ Some g → g.world.misused ≡ false
+    → AreRows rules.row → TextsAreAccepted setup → guard_after rules setup events ≡ Some g → g.world.misused ≡ false
 
 -- and the definitions of each transaction share a version, of those that ended and of those in progress
 abbrev pub TransactionsShareAVersion : Type 0
 TransactionsShareAVersion =
     (rules : Rules) (setup : Setup) (events : List Event) (g : Guard)
-    → AreRows rules → TextsAreAccepted setup → guard_after rules setup events ≡ Some g → IsVersionConsistent (result g.world)
+    → AreRows rules.row → TextsAreAccepted setup → guard_after rules setup events ≡ Some g → IsVersionConsistent (result g.world)

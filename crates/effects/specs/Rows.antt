@@ -66,3 +66,7 @@ pub record IsRowOf (bodies : List Body) (mark : Mark) (row : Row) : Type 0 where
   pub prior : IsSet row.prior (InPrior bodies mark)
   pub future : IsSet row.future (InFuture bodies mark)
   pub concrete : IsSet row.concrete (InConcrete bodies mark)
+
+-- a function that gives each mark its row over each list of bodies
+abbrev pub AreRows : (List Body → Mark → Row) → Type 0
+AreRows row = (bodies : List Body) (mark : Mark) → IsRowOf bodies mark (row bodies mark)

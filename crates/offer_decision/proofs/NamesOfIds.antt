@@ -16,7 +16,7 @@ use Rattle.con_freeness.specs.Rows.{Names, meets}
 use Rattle.effects.specs.Rows.{IsSet, InPrior, InFuture, InConcrete}
 use Rattle.contextual_effects.specs.Effects.{HasNames}
 use Rattle.source_model.specs.Guards.{Rules, row_in_force}
-use Rattle.dsu_runs.specs.Rows.{AreRows}
+use Rattle.effects.specs.Rows.{AreRows}
 use Rattle.rows_in_force.specs.declared.origin.Origin.{Origin}
 use Rattle.rows_in_force.specs.Origins.{function_of, mark_of}
 use Rattle.sorted_names.proofs.Order.{first_among}
@@ -45,7 +45,7 @@ list_of_none names set none = record { same = λ z. (λ e. absurd (none_among z 
 
 -- the row of ids of an origin has the names of the row in force by its mark
 pub row_is : (rules : Rules) (names : List Bytes) (bodies : List Body) (origin : Option Origin) (mark : Option Mark) (row : RowOfIds)
-    → AreRows rules → mark ≡ option_map (mark_of names bodies) origin → ForSome origin (λ o. function_of o < length names)
+    → AreRows rules.row → mark ≡ option_map (mark_of names bodies) origin → ForSome origin (λ o. function_of o < length names)
     → HasRow names bodies origin row → IsRowOf names row (row_in_force rules bodies mark)
 row_is rules names bodies None mark row are is known has =
     subst (λ m. IsRowOf names row (row_in_force rules bodies m)) (sym is) (record {

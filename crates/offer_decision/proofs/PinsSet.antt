@@ -12,7 +12,7 @@ use Rattle.con_freeness.specs.Rows.{Names, meets}
 use Rattle.source_model.specs.Worlds.{World, alive_in}
 use Rattle.source_model.specs.Guards.{Rules, row_in_force, in_transaction, pinned_from}
 use Rattle.source_model.specs.Guards as kept
-use Rattle.dsu_runs.specs.Rows.{AreRows}
+use Rattle.effects.specs.Rows.{AreRows}
 use Rattle.offer_decision.specs.declared.seat.Seat.{Seat}
 use Rattle.offer_decision.specs.Seats.{AreSeats, AreInTransactions}
 use Rattle.offer_decision.specs.Steps.{HaveRows, ArePinsAfter}
@@ -65,7 +65,7 @@ row_at (r ∷ rs) (suc n) l = row_at rs n (omega (arith, l))
 
 pub pins_are : (rules : Rules) (names : List Bytes) (bodies : List Body) (seats : List Seat) (slots : List kept.Seat)
     (rows : List RowOfIds) (set : ℕ) (changed : Names) (pins : List Bool) (w : World)
-    → AreRows rules → IsTable names → length seats ≡ 16 → length rows ≡ 16 → length pins ≡ 16
+    → AreRows rules.row → IsTable names → length seats ≡ 16 → length rows ≡ 16 → length pins ≡ 16
     → AreSeats names bodies seats slots → HaveRows names bodies seats rows → IsListOf names set changed
     → ((row : RowOfIds) (id : ℕ) → IsCommon set row.prior id → id < length names)
     → ArePinsAfter set rows seats pins → AreInTransactions w seats

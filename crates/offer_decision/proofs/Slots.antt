@@ -9,7 +9,7 @@ use Rattle.con_freeness.specs.declared.row.Row.{Row as RowOfIds}
 use Rattle.con_freeness.specs.Decisions.{AreSlotsOf, IsRowOf}
 use Rattle.source_model.specs.Guards.{Rules, in_force, row_in_force}
 use Rattle.source_model.specs.Guards as kept
-use Rattle.dsu_runs.specs.Rows.{AreRows}
+use Rattle.effects.specs.Rows.{AreRows}
 use Rattle.offer_decision.specs.declared.seat.Seat.{Seat}
 use Rattle.offer_decision.specs.Seats.{AreSeats}
 use Rattle.offer_decision.specs.Steps.{HaveRows, ArePinsBefore}
@@ -29,7 +29,7 @@ seat_at seats n l =
 
 pub slots_are : (rules : Rules) (names : List Bytes) (bodies : List Body) (seats : List Seat) (slots : List kept.Seat)
     (rows : List RowOfIds) (pins : List Bool)
-    → AreRows rules → length seats ≡ 16 → length rows ≡ 16
+    → AreRows rules.row → length seats ≡ 16 → length rows ≡ 16
     → AreSeats names bodies seats slots → HaveRows names bodies seats rows → ArePinsBefore seats pins
     → AreSlotsOf names rows pins (map (in_force rules bodies) slots)
 slots_are rules names bodies seats slots rows pins are many as_many own have before = record {

@@ -11,7 +11,7 @@ use Rattle.source_model.specs.Worlds.{World}
 use Rattle.source_model.specs.Guards.{Rules, in_force, pinned_from}
 use Rattle.source_model.specs.Guards as kept
 use Rattle.source_model.specs.Patches.{last_definitions, not_patch}
-use Rattle.dsu_runs.specs.Rows.{AreRows}
+use Rattle.effects.specs.Rows.{AreRows}
 use Rattle.patch_build.specs.declared.patch.Versions.{Versions}
 use Rattle.patch_build.specs.Versions.{AreVersions}
 use Rattle.offer_decision.specs.declared.answer.Decision.{Decision}
@@ -58,5 +58,5 @@ IsDecision rules texts slots versions next seats (decision.Admitted patch pins) 
 abbrev pub ForOffer : Versions → List Seat → (Rules → List Text → List kept.Seat → Type 0) → Type 0
 ForOffer versions seats fact =
     (rules : Rules) (texts : List Text) (slots : List kept.Seat)
-    → AreRows rules → AreVersions texts versions → AreSeats versions.names.now (store texts) seats slots
+    → AreRows rules.row → AreVersions texts versions → AreSeats versions.names.now (store texts) seats slots
     → fact rules texts slots

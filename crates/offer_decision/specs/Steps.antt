@@ -10,7 +10,7 @@ use Rattle.con_freeness.specs.Decisions.{IsListOf}
 use Rattle.con_freeness.specs.Rows.{Names}
 use Rattle.source_model.specs.Guards.{Rules}
 use Rattle.source_model.specs.Guards as kept
-use Rattle.dsu_runs.specs.Rows.{AreRows}
+use Rattle.effects.specs.Rows.{AreRows}
 use Rattle.checkin_rows.specs.Rows.{IsRow, IsEmptyRow}
 use Rattle.rows_in_force.specs.declared.origin.Origin.{Origin}
 use Rattle.rows_in_force.specs.Origins.{function_of, mark_of}
@@ -65,7 +65,7 @@ SaysRight rules bodies slots seats names changed interface (tested.Refused r) =
 abbrev pub IsTested : List Bytes → ℕ → ℕ → List Row → List Seat → Tested → Type 0
 IsTested names changed interface rows seats answer =
     (rules : Rules) (bodies : List Body) (slots : List kept.Seat) (changed_names interface_names : Names)
-    → AreRows rules → IsTable names → HaveRows names bodies seats rows → AreSeats names bodies seats slots
+    → AreRows rules.row → IsTable names → HaveRows names bodies seats rows → AreSeats names bodies seats slots
     → IsListOf names changed changed_names → IsListOf names interface interface_names
     → SaysRight rules bodies slots seats names changed_names interface_names answer
 
@@ -73,7 +73,7 @@ IsTested names changed interface rows seats answer =
 abbrev pub IsTestedOver : Versions → ℕ → ℕ → List Seat → Tested → Type 0
 IsTestedOver versions changed interface seats answer =
     (rules : Rules) (texts : List Text) (slots : List kept.Seat) (changed_names interface_names : Names)
-    → AreRows rules → AreVersions texts versions → AreSeats versions.names.now (store texts) seats slots
+    → AreRows rules.row → AreVersions texts versions → AreSeats versions.names.now (store texts) seats slots
     → IsListOf versions.names.now changed changed_names → IsListOf versions.names.now interface interface_names
     → SaysRight rules (store texts) slots seats versions.names.now changed_names interface_names answer
 
@@ -89,7 +89,7 @@ SaysOfPatch rules bodies slots seats names changed interface patch (decision.Not
 abbrev pub IsAnswer : Versions → Patch → List Seat → Decision → Type 0
 IsAnswer versions patch seats decision =
     (rules : Rules) (texts : List Text) (slots : List kept.Seat) (changed_names interface_names : Names)
-    → AreRows rules → AreVersions texts versions → AreSeats versions.names.now (store texts) seats slots
+    → AreRows rules.row → AreVersions texts versions → AreSeats versions.names.now (store texts) seats slots
     → IsListOf versions.names.now patch.changed changed_names → IsListOf versions.names.now patch.interface interface_names
     → SaysOfPatch rules (store texts) slots seats versions.names.now changed_names interface_names patch decision
 
