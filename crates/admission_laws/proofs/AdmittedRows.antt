@@ -11,9 +11,8 @@ use Rattle.con_freeness.specs.Verdicts.{Admitted}
 use Rattle.con_freeness.specs.Laws.{Admits, IsVerdict, LeastSlotRefuses}
 use Rattle.con_freeness.specs.Rows.{Names, Row, admits, meets, verdict}
 use Rattle.name_sets.specs.NameLists.{is_among}
-use Rattle.effects.specs.Rows.{InPrior, InFuture, InConcrete}
+use Rattle.effects.specs.Rows.{InPrior, InFuture, InConcrete, AreRows}
 use Rattle.source_model.specs.Guards.{Seat, Rules, empty_seat, in_force, row_in_force}
-use Rattle.admission_laws.specs.Rules.{AreRows}
 
 -- a name that is among some and passes a test
 any_passes : (test : Bytes → Bool) (xs : Names) (name : Bytes) → is_among xs name ≡ true → test name ≡ true → list_any test xs ≡ true
@@ -41,7 +40,7 @@ each_admits least rules bodies seats changed interface e k inside =
     (subst (λ n. k < n) (sym (length-map seats (in_force rules bodies))) inside) all)
 
 -- a name of the concrete set of a seat's mark isn't among the interface set
-pub concrete_left : (least : LeastSlotRefuses) (rules : Rules) → AreRows rules → (bodies : List Body) (seats : List Seat)
+pub concrete_left : (least : LeastSlotRefuses) (rules : Rules) → AreRows rules.row → (bodies : List Body) (seats : List Seat)
     (changed interface : Names) → verdict (map (in_force rules bodies) seats) changed interface ≡ Admitted → (k : ℕ) → k < length seats
     → (mark : Mark) → (get_or seats k empty_seat).mark ≡ Some mark → (name : Bytes) → InConcrete bodies mark name
     → is_among interface name ≡ false
@@ -56,7 +55,7 @@ pub record OthersLeft (bodies : List Body) (mark : Mark) (pinned meets_prior : B
   pub either : ((name : Bytes) → InFuture bodies mark name → is_among changed name ≡ false) ⊎ ((pinned ≡ false) × (meets_prior ≡ false))
   pub prior : meets_prior ≡ false → (name : Bytes) → InPrior bodies mark name → is_among changed name ≡ false
 
-pub others_left : (least : LeastSlotRefuses) (rules : Rules) → AreRows rules → (bodies : List Body) (seats : List Seat)
+pub others_left : (least : LeastSlotRefuses) (rules : Rules) → AreRows rules.row → (bodies : List Body) (seats : List Seat)
     (changed interface : Names) → verdict (map (in_force rules bodies) seats) changed interface ≡ Admitted → (k : ℕ) → k < length seats
     → (mark : Mark) → (get_or seats k empty_seat).mark ≡ Some mark
     → OthersLeft bodies mark (get_or seats k empty_seat).pinned

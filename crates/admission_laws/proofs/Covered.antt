@@ -7,11 +7,10 @@ use Rattle.c_semantics.specs.Standing.{stands_at}
 use Rattle.c_semantics.specs.Store.{store}
 use Rattle.c_semantics.specs.Threads.{Frame, Enter, Record}
 use Rattle.con_freeness.specs.Laws.{LeastSlotRefuses}
-use Rattle.effects.specs.Rows.{InPrior}
+use Rattle.effects.specs.Rows.{InPrior, AreRows}
 use Rattle.name_sets.specs.NameLists.{is_among}
 use Rattle.source_model.specs.Versions.{Table}
 use Rattle.source_model.specs.Guards.{Rules, Seat, row_in_force, seat_of}
-use Rattle.admission_laws.specs.Rules.{AreRows}
 use Rattle.admission_laws.specs.SoundTexts.{IsSound}
 use Rattle.admission_laws.specs.Standing.{StandsAt, FramesStand, SlotStands}
 use Rattle.admission_laws.specs.AdmissionLaws.{IsCovered, EachThreadStands, EachPointIsCovered, EachStartIsMarked, RecordedArePrior, TransactionsShareAVersion}
@@ -34,7 +33,7 @@ covered_at texts table f fs due depth uses seat st = record {
 }
 
 -- what a thread recorded is in the prior set of the row of its seat
-recorded_in : (rules : Rules) → AreRows rules → (texts : List Text) → IsSound texts → (table : Table) (fs : List Frame) (due : Option Enter)
+recorded_in : (rules : Rules) → AreRows rules.row → (texts : List Text) → IsSound texts → (table : Table) (fs : List Frame) (due : Option Enter)
     (depth : ℕ) (uses : Record) (seat : Seat) → FramesStand texts table fs due depth uses seat
     → All (λ u. is_among (row_in_force rules (store texts) seat.mark).prior u.name ≡ true) uses
 recorded_in rules rows texts sound table [] due depth uses seat s =

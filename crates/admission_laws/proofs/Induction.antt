@@ -19,6 +19,7 @@ use Rattle.con_freeness.specs.Laws.{LeastSlotRefuses}
 use Rattle.con_freeness.specs.Rows.{Names, meets}
 use Rattle.name_sets.specs.NameLists.{is_among}
 use Rattle.effects.specs.Sites.{Site, Passes}
+use Rattle.effects.specs.Rows.{AreRows}
 use Rattle.source_model.specs.Versions.{Table, current, next_table}
 use Rattle.source_model.specs.Worlds.{World, Slot, Free, Live, Over, in_slot, alive_in, is_over, first_world, main_enter}
 use Rattle.source_model.specs.Moves.{move}
@@ -29,7 +30,6 @@ use Rattle.source_model.specs.Journals.{guard_after}
 use Rattle.version_laws.specs.Histories.{IsHistory, last_text}
 use Rattle.version_laws.proofs.RunHistories.{IsOf, move_is_of, install_is_of, first_is_of}
 use Rattle.version_laws.proofs.TableHistories.{last_is_next}
-use Rattle.admission_laws.specs.Rules.{AreRows}
 use Rattle.admission_laws.specs.SoundTexts.{IsSound, TextsOf, AllSound, is_function, definitions_of, version_in, newest, now_in}
 use Rattle.admission_laws.specs.SoundTexts as sound_texts
 use Rattle.admission_laws.specs.Standing.{Sits, Placed, StandsAt, Starting, FramesStand, SlotStands}
@@ -178,7 +178,7 @@ all_free zero k = refl
 all_free (suc n) zero = refl
 all_free (suc n) (suc k) = all_free n k
 
-module _ (along : GoesAlong) (least : LeastSlotRefuses) (rules : Rules) (rows : AreRows rules) (setup : Setup) (sound : AllSound setup) where
+module _ (along : GoesAlong) (least : LeastSlotRefuses) (rules : Rules) (rows : AreRows rules.row) (setup : Setup) (sound : AllSound setup) where
   first_good : Good setup (first_guard setup)
   first_good = record {
     texts = sound_texts.first;

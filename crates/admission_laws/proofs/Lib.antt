@@ -27,4 +27,7 @@ pub mod MovedSlots
 pub mod MovesStand
 pub mod Induction
 pub mod Covered
+pub mod NamedRefusals
+pub mod AnsweredRefusals
+mod RefusalExamples
 mod NeededParts

@@ -8,13 +8,12 @@ use Rattle.c_semantics.specs.Store.{Body, Mark, Start, generation_by, body_in}
 use Rattle.c_semantics.specs.Threads.{Frame, Enter, Thread}
 use Rattle.effects.specs.Sites.{Site}
 use Rattle.effects.specs.Concrete.{Concrete}
-use Rattle.effects.specs.Rows.{Covered}
+use Rattle.effects.specs.Rows.{Covered, AreRows}
 use Rattle.source_model.specs.Uses.{IsConsistent}
 use Rattle.source_model.specs.Worlds.{Live, in_slot}
 use Rattle.source_model.specs.Guards.{Guard, Seat, Setup, Rules, has_ended, bodies_of, seat_of, in_force}
 use Rattle.source_model.specs.Journals.{guard_after}
 use Rattle.source_model.specs.Runs.{Result, result}
-use Rattle.admission_laws.specs.Rules.{AreRows}
 use Rattle.admission_laws.specs.SoundTexts.{AllSound}
 use Rattle.admission_laws.specs.Stacks.{Level, Stacked, MayUse}
 use Rattle.admission_laws.specs.Standing.{SlotStands}
@@ -23,13 +22,13 @@ use Rattle.admission_laws.specs.Standing.{SlotStands}
 abbrev pub NothingIsMisused : Type 0
 NothingIsMisused =
     (rules : Rules) (setup : Setup) (events : List Event) (g : Guard)
-    → AreRows rules → AllSound setup → guard_after rules setup events ≡ Some g → g.world.misused ≡ false
+    → AreRows rules.row → AllSound setup → guard_after rules setup events ≡ Some g → g.world.misused ≡ false
 
 -- as long as the run goes on, each thread stands in the store of its versions
 abbrev pub EachThreadStands : Type 0
 EachThreadStands =
     (rules : Rules) (setup : Setup) (events : List Event) (g : Guard) (t : ℕ)
-    → AreRows rules → AllSound setup → guard_after rules setup events ≡ Some g → has_ended g ≡ false
+    → AreRows rules.row → AllSound setup → guard_after rules setup events ≡ Some g → has_ended g ≡ false
     → SlotStands g.versions g.world.table (in_slot g.world t) (seat_of g t)
 
 -- the point of a frame in the body in force in its version is covered by the mark of the seat
@@ -47,14 +46,14 @@ pub record IsCovered (bodies : List Body) (f : Frame) (due : Option Enter) (seat
 abbrev pub EachPointIsCovered : Type 0
 EachPointIsCovered =
     (rules : Rules) (setup : Setup) (events : List Event) (g : Guard) (t : ℕ) (th : Thread) (f : Frame) (fs : List Frame)
-    → AreRows rules → AllSound setup → guard_after rules setup events ≡ Some g → has_ended g ≡ false
+    → AreRows rules.row → AllSound setup → guard_after rules setup events ≡ Some g → has_ended g ≡ false
     → in_slot g.world t ≡ Live th → th.frames ≡ f ∷ fs → IsCovered (bodies_of g) f th.entering (seat_of g t)
 
 -- and for a thread without frames, which was started, the row of the start of its function is in force
 abbrev pub EachStartIsMarked : Type 0
 EachStartIsMarked =
     (rules : Rules) (setup : Setup) (events : List Event) (g : Guard) (t : ℕ) (th : Thread)
-    → AreRows rules → AllSound setup → guard_after rules setup events ≡ Some g → has_ended g ≡ false
+    → AreRows rules.row → AllSound setup → guard_after rules setup events ≡ Some g → has_ended g ≡ false
     → in_slot g.world t ≡ Live th → th.frames ≡ []
     → (e : Enter) × (th.entering ≡ Some e) × ((seat_of g t).mark ≡ Some (Start e.function))
 
@@ -68,7 +67,7 @@ UsesAreConcrete =
 abbrev pub RecordedArePrior : Type 0
 RecordedArePrior =
     (rules : Rules) (setup : Setup) (events : List Event) (g : Guard) (t : ℕ) (th : Thread)
-    → AreRows rules → AllSound setup → guard_after rules setup events ≡ Some g → has_ended g ≡ false → in_slot g.world t ≡ Live th
+    → AreRows rules.row → AllSound setup → guard_after rules setup events ≡ Some g → has_ended g ≡ false → in_slot g.world t ≡ Live th
     → All (λ u. is_among (in_force rules (bodies_of g) (seat_of g t)).row.prior u.name ≡ true) th.uses
 
 -- what a run gives is consistent with its versions: no definition was misused, and of each transaction, closed or open, the
@@ -81,4 +80,4 @@ pub record IsVersionConsistent (r : Result) : Type 0 where
 abbrev pub TransactionsShareAVersion : Type 0
 TransactionsShareAVersion =
     (rules : Rules) (setup : Setup) (events : List Event) (g : Guard)
-    → AreRows rules → AllSound setup → guard_after rules setup events ≡ Some g → IsVersionConsistent (result g.world)
+    → AreRows rules.row → AllSound setup → guard_after rules setup events ≡ Some g → IsVersionConsistent (result g.world)

@@ -1,4 +1,3 @@
-pub mod Rules
 pub mod SoundTexts
 pub mod Stacks
 pub mod Transactions
@@ -7,3 +6,4 @@ pub mod InTransactions
 pub mod Standing
 pub mod AdmissionLaws
 pub mod TransactionLaws
+pub mod RefusalLaws

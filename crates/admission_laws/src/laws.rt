@@ -1,10 +1,11 @@
 //! What the admission test promises of a run, each as the contract of a call that does nothing but cite what it rests on.
 
 ghost use Rattle.admission_laws.specs.AdmissionLaws.{EachPointIsCovered, EachStartIsMarked, EachThreadStands, NothingIsMisused, RecordedArePrior, TransactionsShareAVersion, UsesAreConcrete};
+ghost use Rattle.admission_laws.specs.RefusalLaws.{AnsweredRefusalsNameTheLeast, RefusalsNameTheLeast};
 ghost use Rattle.admission_laws.specs.TransactionLaws.{AheadIsFuture, DeepIsInside, KnownIsPrior, LeftEntriesFollow, RecordsStayConsistent, VersionedIsConsistent};
 
 use c_semantics::frames_go_along_skeletons;
-use con_freeness::least_slot_refuses;
+use con_freeness::{least_slot_refuses, rows_admit_without_obstacle};
 
 /// At each moment of a run, the point at which the innermost frame of a live thread stands is covered by the mark of its row
 /// in force. For a thread that was started and hasn't entered its function, the row of the start is in force.
@@ -59,3 +60,14 @@ pub fn records_stay_consistent()
     ensures follow { LeftEntriesFollow }
     ensures versioned { VersionedIsConsistent }
 {}
+
+/// A refusal names the least slot whose row doesn't admit the patch, and the least names by bytes for which it doesn't, those
+/// that active code uses first. So does each refusal that a run answers, by the rows in force when it decided the offer, and
+/// by what the offered text changes of the text in force then.
+pub fn refusals_name_the_least()
+    ensures verdicts { RefusalsNameTheLeast }
+    ensures answers { AnsweredRefusalsNameTheLeast }
+{
+    least_slot_refuses();
+    rows_admit_without_obstacle();
+}
