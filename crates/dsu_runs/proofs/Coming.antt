@@ -1,5 +1,5 @@
 -- The guard that a run has come to: its events are legal, and what was printed was written.
-use Rattle.std.proofs.Common.{◌≡◌, ℕ, ◌≤◌, true, List, [], ◌∷◌, ◌++◌, take, Option, Some, None, refl, sym, ◌∙◌, ap, subst, arith}
+use Rattle.std.proofs.Common.{◌≡◌, ℕ, ◌≤◌, ◌<◌, true, List, [], ◌∷◌, ◌++◌, take, Option, Some, None, refl, sym, ◌∙◌, ap, subst, arith}
 use Rattle.std.specs.Prelude.{length}
 use Rattle.std.specs.Option.{option_and_then}
 use Rattle.std.specs.Io.KnownBytes.{Appends}
@@ -9,7 +9,7 @@ use Rattle.bytecode.specs.declared.run.Event.{Event}
 use Rattle.source_model.specs.Guards.{Guard, Rules, Setup, first_guard}
 use Rattle.source_model.specs.Journals.{guard_after, happens, play}
 use Rattle.source_model.specs.Schedules.{makes_move}
-use Rattle.dsu_runs.specs.Rows.{AreRows}
+use Rattle.effects.specs.Rows.{AreRows}
 use Rattle.dsu_runs.specs.Engines.{Fails, Grew, GrewPartly, Makes}
 use Rattle.dsu_runs.specs.Ran.{FailedAt, Printed}
 use Rattle.dsu_runs.specs.Turns.{Steps, history_after}
@@ -47,23 +47,24 @@ printed_by None now setup g grew = tt
 printed_by (Some bytes) now setup g grew =
     subst (λ o. Appends (Some bytes) o g.world.output) (sym (grew bytes (told_before (Some bytes) bytes refl))) refl
 
--- a prefix of it
+-- a prefix of it, and not all of it
 abbrev pub Part : Option (List ℕ) → Option (List ℕ) → Guard → Guard → Type 0
-Part told now before after = (n : ℕ) × (length before.world.output ≤ n) × Appends told now (take n after.world.output)
+Part told now before after =
+    (n : ℕ) × (length before.world.output ≤ n) × (n < length after.world.output) × Appends told now (take n after.world.output)
 
 part_by : (told mid now : Option (List ℕ)) (setup : Setup) (g after : Guard) → Grew (first_guard setup) g told mid
-    → GrewPartly g after mid now → Part told now g after
-part_by None mid now setup g after grew part = (length g.world.output, same (length g.world.output), tt)
+    → length g.world.output < length after.world.output → GrewPartly g after mid now → Part told now g after
+part_by None mid now setup g after grew longer part = (length g.world.output, same (length g.world.output), longer, tt)
   where
     same : (n : ℕ) → n ≤ n
     same n = omega arith
-part_by (Some bytes) mid now setup g after grew part =
+part_by (Some bytes) mid now setup g after grew longer part =
     let last = part bytes (grew bytes (told_before (Some bytes) bytes refl)) in
-    (last.0, last.1, subst (λ o. Appends (Some bytes) o (take last.0 after.world.output)) (sym last.2) refl)
+    (last.0, last.1, last.2, subst (λ o. Appends (Some bytes) o (take last.0 after.world.output)) (sym last.3) refl)
 
 -- some events were made, by an engine whose sink showed some bytes before and shows some now
 pub record Came (setup : Setup) (told : Option (List ℕ)) (history : List Event) (g : Guard) (now : Option (List ℕ)) : Type 0 where
-  pub legal : (rules : Rules) → AreRows rules → guard_after rules setup history ≡ Some g
+  pub legal : (rules : Rules) → AreRows rules.row → guard_after rules setup history ≡ Some g
   pub grew : Grew (first_guard setup) g told now
 
 pub came_first : (setup : Setup) (told : Option (List ℕ)) → Came setup told [] (first_guard setup) told
@@ -92,7 +93,7 @@ pub failed_at : (setup : Setup) (told now next : Option (List ℕ)) (history all
     → Came setup told history g now → (f : Fails setup e g now next) → makes_move e ≡ true → Rose counted count
     → all ≡ history ++ e ∷ [] → FailedAt setup all f.after told next counted count
 failed_at setup told now next history all g e counted count came f moves rose split =
-    let part = part_by told now next setup g f.after came.grew f.grew in
+    let part = part_by told now next setup g f.after came.grew f.longer f.grew in
     record {
       earlier = history;
       event = e;
@@ -100,15 +101,17 @@ failed_at setup told now next history all g e counted count came f moves rose sp
       split = split;
       moves = moves;
       legal = came.legal;
+      grew = f.longer;
       written = part.0;
       least = part.1;
-      printed = part.2;
+      most = part.2;
+      printed = part.3;
       rose = rose;
     }
 
 pub failed_legal : (setup : Setup) (told now next : Option (List ℕ)) (history all : List Event) (g : Guard) (e : Event)
     → Came setup told history g now → (f : Fails setup e g now next) → all ≡ history ++ e ∷ []
-    → (rules : Rules) → AreRows rules → guard_after rules setup all ≡ Some f.after
+    → (rules : Rules) → AreRows rules.row → guard_after rules setup all ≡ Some f.after
 failed_legal setup told now next history all g e came f split rules rows =
     ap (guard_after rules setup) split ∙ legal_more rules setup history e g f.after (came.legal rules rows) (f.happens rules rows)
 

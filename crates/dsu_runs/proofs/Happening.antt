@@ -16,13 +16,13 @@ use Rattle.source_model.specs.Journals.{guard_if, happens}
 use Rattle.source_model.specs.JournalLaws.{CanHappen}
 use Rattle.source_model.specs.Schedules.{due}
 use Rattle.source_model.proofs.Soloing.{due_happens, due_is}
-use Rattle.dsu_runs.specs.Rows.{AreRows}
+use Rattle.effects.specs.Rows.{AreRows}
 
 -- some rules by the definitions of effects
 pub any_rules : Rules
 any_rules = record { row = λ bodies mark. (each_has_a_row bodies mark).0 }
 
-pub any_are_rows : AreRows any_rules
+pub any_are_rows : AreRows any_rules.row
 unfolding any_rules
 any_are_rows bodies mark = (each_has_a_row bodies mark).1
 

@@ -16,7 +16,7 @@ use Rattle.dsu_runs.specs.declared.running.Step.{Step}
 use Rattle.dsu_runs.specs.declared.running.Step.TheVariants as steps
 use Rattle.dsu_runs.specs.declared.solo_run.SoloRun.{SoloRun}
 use Rattle.dsu_runs.specs.declared.ran.StopCause.TheVariants.{Ended, SinkFailed, Memory}
-use Rattle.dsu_runs.specs.Rows.{AreRows}
+use Rattle.effects.specs.Rows.{AreRows}
 use Rattle.dsu_runs.specs.Turns.{Keeps, Turned, first_after, next_within, ran_of}
 use Rattle.dsu_runs.specs.Solo.{EachBeforeTheEnd, RanSolo}
 use Rattle.dsu_runs.proofs.Acting.{rose_since}
@@ -77,7 +77,7 @@ module _ {E : Type 0} (setup : Setup) (is_at : Guard → E → Type 0) (told : E
     pub came : Came setup (told engine) s.running.history.items guard (told s.running.engine)
     pub there : is_at guard s.running.engine
     pub later : faults engine ≤ faults s.running.engine
-    pub solo : (rules : Rules) → AreRows rules → Solo rules setup (reverse s.running.history.items) guard last
+    pub solo : (rules : Rules) → AreRows rules.row → Solo rules setup (reverse s.running.history.items) guard last
     pub begun : EachBeforeTheEnd setup moves s.running.history.items
     pub first : s.first ≡ first_after last
     pub left : s.left + move_count s.running.history.items ≡ moves
@@ -170,9 +170,9 @@ module _ {E : Type 0} (setup : Setup) (is_at : Guard → E → Type 0) (told : E
         subst (λ x. Turned is_at told setup at.guard (next_within setup at.guard at.last old.left) old new x) is turned
 
     solo_more : (wanted e : Event) (after : Guard) → next_within setup at.guard at.last old.left ≡ Some wanted → MayStand wanted e
-        → ((rules : Rules) → AreRows rules → happens rules setup e at.guard ≡ Some after)
+        → ((rules : Rules) → AreRows rules.row → happens rules setup e at.guard ≡ Some after)
         → new.running.history.items ≡ old.running.history.items ++ e ∷ []
-        → (rules : Rules) → AreRows rules
+        → (rules : Rules) → AreRows rules.row
         → Solo rules setup (reverse new.running.history.items) after (option_or (acted_by e) at.last)
     solo_more wanted e after next stands made history rules rows =
         subst (λ es. Solo rules setup es after (option_or (acted_by e) at.last))
@@ -272,7 +272,7 @@ module _ {E : Type 0} (setup : Setup) (is_at : Guard → E → Type 0) (told : E
     same_begun same rules events more e before rows is legal = at.begun rules events more e before rows (sym same ∙ is) legal
 
     same_solo : new.running.history.items ≡ old.running.history.items
-        → (rules : Rules) → AreRows rules → Solo rules setup (reverse new.running.history.items) at.guard at.last
+        → (rules : Rules) → AreRows rules.row → Solo rules setup (reverse new.running.history.items) at.guard at.last
     same_solo same rules rows = subst (λ es. Solo rules setup (reverse es) at.guard at.last) (sym same) (at.solo rules rows)
 
     pub lacks : step ≡ steps.Memory → RanSolo setup is_at told faults engine moves (ran_of new.running Memory)

@@ -119,6 +119,7 @@ module _ {E : Type 0} (is_at : Guard → E → Type 0) (told : E → Option (Lis
     fails = record {
       after = acts.fails.after;
       happens = acts.fails.happens;
+      longer = acts.fails.longer;
       grew = λ before is. acts.fails.grew before (waits.silent ∙ is);
     };
     moves = acts.moves;

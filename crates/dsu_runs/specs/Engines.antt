@@ -1,5 +1,5 @@
 -- What an engine says of a run, by the guard that it is at.
-use Rattle.std.specs.Prelude.{◌≡◌, ℕ, ◌≤◌, Bool, List, ◌++◌, length, take, Option, Some, None, if◌then◌else◌}
+use Rattle.std.specs.Prelude.{◌≡◌, ℕ, ◌≤◌, ◌<◌, Bool, List, ◌++◌, length, take, Option, Some, None, if◌then◌else◌}
 use Rattle.bytecode.specs.declared.run.Event.{Event}
 use Rattle.bytecode.specs.declared.run.Ending.{Ending}
 use Rattle.bytecode.specs.declared.run.Ending.TheVariants.{Trap, Finished}
@@ -11,7 +11,7 @@ use Rattle.source_model.specs.Runs.{lives}
 use Rattle.source_model.specs.Guards.{Guard, Rules, Setup, seat_of}
 use Rattle.source_model.specs.Journals as journal
 use Rattle.source_model.specs.Endings.{int_ending}
-use Rattle.dsu_runs.specs.Rows.{AreRows}
+use Rattle.effects.specs.Rows.{AreRows}
 use Rattle.dsu_runs.specs.declared.engine.Made.{Made}
 use Rattle.dsu_runs.specs.declared.engine.Made.TheVariants.{Done, CannotHappen, SinkFailed}
 use Rattle.dsu_runs.specs.declared.engine.Stands.{Stands}
@@ -46,29 +46,30 @@ waits_in w slot = if is_over w then None else waits_for w slot
 abbrev pub Grew : Guard → Guard → Option (List ℕ) → Option (List ℕ) → Type 0
 Grew g after told now = (before : List ℕ) → told ≡ Some (before ++ g.world.output) → now ≡ Some (before ++ after.world.output)
 
--- it grew by a prefix of what was printed from one guard to another
+-- it grew by a prefix of what was printed from one guard to another, and not by all of it
 abbrev pub GrewPartly : Guard → Guard → Option (List ℕ) → Option (List ℕ) → Type 0
 GrewPartly g after told now =
     (before : List ℕ) → told ≡ Some (before ++ g.world.output)
-    → (n : ℕ) × (length g.world.output ≤ n) × (now ≡ Some (before ++ take n after.world.output))
+    → (n : ℕ) × (length g.world.output ≤ n) × (n < length after.world.output) × (now ≡ Some (before ++ take n after.world.output))
 
 -- an event was made: the guard after it, at which the engine is
 pub record Makes (at : Guard → Type 0) (setup : Setup) (e : Event) (g : Guard) (told now : Option (List ℕ)) : Type 0 where
   pub after : Guard
-  pub happens : (rules : Rules) → AreRows rules → journal.happens rules setup e g ≡ Some after
+  pub happens : (rules : Rules) → AreRows rules.row → journal.happens rules setup e g ≡ Some after
   pub there : at after
   pub grew : Grew g after told now
 
 -- an event can't happen, and the engine stays
 pub record Refuses (at : Guard → Type 0) (setup : Setup) (e : Event) (g : Guard) (told now : Option (List ℕ)) : Type 0 where
-  pub never : (rules : Rules) → AreRows rules → journal.happens rules setup e g ≡ None
+  pub never : (rules : Rules) → AreRows rules.row → journal.happens rules setup e g ≡ None
   pub stays : at g
   pub silent : now ≡ told
 
--- an event was made, and only a prefix of what it printed could be written
+-- an event was made that printed something, and not all of it could be written
 pub record Fails (setup : Setup) (e : Event) (g : Guard) (told now : Option (List ℕ)) : Type 0 where
   pub after : Guard
-  pub happens : (rules : Rules) → AreRows rules → journal.happens rules setup e g ≡ Some after
+  pub happens : (rules : Rules) → AreRows rules.row → journal.happens rules setup e g ≡ Some after
+  pub longer : length g.world.output < length after.world.output
   pub grew : GrewPartly g after told now
 
 -- what came of an event at a guard

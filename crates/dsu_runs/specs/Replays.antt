@@ -5,7 +5,7 @@ use Rattle.bytecode.specs.declared.run.Ending.{Ending}
 use Rattle.source_model.specs.Guards.{Guard, Rules, Setup}
 use Rattle.source_model.specs.Journals.{guard_after, happens}
 use Rattle.source_model.specs.Endings.{ending, int_ending}
-use Rattle.dsu_runs.specs.Rows.{AreRows}
+use Rattle.effects.specs.Rows.{AreRows}
 use Rattle.dsu_runs.specs.Ran.{FailedAt, Printed}
 use Rattle.dsu_runs.specs.declared.ran.Ran.{Ran}
 use Rattle.dsu_runs.specs.declared.ran.StopCause.{StopCause}
@@ -28,7 +28,7 @@ pub record Refused {E : Type 0} (setup : Setup) (is_at : Guard → E → Type 0)
     (g : Guard) (line : ℕ) (engine : E) (ran : Ran E) : Type 0 where
   pub event : Event
   pub next : slice_get lines (length ran.history.items) ≡ Some (line, event)
-  pub never : (rules : Rules) → AreRows rules → happens rules setup event g ≡ None
+  pub never : (rules : Rules) → AreRows rules.row → happens rules setup event g ≡ None
   pub there : is_at g ran.engine
   pub printed : Printed (told engine) (told ran.engine) g
 
@@ -47,7 +47,7 @@ pub record Replayed {E : Type 0} (setup : Setup) (is_at : Guard → E → Type 0
     (engine : E) (lines : List (ℕ × Event)) (ran : Ran E) : Type 0 where
   -- the guard after the events that were made
   pub guard : Guard
-  pub legal : (rules : Rules) → AreRows rules → guard_after rules setup ran.history.items ≡ Some guard
+  pub legal : (rules : Rules) → AreRows rules.row → guard_after rules setup ran.history.items ≡ Some guard
   pub made : ran.history.items ≡ take (length ran.history.items) (events_of lines)
   pub later : faults engine ≤ faults ran.engine
   pub stopped : StoppedReplay setup is_at told faults engine lines ran guard ran.cause

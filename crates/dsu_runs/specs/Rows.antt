@@ -1,13 +1,7 @@
 -- Rules whose rows are those of the definitions of effects.
-use Rattle.std.specs.Prelude.{List}
-use Rattle.c_semantics.specs.Store.{Body, Mark}
-use Rattle.effects.specs.Rows.{IsRowOf}
+use Rattle.effects.specs.Rows.{AreRows}
 use Rattle.source_model.specs.Guards.{Rules}
-
--- the row of each mark is the one that the definitions of effects give it
-abbrev pub AreRows : Rules → Type 0
-AreRows rules = (bodies : List Body) (mark : Mark) → IsRowOf bodies mark (rules.row bodies mark)
 
 -- there are such rules
 abbrev pub RulesExist : Type 0
-RulesExist = (rules : Rules) × AreRows rules
+RulesExist = (rules : Rules) × AreRows rules.row

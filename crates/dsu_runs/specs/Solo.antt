@@ -6,7 +6,7 @@ use Rattle.source_model.specs.Guards.{Guard, Rules, Setup}
 use Rattle.source_model.specs.Journals.{guard_after}
 use Rattle.source_model.specs.Schedules.{Solo, move_count}
 use Rattle.source_model.specs.Endings.{ending, int_ending, run_ending}
-use Rattle.dsu_runs.specs.Rows.{AreRows}
+use Rattle.effects.specs.Rows.{AreRows}
 use Rattle.dsu_runs.specs.Ran.{FailedAt, Printed}
 use Rattle.dsu_runs.specs.declared.ran.Ran.{Ran}
 use Rattle.dsu_runs.specs.declared.ran.StopCause.{StopCause}
@@ -16,7 +16,7 @@ use Rattle.dsu_runs.specs.declared.ran.StopCause.TheVariants.{Ended, SinkFailed,
 abbrev pub EachBeforeTheEnd : Setup → ℕ → List Event → Type 0
 EachBeforeTheEnd setup moves history =
     (rules : Rules) (events later : List Event) (e : Event) (before : Guard)
-    → AreRows rules → history ≡ events ++ e ∷ later → guard_after rules setup events ≡ Some before
+    → AreRows rules.row → history ≡ events ++ e ∷ later → guard_after rules setup events ≡ Some before
     → run_ending setup moves events before ≡ None
 
 -- a run that may make so many moves has ended: here, and so
@@ -43,9 +43,9 @@ pub record RanSolo {E : Type 0} (setup : Setup) (is_at : Guard → E → Type 0)
   -- the guard after the events that were made, and the slot that acted last
   pub guard : Guard
   pub last : Option ℕ
-  pub legal : (rules : Rules) → AreRows rules → guard_after rules setup ran.history.items ≡ Some guard
+  pub legal : (rules : Rules) → AreRows rules.row → guard_after rules setup ran.history.items ≡ Some guard
   -- each event is the one that the solo schedule had next, or withdraws the offer that it would have decided
-  pub solo : (rules : Rules) → AreRows rules → Solo rules setup (reverse ran.history.items) guard last
+  pub solo : (rules : Rules) → AreRows rules.row → Solo rules setup (reverse ran.history.items) guard last
   pub most : move_count ran.history.items ≤ moves
   pub begun : EachBeforeTheEnd setup moves ran.history.items
   pub later : faults engine ≤ faults ran.engine

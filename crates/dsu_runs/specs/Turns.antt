@@ -86,7 +86,7 @@ pub record Waits {E : Type 0} (is_at : Guard → E → Type 0) (told : E → Opt
   pub stays : is_at g new.running.engine
   pub silent : told new.running.engine ≡ told old.running.engine
 
--- the move that was next was made, and only a prefix of what it printed could be written
+-- the move that was next was made, and not all that it printed could be written
 pub record Breaks {E : Type 0} (told : E → Option (List ℕ)) (setup : Setup) (g : Guard) (next : Option Event)
     (old new : SoloRun E) : Type 0 where
   pub event : Event

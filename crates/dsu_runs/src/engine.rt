@@ -20,7 +20,7 @@ pub enum Made {
     Done,
     /// It can't happen, and nothing changed.
     CannotHappen,
-    /// It was made, but a part of what it printed couldn't be written. The engine makes no further event.
+    /// It was made and printed something, but not all of that could be written. The engine makes no further event.
     SinkFailed,
 }
 

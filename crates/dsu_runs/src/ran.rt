@@ -5,7 +5,7 @@ use bytecode::{Ending, Event};
 pub enum StopCause {
     /// The run ended so.
     Ended(Ending),
-    /// What the last event printed couldn't be written.
+    /// Not all that the last event printed could be written.
     SinkFailed,
     /// The event of that line of the journal can't happen.
     CannotHappen(u32),

@@ -32,7 +32,7 @@ use Rattle.offer_decision.specs.Seats.{AreSeats as AreSeatsSeen, AreInTransactio
 use Rattle.offer_decision.proofs.Decided.{no_patch_is_decided, refusal_is_decided}
 use Rattle.offer_decision.proofs.Refusals.{refusals_stay}
 use Rattle.dsu_runs.specs.Books.{Entries, IsBook, Says}
-use Rattle.dsu_runs.specs.Rows.{AreRows}
+use Rattle.effects.specs.Rows.{AreRows}
 use Rattle.dsu_runs.proofs.Happening.{any_are_rows, any_rules}
 use Rattle.source_model.specs.declared.answer.OfferAnswer.TheVariants as ids
 use Rattle.plain_engine.specs.declared.seat.Seat.{Seat}
@@ -54,7 +54,7 @@ pub decides_one : (a b : Bool) (o : Option Guard) → a ≡ false → b ≡ true
 decides_one a b o going offered = ap (λ x. if not x && b then o else None) going ∙ ap (λ x. if x then o else None) offered
 
 pub never_decides : (setup : Setup) (g : Guard) (k : ℕ) (s : State) → IsStateAt setup g s
-    → (has_ended g ≡ false → is_open g k ≡ true → (rules : Rules) → AreRows rules → decide rules g k (offer_at setup k) ≡ None)
+    → (has_ended g ≡ false → is_open g k ≡ true → (rules : Rules) → AreRows rules.row → decide rules g k (offer_at setup k) ≡ None)
     → Stayed setup (Decide k) g s
 never_decides setup g k s at none = record {
   never = λ rules rows.
@@ -135,7 +135,7 @@ module _ (setup : Setup) (g : Guard) (k : ℕ) (s : State) (at : IsStateAt setup
         ∙ ap (λ (p : Program). at.versions.before ++ text_of p ∷ [])
         (same_Some at.versions.tree is.last (sym at.versions.numbered ∙ is.last_at))
 
-    pub says : (rules : Rules) → AreRows rules → IsDecision rules g.versions g.seats is.versions is.next is.seats d
+    pub says : (rules : Rules) → AreRows rules.row → IsDecision rules g.versions g.seats is.versions is.next is.seats d
     says rules rows =
         is.says rules g.versions g.seats rows (is.are g.versions at.versions.before at.versions.installed last_is)
         (subst (λ names. AreSeatsSeen names (store g.versions) is.seats g.seats) (sym is.same.names_are)
@@ -144,7 +144,7 @@ module _ (setup : Setup) (g : Guard) (k : ℕ) (s : State) (at : IsStateAt setup
     offer : (lines : ℕ) × (offer_at setup k ≡ Some (record { text = text_of is.next; lines = lines }))
     offer = offer_is setup g s.run k is.next at.run some is.next_at
 
-  closes : (a : Answer) (book : Entries) → ((rules : Rules) → AreRows rules → decide rules g k (offer_at setup k) ≡ Some (answered k a g))
+  closes : (a : Answer) (book : Entries) → ((rules : Rules) → AreRows rules.row → decide rules g k (offer_at setup k) ≡ Some (answered k a g))
       → IsBook setup (answered k a g) s.installed.names book → Happened setup (Decide k) g (record s { book = book }) []
   closes a book decided is = record {
     after = answered k a g;

@@ -11,7 +11,7 @@ use Rattle.dsu_runs.specs.declared.engine.Made.TheVariants.{Done, CannotHappen, 
 use Rattle.plain_engine.specs.declared.state.State.{State}
 use Rattle.plain_engine.specs.Plain.{IsAt, IsStateAt, Wrote, lines_among}
 use Rattle.plain_engine.specs.Steps.{ComesTo, Happened, Stayed}
-use Rattle.plain_engine.proofs.Printing.{grew_all, grew_partly}
+use Rattle.plain_engine.proofs.Printing.{grew_all, grew_partly, some_printed}
 
 -- an event that can't happen
 pub refuses : (setup : Setup) (e : Event) (g : Guard) (old new : State) (printed written : ℕ) (told : Option (List ℕ))
@@ -63,7 +63,8 @@ moves setup e g old mid new printed written printed2 written2 told now more Done
 moves setup e g old mid new printed written printed2 written2 told now more SinkFailed at h same wrote lines = record {
   after = h.after;
   happens = h.happens;
-  grew = grew_partly told now g.world.output more h.after.world.output printed wrote.0 h.grew at.printed wrote.1;
+  longer = some_printed g.world.output more h.after.world.output printed wrote.0 h.grew at.printed wrote.1;
+  grew = grew_partly told now g.world.output more h.after.world.output printed wrote.0 h.grew at.printed wrote.1 wrote.2;
 }
 moves setup e g old mid new printed written printed2 written2 told now more CannotHappen at h same wrote lines = absurd wrote
 

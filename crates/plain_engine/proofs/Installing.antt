@@ -41,7 +41,7 @@ use Rattle.offer_decision.specs.Decided.{IsDecision}
 use Rattle.offer_decision.specs.Patches.{IsPatchFor}
 use Rattle.offer_decision.proofs.Decided.{admission_is_decided}
 use Rattle.dsu_runs.specs.Books.{IsBook}
-use Rattle.dsu_runs.specs.Rows.{AreRows}
+use Rattle.effects.specs.Rows.{AreRows}
 use Rattle.dsu_runs.proofs.Books.{more_names, same_offers}
 use Rattle.dsu_runs.proofs.Happening.{any_are_rows, any_rules}
 use Rattle.plain_engine.specs.declared.seat.Kept.{Kept}
@@ -176,7 +176,7 @@ module _ (setup : Setup) (g : Guard) (k : ℕ) (s : State) (at : IsStateAt setup
   on : is_over g.world ≡ false
   on = not_over g going right
 
-  said : (rules : Rules) → AreRows rules → IsDecision rules g.versions g.seats is.versions is.next is.seats (decision.Admitted patch pins)
+  said : (rules : Rules) → AreRows rules.row → IsDecision rules g.versions g.seats is.versions is.next is.seats (decision.Admitted patch pins)
   said rules rows = says setup g k s at going right offered some (decision.Admitted patch pins) is rules rows
 
   pub patch_for : IsPatchFor g.versions is.versions is.next patch
@@ -221,7 +221,7 @@ module _ (setup : Setup) (g : Guard) (k : ℕ) (s : State) (at : IsStateAt setup
       subst (λ p. All (IsChange p (slice_index_or (texts_of setup) k [])) patch.transforms.items) old_is
       (subst (λ q. All (IsChange (map bare_def is.versions.last.now.definitions) q) patch.transforms.items) new_is patch_for.transforms)
 
-  decided : (rules : Rules) → AreRows rules
+  decided : (rules : Rules) → AreRows rules.row
       → decide rules g k (offer_at setup k)
       ≡ option_map (installed_over rules g k (text_of is.next) (changed (last_definitions g.versions) (text_of is.next).definitions))
       (install g.world (Some (text_of is.next).definitions))
@@ -266,14 +266,14 @@ module _ (setup : Setup) (g : Guard) (k : ℕ) (s : State) (at : IsStateAt setup
     world_is : installed (text_of is.next).definitions g.world ≡ r.world
     world_is = installs g.world r.world (text_of is.next).definitions on took
 
-    pins_set : (rules : Rules) → AreRows rules
+    pins_set : (rules : Rules) → AreRows rules.row
         → pinned_from rules (bodies_of g) (changed (last_definitions g.versions) (text_of is.next).definitions) g.world 0 g.seats
         ≡ with_pins pins g.seats
     pins_set rules rows =
         pins_are_set rules (bodies_of g) (changed (last_definitions g.versions) (text_of is.next).definitions) g.world 0 g.seats pins
         ((said rules rows).1.pins_are g.world (within_for g is.seats going (is.within setup g at.run)))
 
-    pub happens_so : (rules : Rules) → AreRows rules → happens rules setup (Decide k) g ≡ Some after
+    pub happens_so : (rules : Rules) → AreRows rules.row → happens rules setup (Decide k) g ≡ Some after
     happens_so rules rows =
         decides_one (has_ended g) (is_open g k) (decide rules g k (offer_at setup k)) going offered
         ∙ decided rules rows

@@ -23,22 +23,40 @@ appended (Some xs) (Some ys) before out bytes all is grew whole =
     ∙ append_assoc before out bytes
     ∙ ap (λ b. before ++ b) whole)
 
+-- what is left is what was printed since
+left_is : (out more all : List ℕ) (printed : ℕ) → all ≡ out ++ more → printed ≡ length out → drop printed all ≡ more
+left_is out more all printed whole from = ap (λ k. drop k all) from ∙ drop-appended out all more whole
+
 -- all of the rest
 pub grew_all : (told now : Option (List ℕ)) (out more all : List ℕ) (printed : ℕ) → all ≡ out ++ more → printed ≡ length out
     → Appends told now (drop printed all) → (before : List ℕ) → told ≡ Some (before ++ out) → now ≡ Some (before ++ all)
 grew_all told now out more all printed whole from grew before is =
     appended told now before out (drop printed all) all is grew
-    (ap (λ b. out ++ b) (ap (λ n. drop n all) from ∙ drop-appended out all more whole) ∙ sym whole)
+    (ap (λ b. out ++ b) (left_is out more all printed whole from) ∙ sym whole)
 
--- a prefix of it
+-- a shorter prefix of what is left ends before all of it
+ends_before : (out more all : List ℕ) (printed n : ℕ) → all ≡ out ++ more → printed ≡ length out → n < length (drop printed all)
+    → length out + n < length all
+ends_before out more all printed n whole from fewer =
+    let left = ap length (left_is out more all printed whole from) in
+    let long = ap length whole ∙ length-append out more in
+    omega (arith, fewer, left, long)
+
+-- where not all of what is left was written, something was printed
+pub some_printed : (out more all : List ℕ) (printed n : ℕ) → all ≡ out ++ more → printed ≡ length out → n < length (drop printed all)
+    → length out < length all
+some_printed out more all printed n whole from fewer = let before = ends_before out more all printed n whole from fewer in omega (arith, before)
+
+-- a shorter prefix of it
 pub grew_partly : (told now : Option (List ℕ)) (out more all : List ℕ) (printed n : ℕ) → all ≡ out ++ more → printed ≡ length out
-    → Appends told now (take n (drop printed all)) → (before : List ℕ) → told ≡ Some (before ++ out)
-    → (k : ℕ) × (length out ≤ k) × (now ≡ Some (before ++ take k all))
-grew_partly told now out more all printed n whole from grew before is = (
+    → n < length (drop printed all) → Appends told now (take n (drop printed all)) → (before : List ℕ) → told ≡ Some (before ++ out)
+    → (k : ℕ) × (length out ≤ k) × (k < length all) × (now ≡ Some (before ++ take k all))
+grew_partly told now out more all printed n whole from fewer grew before is = (
   length out + n,
   omega arith,
+  ends_before out more all printed n whole from fewer,
   appended told now before out (take n (drop printed all)) (take (length out + n) all) is grew
-      (ap (λ b. out ++ take n b) (ap (λ k. drop k all) from ∙ drop-appended out all more whole)
+      (ap (λ b. out ++ take n b) (left_is out more all printed whole from)
       ∙ sym (take-append-add out more n)
       ∙ ap (take (length out + n)) (sym whole)),
 )
@@ -55,6 +73,7 @@ pub wrote_partly : (told now : Option (List ℕ)) (seen output : List ℕ) (prin
     → AppendsFront told now (take (length seen - printed) (drop printed seen)) → Wrote output printed told now new SinkFailed
 wrote_partly told now seen output printed new is part = (
   part.0,
+  subst (λ bytes. part.0 < length bytes) (take_rest seen printed ∙ ap (drop printed) is) part.1,
   subst (λ bytes. Appends told now (take part.0 (drop printed bytes))) is
       (subst (λ bytes. Appends told now (take part.0 bytes)) (take_rest seen printed) part.2),
 )

@@ -1,5 +1,5 @@
 -- When the plain engine is at a guard, and what it hands to its sink.
-use Rattle.std.specs.Prelude.{◌≡◌, ℕ, ◌==◌, List, [], ◌∷◌, ◌++◌, map, length, take, drop, count_by, slice_get, Option, Some, false}
+use Rattle.std.specs.Prelude.{◌≡◌, ℕ, ◌<◌, ◌==◌, List, [], ◌∷◌, ◌++◌, map, length, take, drop, count_by, slice_get, Option, Some, false}
 use Rattle.std.specs.Io.KnownBytes.{Appends}
 use Rattle.c_tree.specs.declared.def.Program.{Program}
 use Rattle.c_semantics.specs.SourceTexts.{Text, text_of}
@@ -56,10 +56,11 @@ pub record IsAt (setup : Setup) (g : Guard) (s : State) (sent lines : ℕ) : Typ
   pub printed : sent ≡ length g.world.output
   pub written : lines ≡ lines_written g.world
 
--- what came of handing to a sink what is after so many bytes of an output
+-- what came of handing to a sink what is after so many bytes of an output: all of it was appended, or a shorter prefix
 abbrev pub Wrote : List ℕ → ℕ → Option (List ℕ) → Option (List ℕ) → ℕ → Made → Type 0
 Wrote output printed told now new Done = (new ≡ length output) × Appends told now (drop printed output)
-Wrote output printed told now new SinkFailed = (n : ℕ) × Appends told now (take n (drop printed output))
+Wrote output printed told now new SinkFailed =
+    (n : ℕ) × (n < length (drop printed output)) × Appends told now (take n (drop printed output))
 Wrote output printed told now new CannotHappen = ⊥
 
 -- how many lines end in some bytes

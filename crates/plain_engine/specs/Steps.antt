@@ -6,7 +6,7 @@ use Rattle.c_semantics.specs.SourceTexts.{Text, text_of}
 use Rattle.source_model.specs.Answers.{Installed}
 use Rattle.source_model.specs.Guards.{Guard, Rules, Setup, answered, is_open}
 use Rattle.source_model.specs.Journals as journal
-use Rattle.dsu_runs.specs.Rows.{AreRows}
+use Rattle.effects.specs.Rows.{AreRows}
 use Rattle.patch_build.specs.declared.patch.Versions.{Versions}
 use Rattle.patch_build.specs.Versions.{AreVersions}
 use Rattle.source_runner.specs.SourceRuns.{trees_of, words_of}
@@ -24,13 +24,13 @@ use Rattle.plain_engine.specs.Seen.{AreSeen, AreWithin}
 -- an event was made, and it printed so many bytes
 pub record Happened (setup : Setup) (e : Event) (g : Guard) (new : State) (more : List ℕ) : Type 0 where
   pub after : Guard
-  pub happens : (rules : Rules) → AreRows rules → journal.happens rules setup e g ≡ Some after
+  pub happens : (rules : Rules) → AreRows rules.row → journal.happens rules setup e g ≡ Some after
   pub there : IsStateAt setup after new
   pub grew : after.world.output ≡ g.world.output ++ more
 
 -- an event can't happen, and the state stays at its guard
 pub record Stayed (setup : Setup) (e : Event) (g : Guard) (new : State) : Type 0 where
-  pub never : (rules : Rules) → AreRows rules → journal.happens rules setup e g ≡ None
+  pub never : (rules : Rules) → AreRows rules.row → journal.happens rules setup e g ≡ None
   pub stays : IsStateAt setup g new
 
 -- what came of a move

@@ -3,6 +3,8 @@ ghost use Rattle.std.specs.Prelude.{◌≡◌, ◌≤◌, length, map, IfOk, IfE
 ghost use Rattle.source_model.specs.Answers.{answer_seen};
 ghost use Rattle.source_model.specs.Guards.{Guard, Setup, first_guard, lines_written};
 ghost use Rattle.source_model.specs.Journals.{answers};
+ghost use Rattle.source_model.specs.Patches.{all_names};
+ghost use Rattle.patch_build.specs.Versions.{IsTableOf};
 ghost use Rattle.dsu_runs.specs.Setups.{setup_of};
 ghost use Rattle.plain_engine.specs.Plain.{IsAt};
 
@@ -62,13 +64,15 @@ impl<S: Sink> PlainEngine<S> {
     }
 
     /// The sink, with all that was printed; the answers to the offers; and the names for which the ids in the
-    /// answers stand.
+    /// answers stand: those of all versions so far, each once.
     pub fn into_parts(self) -> (S, Vec<OfferAnswer>, Names)
         ensures sink { result.0 ≡ self.sink }
         ensures answers { result.1.items ≡ self.state.book.answers }
         ensures names { result.2 ≡ self.state.installed.names }
         ensures answered { (setup : Setup) (g : Guard) → IsAt setup g self.state self.printed self.written
             → map (answer_seen result.2) result.1.items ≡ answers setup g }
+        ensures named { (setup : Setup) (g : Guard) → IsAt setup g self.state self.printed self.written
+            → IsTableOf (all_names g.versions) result.2 }
     {
         let (answers, names) = self.state.into_parts();
         (self.sink, answers, names)

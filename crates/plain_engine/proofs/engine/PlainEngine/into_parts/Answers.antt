@@ -1,5 +1,7 @@
-use Rattle.std.proofs.Common.{◌∙◌, ap, map}
+use Rattle.std.proofs.Common.{◌∙◌, ap, map, subst, sym}
 use Rattle.source_model.specs.Answers.{answer_seen}
+use Rattle.source_model.specs.Patches.{all_names}
+use Rattle.patch_build.specs.Versions.{IsTableOf}
 use Rattle.dsu_runs.proofs.Books.{answers_now}
 use Rattle.plain_engine.proofs.engine.PlainEngine.into_parts.Goals as goal
 
@@ -9,3 +11,7 @@ returns-clause-answered g c = λ setup x at.
     ap (λ names. map (answer_seen names) c.into_parts-answers.result.0.items) c.into_parts-answers.ensures.names
     ∙ ap (map (answer_seen s.installed.names)) c.into_parts-answers.ensures.answers
     ∙ answers_now setup x s.installed.names s.book at.state.book
+
+pub returns-clause-named : goal.returns-clause-named
+returns-clause-named g c = λ setup x at.
+    subst (IsTableOf (all_names x.versions)) (sym c.into_parts-answers.ensures.names) at.state.versions.installed.names_are
