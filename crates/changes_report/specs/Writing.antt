@@ -6,7 +6,7 @@ use Rattle.c_tree.specs.BareExpr.{Bytes}
 use Rattle.dsu_report.specs.declared.fault.ReportFault.{ReportFault}
 use Rattle.dsu_report.specs.declared.fault.ReportFault.TheVariants.{Failed, Memory}
 
--- the text, or a prefix of it where the sink failed
+-- the text, or a shorter prefix of it where the sink failed
 abbrev pub Writes : Bytes → Option (List ℕ) → Option (List ℕ) → Result (Unit {0}) ReportFault → Type 0
 Writes text old new (Ok done) = Appends old new text
 Writes text old new (Err Failed) = AppendsFront old new text

@@ -4,4 +4,5 @@ pub mod Found
 pub mod Newlines
 mod Numbers
 pub mod Pages
+pub mod Pieces
 pub mod Reading

@@ -1,12 +1,13 @@
 -- The lines of events that are put a page at a time.
-use Rattle.std.proofs.Common.{◌≡◌, ℕ, List, [], ◌++◌, take, drop, Option, Some, None, Result, Ok, Err, refl, ap, ap₂, sym, subst, ◌∙◌, append_assoc, append-nil}
+use Rattle.std.proofs.Common.{◌≡◌, ℕ, List, [], ◌++◌, take, drop, Option, refl, ap, ap₂, sym, subst, ◌∙◌, append_assoc, append-nil}
 use Rattle.std.proofs.lemmas.List.Concat.{flat_map-append}
 use Rattle.std.proofs.lemmas.List.{take-append-drop}
 use Rattle.std.specs.Io.KnownBytes.{Appends}
 use Rattle.bytecode.specs.declared.run.Event.{Event}
-use Rattle.dsu_io.specs.Sinks.{AppendsFront, PutAppends}
+use Rattle.dsu_io.specs.Sinks.{AppendsFront}
 use Rattle.dsu_io.proofs.Written.{Appends-then, AppendsFront-then}
 use Rattle.dsu_journal.specs.Journals.{event_lines}
+use Rattle.dsu_journal.proofs.Pieces.{Appends-nothing}
 
 pub lines-append : (xs ys : List Event) → event_lines (xs ++ ys) ≡ event_lines xs ++ event_lines ys
 lines-append xs ys = flat_map-append _ xs ys
@@ -19,10 +20,6 @@ pub record Printed (old now : Option (List ℕ)) (events rest : List Event) : Ty
   pub done : List Event
   pub all : events ≡ done ++ rest
   pub appended : Appends old now (event_lines done)
-
-pub Appends-nothing : (old : Option (List ℕ)) → Appends old old []
-Appends-nothing None = tt
-Appends-nothing (Some bytes) = sym (append-nil bytes)
 
 -- no page yet
 pub none_printed : (old : Option (List ℕ)) (events : List Event) → Printed old old events events
@@ -38,7 +35,7 @@ page_printed old mid new events rest some others page n before front back lines 
       (Appends-then old mid new (event_lines before.done) page before.appended put);
 }
 
--- a prefix of one more page
+-- a shorter prefix of one more page
 pub page_front : (old mid new : Option (List ℕ)) (events rest some others : List Event) (page : List ℕ) (n : ℕ) → Printed old mid events rest
     → some ≡ take n rest → others ≡ drop n rest → page ≡ event_lines some → AppendsFront mid new page → AppendsFront old new (event_lines events)
 page_front old mid new events rest some others page n before front back lines put =
@@ -52,14 +49,3 @@ page_front old mid new events rest some others page n before front back lines pu
 pub all_printed : (old new : Option (List ℕ)) (events : List Event) → Printed old new events [] → Appends old new (event_lines events)
 all_printed old new events before =
     subst {A = List Event} (λ es. Appends old new (event_lines es)) (sym (before.all ∙ append-nil before.done)) before.appended
-
--- bytes, and then what a call puts
-pub PutAppends-then : {E : Type 0} (old mid new : Option (List ℕ)) (result : Result (Unit {0}) E) (xs ys : List ℕ) → Appends old mid xs
-    → PutAppends mid new result ys → PutAppends old new result (xs ++ ys)
-PutAppends-then old mid new (Ok done) xs ys first second = Appends-then old mid new xs ys first second
-PutAppends-then old mid new (Err e) xs ys first second =
-    subst {A = List ℕ} (λ more. AppendsFront old new (xs ++ more)) (append-nil ys) (AppendsFront-then old mid new xs ys [] first second)
-
--- a prefix of bytes that come first
-pub AppendsFront-first : (old new : Option (List ℕ)) (xs ys : List ℕ) → AppendsFront old new xs → AppendsFront old new (xs ++ ys)
-AppendsFront-first old new xs ys front = AppendsFront-then old old new [] xs ys (Appends-nothing old) front

@@ -14,8 +14,8 @@ const PAGE_EVENTS: usize = 1024;
 /// The bytes of a page, which holds those lines: a line has at most 6 bytes, its newline included.
 const PAGE_LEN: usize = 6 * PAGE_EVENTS;
 
-/// Prints the journal of a run with these events. `Failed`: a prefix of it was appended. It takes no memory, and
-/// puts the lines of many events at once.
+/// Prints the journal of a run with these events. `Failed`: a prefix of it was appended, and not all. It takes no
+/// memory, and puts the lines of many events at once.
 pub fn print_journal<S: Sink>(events: &[Event], sink: &mut S) -> Result<(), Failed>
     ensures bytes { PutAppends (S.told sink.old) (S.told sink.new) result (journal_text events.now) }
     ensures cause { HasCause (S.faults sink.old) (S.faults sink.new) result }

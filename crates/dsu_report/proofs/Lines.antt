@@ -54,7 +54,7 @@ line_more old mid new f n before line =
     subst {A = List ℕ} (λ bytes. Appends old new bytes) (sym (before_next f n))
     (Appends-then old mid new (lines_before f n) (f n) before line)
 
--- a prefix of it
+-- a shorter prefix of it
 pub line_front : (old mid new : Option (List ℕ)) (f : ℕ → List ℕ) (n all : ℕ) → n < all → Appends old mid (lines_before f n)
     → AppendsFront mid new (f n) → AppendsFront old new (lines_before f all)
 line_front old mid new f n all below before line =

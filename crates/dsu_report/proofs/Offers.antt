@@ -5,7 +5,7 @@ use Rattle.std.specs.Io.KnownBytes.{Appends}
 use Rattle.std.proofs.lemmas.List.{get_or-map, length-map}
 use Rattle.dsu_io.specs.Sinks.{AppendsFront}
 use Rattle.source_model.specs.declared.answer.OfferAnswer.{OfferAnswer}
-use Rattle.source_model.specs.Answers.{Answer, answer_seen, NotOffered}
+use Rattle.source_model.specs.Answers.{answer_seen, NotOffered}
 use Rattle.dsu_report.specs.Answers.{answer_line, answers_text, line_of_offer}
 use Rattle.dsu_report.proofs.Lines.{line_front, line_more, lines_before}
 
@@ -30,7 +30,7 @@ module _ (names : List (List ℕ)) (given : List OfferAnswer) (texts : List (Lis
       line_more old mid new (line_of_offer (map (answer_seen names) given) texts) at before
       (subst {A = List ℕ} (λ bytes. Appends mid new bytes) line_is line)
 
-  -- a prefix of it
+  -- a shorter prefix of it
   pub offer_front : (old mid new : Option (List ℕ)) → Appends old mid (before_offer names given texts at)
       → AppendsFront mid new (answer_line (at + 1) (answer_seen names answer) text)
       → AppendsFront old new (answers_text (map (answer_seen names) given) texts)

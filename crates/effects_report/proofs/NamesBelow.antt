@@ -51,7 +51,7 @@ names_more old mid new names set i first second =
     subst {A = List ℕ} (λ bytes. Appends old new bytes) (sym e)
     (Appends-then old mid new (names_text (names_below names set i)) (names_text (name_if names set i)) first second)
 
--- a prefix of one more
+-- a shorter prefix of one more
 pub names_front : (old mid new : Option (List ℕ)) (names : List (List ℕ)) (set i n : ℕ) → i < n
     → Appends old mid (names_text (names_below names set i)) → AppendsFront mid new (names_text (name_if names set i))
     → AppendsFront old new (names_text (names_below names set n))

@@ -1,39 +1,15 @@
 -- Bytes that are put in pieces, each of which may fail.
-use Rattle.std.proofs.Common.{◌≡◌, ℕ, ◌+◌, ◌≤◌, ◌<◌, List, [], ◌∷◌, ◌++◌, length, take, drop, get_or, map, None, Some, Result, Ok, Err, sym, ◌∙◌, ap, subst, arith, append-nil, length-append}
-use Rattle.std.proofs.lemmas.List.{get_or-map, get_or_default, length-map, take_all, take_more, drop_more, take-append-drop, take-append-le}
+use Rattle.std.proofs.Common.{◌≡◌, ℕ, ◌+◌, ◌≤◌, ◌<◌, List, [], ◌∷◌, ◌++◌, length, take, drop, get_or, map, Result, Err, sym, ◌∙◌, ap, subst, arith, append-nil}
+use Rattle.std.proofs.lemmas.List.{get_or-map, get_or_default, length-map, take_all, take_more, drop_more, take-append-drop}
 use Rattle.std.proofs.lemmas.List.Concat.{flat_map-append}
 use Rattle.std.specs.List.{flat_map}
 use Rattle.std.specs.declared.option.Option.{Option}
 use Rattle.std.specs.Io.KnownBytes.{Appends}
 use Rattle.dsu_io.specs.Sinks.{AppendsFront, PutAppends}
 use Rattle.dsu_io.proofs.Written.{Appends-then, AppendsFront-then}
+use Rattle.dsu_journal.proofs.Pieces.{AppendsFront-first, AppendsFront-last, PutAppends-then}
 
--- no bytes
-pub Appends-none : (old : Option (List ℕ)) → Appends old old []
-Appends-none None = tt
-Appends-none (Some xs) = sym (append-nil xs)
-
--- a prefix of bytes is one of more bytes
-pub front_more : (old new : Option (List ℕ)) (xs ys : List ℕ) → AppendsFront old new xs → AppendsFront old new (xs ++ ys)
-front_more old new xs ys (n, within, some) = (
-  n,
-  omega (arith, length-append xs ys),
-  subst {A = List ℕ} (λ bytes. Appends old new bytes) (sym (take-append-le n xs ys within)) some,
-)
-
--- bytes, and then a prefix of others
-pub then_front : (old mid new : Option (List ℕ)) (xs ys : List ℕ) → Appends old mid xs → AppendsFront mid new ys → AppendsFront old new (xs ++ ys)
-then_front old mid new xs ys first second =
-    subst {A = List ℕ} (λ bytes. AppendsFront old new (xs ++ bytes)) (append-nil ys)
-    (AppendsFront-then old mid new xs ys [] first second)
-
--- bytes, and then what another call puts
-pub then_put : {E : Type 0} (old mid new : Option (List ℕ)) (xs ys : List ℕ) (result : Result (Unit {0}) E)
-    → Appends old mid xs → PutAppends mid new result ys → PutAppends old new result (xs ++ ys)
-then_put old mid new xs ys (Ok _) first second = Appends-then old mid new xs ys first second
-then_put old mid new xs ys (Err _) first second = then_front old mid new xs ys first second
-
--- where a call has failed, a prefix was put
+-- where a call has failed, a shorter prefix was put
 pub put_failed : {E : Type 0} (old new : Option (List ℕ)) (result : Result (Unit {0}) E) (bytes : List ℕ) (e : E)
     → result ≡ Err e → AppendsFront old new bytes → PutAppends old new result bytes
 put_failed {E} old new result bytes e is front =
@@ -51,7 +27,7 @@ each_more f old mid new xs i d within first second =
     in
     subst {A = List ℕ} (λ bytes. Appends old new bytes) (sym e) (Appends-then old mid new _ _ first second)
 
--- those up to a place and a prefix of the one there
+-- those up to a place and a shorter prefix of the one there
 pub each_front : {X : Type 0} (f : X → List ℕ) (old mid new : Option (List ℕ)) (xs : List X) (i : ℕ) (d : X) → i < length xs
     → Appends old mid (flat_map f (take i xs)) → AppendsFront mid new (f (get_or xs i d)) → AppendsFront old new (flat_map f xs)
 each_front f old mid new xs i d within first second =
@@ -67,20 +43,20 @@ each_front f old mid new xs i d within first second =
 pub four_put : {E : Type 0} (s a b c new : Option (List ℕ)) (p q r t : List ℕ) (result : Result (Unit {0}) E)
     → Appends s a p → Appends a b q → Appends b c r → PutAppends c new result t → PutAppends s new result (p ++ q ++ r ++ t)
 four_put s a b c new p q r t result one two three last =
-    then_put s c new (p ++ q ++ r) t result
+    PutAppends-then s c new result (p ++ q ++ r) t
     (Appends-then s b c (p ++ q) r (Appends-then s a b p q one two) three) last
 
 pub front_first : (s new : Option (List ℕ)) (p q r t : List ℕ) → AppendsFront s new p → AppendsFront s new (p ++ q ++ r ++ t)
 front_first s new p q r t one =
-    front_more s new (p ++ q ++ r) t (front_more s new (p ++ q) r (front_more s new p q one))
+    AppendsFront-first s new (p ++ q ++ r) t (AppendsFront-first s new (p ++ q) r (AppendsFront-first s new p q one))
 
 pub front_second : (s a new : Option (List ℕ)) (p q r t : List ℕ) → Appends s a p → AppendsFront a new q → AppendsFront s new (p ++ q ++ r ++ t)
 front_second s a new p q r t one two =
-    front_more s new (p ++ q ++ r) t (front_more s new (p ++ q) r (then_front s a new p q one two))
+    AppendsFront-first s new (p ++ q ++ r) t (AppendsFront-first s new (p ++ q) r (AppendsFront-last s a new p q one two))
 
 pub front_third : (s a b new : Option (List ℕ)) (p q r t : List ℕ) → Appends s a p → Appends a b q → AppendsFront b new r → AppendsFront s new (p ++ q ++ r ++ t)
 front_third s a b new p q r t one two three =
-    front_more s new (p ++ q ++ r) t (then_front s b new (p ++ q) r (Appends-then s a b p q one two) three)
+    AppendsFront-first s new (p ++ q ++ r) t (AppendsFront-last s b new (p ++ q) r (Appends-then s a b p q one two) three)
 
 -- ---- a loop over items that puts bytes of what each shows
 

@@ -8,7 +8,7 @@ use Rattle.dsu_report.specs.declared.fault.ReportFault.{ReportFault}
 use Rattle.dsu_report.specs.declared.fault.ReportFault.TheVariants.{Failed, Memory}
 use Rattle.effects_report.specs.EffectsText.{IsEffectsText}
 
--- a text of the effects, or a prefix of one where the sink failed
+-- a text of the effects, or a shorter prefix of one where the sink failed
 abbrev pub Writes : Program → Bytes → Option (List ℕ) → Option (List ℕ) → Result (Unit {0}) ReportFault → Type 0
 Writes p text old new (Ok done) = (printed : Bytes) × IsEffectsText p text printed × Appends old new printed
 Writes p text old new (Err Failed) = (printed : Bytes) × IsEffectsText p text printed × AppendsFront old new printed

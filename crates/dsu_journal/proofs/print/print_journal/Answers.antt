@@ -1,7 +1,7 @@
 use Rattle.std.proofs.Common.{◌++◌, codes}
 use Rattle.std.proofs.lemmas.Result.{err_from_is_err_and}
 use Rattle.dsu_journal.specs.Journals.{event_lines, first_line}
-use Rattle.dsu_journal.proofs.Pages.{AppendsFront-first, PutAppends-then}
+use Rattle.dsu_journal.proofs.Pieces.{AppendsFront-first, PutAppends-then}
 use Rattle.dsu_journal.proofs.print.print_journal.Goals as goal
 
 pub returns-in_err-put-clause-bytes : goal.returns-in_err-put-clause-bytes

@@ -1,4 +1,4 @@
-use Rattle.std.proofs.Common.{◌++◌, codes, ap, sym, subst, List, ℕ}
+use Rattle.std.proofs.Common.{◌++◌, codes, sym, subst, List, ℕ}
 use Rattle.source_model.specs.declared.patch.NotPatch.{NotPatch}
 use Rattle.dsu_io.specs.Sinks.{PutAppends}
 use Rattle.dsu_report.specs.Answers.{cause_words}

@@ -1,7 +1,8 @@
 use Rattle.std.proofs.Common.{rules}
 use Rattle.effects_report.specs.EffectsText.{line_text}
 use Rattle.effects_report.specs.Shown.{line_of}
-use Rattle.effects_report.proofs.Putting.{Appends-none, read_more, read_front, mapped_all}
+use Rattle.dsu_journal.proofs.Pieces.{Appends-nothing}
+use Rattle.effects_report.proofs.Putting.{read_more, read_front, mapped_all}
 use Rattle.effects_report.proofs.write.put_lines.Goals as goal
 
 pub returns-in-Err-clause-bytes : goal.returns-in-Err-clause-bytes
@@ -10,7 +11,7 @@ returns-in-Err-clause-bytes g c =
     c.loop-spot-test.true c.loop-spot.invariant.1 c.in-Err.ensures.bytes
 
 pub loop-spot-init : goal.loop-spot-init
-loop-spot-init g c = (search rules, Appends-none _)
+loop-spot-init g c = (search rules, Appends-nothing _)
 
 pub loop-spot-preserved : goal.loop-spot-preserved
 loop-spot-preserved g c = (

@@ -1,7 +1,8 @@
 use Rattle.std.proofs.Common.{rules}
 use Rattle.effects_report.specs.EffectsText.{block_text}
 use Rattle.effects_report.specs.Shown.{block_of}
-use Rattle.effects_report.proofs.Putting.{Appends-none, mapped_more, mapped_front, mapped_all}
+use Rattle.dsu_journal.proofs.Pieces.{Appends-nothing}
+use Rattle.effects_report.proofs.Putting.{mapped_more, mapped_front, mapped_all}
 use Rattle.effects_report.proofs.write.put_sections.Goals as goal
 
 pub returns-in-Err-clause-bytes : goal.returns-in-Err-clause-bytes
@@ -10,7 +11,7 @@ returns-in-Err-clause-bytes g c =
     c.loop-section-test.true c.section-item.is c.loop-section.invariant.1 c.in-Err.ensures.bytes
 
 pub loop-section-init : goal.loop-section-init
-loop-section-init g c = (search rules, Appends-none _)
+loop-section-init g c = (search rules, Appends-nothing _)
 
 pub loop-section-preserved : goal.loop-section-preserved
 loop-section-preserved g c = (
