@@ -1,10 +1,10 @@
 -- The texts that were read of a job's files are accepted.
-use Rattle.std.proofs.Common.{◌≡◌, ℕ, zero, suc, List, [], ◌∷◌, Option, Some, ap, subst}
+use Rattle.std.proofs.Common.{◌≡◌, ℕ, zero, suc, List, [], ◌∷◌, Some, ap, subst}
 use Rattle.std.specs.Prelude.{slice_get}
 use Rattle.std.proofs.lemmas.Option.{none-some, same_Some}
 use Rattle.c_tree.specs.declared.def.Program.{Program}
 use Rattle.c_front.specs.Accepted.{Accepted}
-use Rattle.source_model.specs.Guards.{Setup, offer_at}
+use Rattle.source_model.specs.Guards.{offer_at}
 use Rattle.source_model.specs.Guards.{Offer as Offered}
 use Rattle.frame_bodies.specs.AcceptedTexts.{IsAccepted, TextsOfProgramsAreAccepted}
 use Rattle.accepted_runs.specs.AcceptedRuns.{TextsAreAccepted}

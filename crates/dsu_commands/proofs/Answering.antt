@@ -1,8 +1,8 @@
 -- What a call that came to nothing answers.
-use Rattle.std.proofs.Common.{◌≡◌, ◌⊎◌, inl, inr, Bool, false, ℕ, ◌≤◌, List, [], ◌∷◌, Option, refl, sym, ◌∙◌, ap, subst, arith}
+use Rattle.std.proofs.Common.{◌≡◌, ◌⊎◌, inl, inr, Bool, false, ℕ, List, [], ◌∷◌, Option, refl, sym, ◌∙◌, ap, subst, arith}
 use Rattle.bytecode.specs.declared.run.Event.{Event}
 use Rattle.c_tree.specs.declared.def.Program.{Program}
-use Rattle.dsu_io.specs.Causes.{Rose}
+use Rattle.dsu_io.specs.Causes.{FailedReads, NoneFailed, ReadFailed}
 use Rattle.dsu_cli.specs.declared.job.Job.{Job}
 use Rattle.dsu_cli.specs.declared.job.Job.TheVariants.{Changes, Effects, Replay, Run}
 use Rattle.dsu_cli.specs.declared.job.Offer.{Offer}
@@ -20,7 +20,9 @@ use Rattle.dsu_commands.specs.Answers.{Answers, ChangesFailed, ChangesShown, Eff
 use Rattle.dsu_commands.specs.Calls.{Call, Stopped, Writes}
 use Rattle.dsu_commands.specs.Jobs.{AreKnownPrograms, AreSources, Contents, FileStops, IsJournalFault, IsKnownJournal, IsKnownProgram, IsProgramFault, JournalStops, KnownJournalFault, KnownOfferFault, KnownProgramFault, KnownReplayFault, OfferStops, ProgramStops, lines_of}
 use Rattle.dsu_commands.specs.Plans.{Plan, ByJournal, BySchedule}
+use Rattle.dsu_commands.specs.Remaining.{ChangesTo, OutOfMemory, ReplaysWith, RunsWith}
 use Rattle.dsu_commands.specs.Runs.{Came}
+use Rattle.dsu_commands.proofs.FailedReads.{failed_then, none_then}
 use Rattle.dsu_commands.proofs.Reading.{IsAnswered}
 
 -- the line that says that memory ran out has no file
@@ -34,10 +36,10 @@ out_of_memory line file call is s = record {
 }
 
 -- a call that stopped at a fault of a file, or for lack of memory
-pub answered : (job : Job) (content : Contents) (counted count : ℕ) (call : Call) (line : FaultLine) (file : List ℕ)
-    → Stopped line file call → (line ≡ Memory) ⊎ FileStops job content counted count line file → Answers job content counted count call
-answered job content counted count call line file s (inl is) = short (out_of_memory line file call is s)
-answered job content counted count call line file s (inr stops) = stopped line file stops s
+pub answered : (job : Job) (content : Contents) (before now : FailedReads) (call : Call) (line : FaultLine) (file : List ℕ)
+    → Stopped line file call → OutOfMemory before now line ⊎ FileStops job content before now line file → Answers job content before now call
+answered job content before now call line file s (inl (none, is)) = short none (out_of_memory line file call is s)
+answered job content before now call line file s (inr stops) = stopped line file stops s
 
 -- the file or memory failed
 pub excused : (call : Call) (line : FaultLine) (file : List ℕ) → Stopped line file call → IsShort line → IsExcused call.status
@@ -61,10 +63,10 @@ first_stopped_at call line known file at s (inr lacks) = inl (excused call line 
 
 module _ (content : Contents) (line : FaultLine) (file named : List ℕ) (same : file ≡ named) where
   -- a fault of the program is one of its file
-  pub at_program : (counted count : ℕ) → (line ≡ Memory) ⊎ IsProgramFault (content file) counted count line
-      → (line ≡ Memory) ⊎ ProgramStops named content counted count line file
-  at_program counted count (inl is) = inl is
-  at_program counted count (inr wrong) = inr (same, subst (λ f. IsProgramFault (content f) counted count line) same wrong)
+  pub at_program : (before now : FailedReads) → OutOfMemory before now line ⊎ IsProgramFault file (content file) before now line
+      → OutOfMemory before now line ⊎ ProgramStops named content before now line file
+  at_program before now (inl lacks) = inl lacks
+  at_program before now (inr wrong) = inr (same, subst (λ f. IsProgramFault f (content f) before now line) same wrong)
 
   -- where the program is known, the file or memory failed
   pub program_excused : (call : Call) → Stopped line file call → ((program : Program) → IsKnownProgram (content file) program → IsShort line)
@@ -110,33 +112,34 @@ or_else (inr b) = inr (inl b)
 
 -- ---- the events of a journal, which is read after its program
 
-earlier : (counted at count : ℕ) → counted ≤ at → Rose at count → Rose counted count
-earlier counted at count later rose = omega (arith, later, rose)
-
--- a fault of a file that was read after another
-pub fault_since : (limit : ℕ) (Wrong : Option (List ℕ) → FaultLine → Type 0) (content mid : Option (List ℕ)) (counted at count : ℕ) (line : FaultLine)
-    → mid ≡ content → counted ≤ at
-    → ((line ≡ Unread) × Rose at count) ⊎ ((line ≡ TooLong) × Exceeds limit mid) ⊎ Wrong mid line
-    → ((line ≡ Unread) × Rose counted count) ⊎ ((line ≡ TooLong) × Exceeds limit content) ⊎ Wrong content line
-fault_since limit Wrong content mid counted at count line same later (inl (is, rose)) = inl (is, earlier counted at count later rose)
-fault_since limit Wrong content mid counted at count line same later (inr (inl (is, exceeds))) =
-    inr (inl (is, subst (Exceeds limit) same exceeds))
-fault_since limit Wrong content mid counted at count line same later (inr (inr wrong)) = inr (inr (subst (λ c. Wrong c line) same wrong))
+-- a fault of a file that was read after others, whose reads didn't fail
+pub fault_since : (limit : ℕ) (Wrong : Option (List ℕ) → FaultLine → Type 0) (name : List ℕ) (content mid : Option (List ℕ))
+    (before at now : FailedReads) (line : FaultLine) → mid ≡ content → NoneFailed before at
+    → ((line ≡ Unread) × ReadFailed name at now) ⊎ (NoneFailed at now × (((line ≡ TooLong) × Exceeds limit mid) ⊎ Wrong mid line))
+    → ((line ≡ Unread) × ReadFailed name before now)
+    ⊎ (NoneFailed before now × (((line ≡ TooLong) × Exceeds limit content) ⊎ Wrong content line))
+fault_since limit Wrong name content mid before at now line same none (inl (is, failed)) =
+    inl (is, failed_then name before at now none failed)
+fault_since limit Wrong name content mid before at now line same none (inr (later, wrong)) =
+    inr (
+      none_then before at now none later,
+      subst {A = Option (List ℕ)} (λ c. ((line ≡ TooLong) × Exceeds limit c) ⊎ Wrong c line) same wrong,
+    )
 
 -- ---- offers
 
--- a fault that is earlier where the count was lower
-offers_since : (offers : List Offer) (content mid : Contents) (counted at count : ℕ) (line : FaultLine) (file : List ℕ)
-    → ((other : List ℕ) → mid other ≡ content other) → counted ≤ at → OfferStops offers mid at count line file
-    → OfferStops offers content counted count line file
-offers_since [] content mid counted at count line file same later stops = absurd stops
-offers_since (o ∷ offers) content mid counted at count line file same later (inl (is, fault)) =
-    inl (is, fault_since text_limit IsFirstOf (content o.file) (mid o.file) counted at count line (same o.file) later fault)
-offers_since (o ∷ offers) content mid counted at count line file same later (inr (program, holds, stops)) =
+-- the same of offers
+offers_since : (offers : List Offer) (content mid : Contents) (before at now : FailedReads) (line : FaultLine) (file : List ℕ)
+    → ((other : List ℕ) → mid other ≡ content other) → NoneFailed before at → OfferStops offers mid at now line file
+    → OfferStops offers content before now line file
+offers_since [] content mid before at now line file same none stops = absurd stops
+offers_since (o ∷ offers) content mid before at now line file same none (inl (is, fault)) =
+    inl (is, fault_since text_limit IsFirstOf o.file (content o.file) (mid o.file) before at now line (same o.file) none fault)
+offers_since (o ∷ offers) content mid before at now line file same none (inr (program, holds, stops)) =
     inr (
       program,
       subst (λ c. HoldsProgram c program) (same o.file) holds,
-      offers_since offers content mid counted at count line file same later stops,
+      offers_since offers content mid before at now line file same none stops,
     )
 
 -- what is known of some files doesn't change while others are read
@@ -170,101 +173,89 @@ fault_known_since (o ∷ offers) content mid line file same (inr (program, known
       fault_known_since offers content mid line file same fault,
     )
 
--- what came of the offers' files and of a run with them
-abbrev pub RunsWith : Plan → Contents → ℕ → ℕ → Program → List Offer → ℕ → Bool → List ℕ → Call → Type 0
-RunsWith plan content counted count program offers objects journal file call =
-    ((texts : List (List ℕ)) × (programs : List Program) × AreSources content offers texts programs
-    × Came plan (setup_of program programs (lines_of offers) objects) texts journal file call)
-    ⊎ Stopped Memory [] call
-    ⊎ ((line : FaultLine) × (at : List ℕ) × OfferStops offers content counted count line at × Stopped line at call)
-
 -- offers aren't read. The name of the file is that of the fault
-pub offers_stop : (plan : Plan) (content : Contents) (counted count : ℕ) (program : Program) (offers : List Offer) (objects : ℕ) (journal : Bool)
-    (file : List ℕ) (call : Call) (line : FaultLine) (at : List ℕ) → Stopped line at call
-    → (line ≡ Memory) ⊎ OfferStops offers content counted count line at
-    → RunsWith plan content counted count program offers objects journal file call
-offers_stop plan content counted count program offers objects journal file call line at s (inl is) = inr (inl (out_of_memory line at call is s))
-offers_stop plan content counted count program offers objects journal file call line at s (inr stops) = inr (inr (line, at, stops, s))
+pub offers_stop : (plan : Plan) (content : Contents) (before now : FailedReads) (program : Program) (offers : List Offer) (objects : ℕ)
+    (journal : Bool) (file : List ℕ) (call : Call) (line : FaultLine) (at : List ℕ) → Stopped line at call
+    → OutOfMemory before now line ⊎ OfferStops offers content before now line at
+    → RunsWith plan content before now program offers objects journal file call
+offers_stop plan content before now program offers objects journal file call line at s (inl (none, is)) =
+    inl (none, inr (out_of_memory line at call is s))
+offers_stop plan content before now program offers objects journal file call line at s (inr stops) = inr (line, at, stops, s)
 
 -- a run with offers that were read
-pub offers_run : (plan : Plan) (content : Contents) (counted count : ℕ) (program : Program) (offers : List Offer) (objects : ℕ) (journal : Bool)
-    (file : List ℕ) (call : Call) (texts : List (List ℕ)) (programs : List Program) (lines : List ℕ)
-    → AreSources content offers texts programs → lines ≡ lines_of offers
+pub offers_run : (plan : Plan) (content : Contents) (before now : FailedReads) (program : Program) (offers : List Offer) (objects : ℕ)
+    (journal : Bool) (file : List ℕ) (call : Call) (texts : List (List ℕ)) (programs : List Program) (lines : List ℕ)
+    → AreSources content offers texts programs → lines ≡ lines_of offers → NoneFailed before now
     → Came plan (setup_of program programs lines objects) texts journal file call ⊎ Stopped Memory [] call
-    → RunsWith plan content counted count program offers objects journal file call
-offers_run plan content counted count program offers objects journal file call texts programs lines sources same (inl came) =
+    → RunsWith plan content before now program offers objects journal file call
+offers_run plan content before now program offers objects journal file call texts programs lines sources same none (inl came) =
     inl (
-      texts,
-      programs,
-      sources,
-      subst {A = List ℕ} (λ ns. Came plan (setup_of program programs ns objects) texts journal file call) same came,
+      none,
+      inl (
+        texts,
+        programs,
+        sources,
+        subst {A = List ℕ} (λ ns. Came plan (setup_of program programs ns objects) texts journal file call) same came,
+      ),
     )
-offers_run plan content counted count program offers objects journal file call texts programs lines sources same (inr s) = inr (inl s)
+offers_run plan content before now program offers objects journal file call texts programs lines sources same none (inr s) = inl (none, inr s)
 
 -- the same, where the offers were read after another file
-runs_since : (plan : Plan) (content mid : Contents) (counted at count : ℕ) (program : Program) (offers : List Offer) (objects : ℕ) (journal : Bool)
-    (file : List ℕ) (call : Call) → ((other : List ℕ) → mid other ≡ content other) → counted ≤ at
-    → RunsWith plan mid at count program offers objects journal file call
-    → RunsWith plan content counted count program offers objects journal file call
-runs_since plan content mid counted at count program offers objects journal file call same later (inl (texts, programs, sources, came)) =
-    inl (texts, programs, sources_since offers content mid texts programs same sources, came)
-runs_since plan content mid counted at count program offers objects journal file call same later (inr (inl s)) = inr (inl s)
-runs_since plan content mid counted at count program offers objects journal file call same later (inr (inr (line, name, stops, s))) =
-    inr (inr (line, name, offers_since offers content mid counted at count line name same later stops, s))
+runs_since : (plan : Plan) (content mid : Contents) (before at now : FailedReads) (program : Program) (offers : List Offer) (objects : ℕ)
+    (journal : Bool) (file : List ℕ) (call : Call) → ((other : List ℕ) → mid other ≡ content other) → NoneFailed before at
+    → RunsWith plan mid at now program offers objects journal file call
+    → RunsWith plan content before now program offers objects journal file call
+runs_since plan content mid before at now program offers objects journal file call same none (inl (later, inl (texts, programs, sources, came))) =
+    inl (none_then before at now none later, inl (texts, programs, sources_since offers content mid texts programs same sources, came))
+runs_since plan content mid before at now program offers objects journal file call same none (inl (later, inr s)) =
+    inl (none_then before at now none later, inr s)
+runs_since plan content mid before at now program offers objects journal file call same none (inr (line, name, stops, s)) =
+    inr (line, name, offers_since offers content mid before at now line name same none stops, s)
 
-pub run_answers : (job : RunJob) (content mid : Contents) (counted at count : ℕ) (call : Call) (program : Program)
-    → HoldsProgram (content job.file) program → ((other : List ℕ) → mid other ≡ content other) → counted ≤ at
-    → RunsWith (BySchedule job.moves) mid at count program job.offers job.objects job.journal [] call
-    → Answers (Run job) content counted count call
-run_answers job content mid counted at count call program holds same later runs =
-    by (runs_since (BySchedule job.moves) content mid counted at count program job.offers job.objects job.journal [] call same later runs)
+pub run_answers : (job : RunJob) (content mid : Contents) (before at now : FailedReads) (call : Call) (program : Program)
+    → HoldsProgram (content job.file) program → ((other : List ℕ) → mid other ≡ content other) → NoneFailed before at
+    → RunsWith (BySchedule job.moves) mid at now program job.offers job.objects job.journal [] call
+    → Answers (Run job) content before now call
+run_answers job content mid before at now call program holds same none runs =
+    by (runs_since (BySchedule job.moves) content mid before at now program job.offers job.objects job.journal [] call same none runs)
   where
-    by : RunsWith (BySchedule job.moves) content counted count program job.offers job.objects job.journal [] call
-        → Answers (Run job) content counted count call
-    by (inl (texts, programs, sources, came)) = did (program, holds, texts, programs, sources, came)
-    by (inr (inl s)) = short s
-    by (inr (inr (line, name, stops, s))) = stopped line name (inr (program, holds, stops)) s
-
--- what came of a journal's file, of the offers' files and of the events
-abbrev pub Replays : Contents → ℕ → ℕ → Program → ReplayJob → Call → Type 0
-Replays content counted count program job call =
-    ((lines : List (ℕ × Event)) × HoldsEvents (content job.journal) lines
-    × (texts : List (List ℕ)) × (programs : List Program) × AreSources content job.offers texts programs
-    × Came (ByJournal lines) (setup_of program programs (lines_of job.offers) job.objects) texts false job.journal call)
-    ⊎ Stopped Memory [] call
-    ⊎ ((line : FaultLine) × (file : List ℕ) × JournalStops job.journal job.offers content counted count line file × Stopped line file call)
+    by : RunsWith (BySchedule job.moves) content before now program job.offers job.objects job.journal [] call
+        → Answers (Run job) content before now call
+    by (inl (never, inl (texts, programs, sources, came))) = did never (program, holds, texts, programs, sources, came)
+    by (inl (never, inr s)) = short never s
+    by (inr (line, name, stops, s)) = stopped line name (inr (program, holds, stops)) s
 
 -- a journal was read, and then the offers. The name of its file was taken from the job
-pub journal_runs : (job : ReplayJob) (content mid : Contents) (counted at count : ℕ) (call : Call) (program : Program)
-    (lines : List (ℕ × Event)) → HoldsEvents (content job.journal) lines → ((other : List ℕ) → mid other ≡ content other) → counted ≤ at
-    → RunsWith (ByJournal lines) mid at count program job.offers job.objects false job.journal call
-    → Replays content counted count program job call
-journal_runs job content mid counted at count call program lines holds same later runs =
-    by (runs_since (ByJournal lines) content mid counted at count program job.offers job.objects false job.journal call same later runs)
+pub journal_runs : (job : ReplayJob) (content mid : Contents) (before at now : FailedReads) (call : Call) (program : Program)
+    (lines : List (ℕ × Event)) → HoldsEvents (content job.journal) lines → ((other : List ℕ) → mid other ≡ content other)
+    → NoneFailed before at → RunsWith (ByJournal lines) mid at now program job.offers job.objects false job.journal call
+    → ReplaysWith content before now program job call
+journal_runs job content mid before at now call program lines holds same none runs =
+    by (runs_since (ByJournal lines) content mid before at now program job.offers job.objects false job.journal call same none runs)
   where
-    by : RunsWith (ByJournal lines) content counted count program job.offers job.objects false job.journal call
-        → Replays content counted count program job call
-    by (inl (texts, programs, sources, came)) = inl (lines, holds, texts, programs, sources, came)
-    by (inr (inl s)) = inr (inl s)
-    by (inr (inr (line, name, stops, s))) = inr (inr (line, name, inr (lines, holds, stops), s))
+    by : RunsWith (ByJournal lines) content before now program job.offers job.objects false job.journal call
+        → ReplaysWith content before now program job call
+    by (inl (never, inl (texts, programs, sources, came))) = inl (never, inl (lines, holds, texts, programs, sources, came))
+    by (inl (never, inr s)) = inl (never, inr s)
+    by (inr (line, name, stops, s)) = inr (line, name, inr (lines, holds, stops), s)
 
-journal_since : (journal : List ℕ) (offers : List Offer) (content mid : Contents) (counted at count : ℕ) (line : FaultLine) (file : List ℕ)
-    → ((other : List ℕ) → mid other ≡ content other) → counted ≤ at → JournalStops journal offers mid at count line file
-    → JournalStops journal offers content counted count line file
-journal_since journal offers content mid counted at count line file same later (inl (is, fault)) =
-    inl (is, fault_since journal_limit IsNoJournal (content journal) (mid journal) counted at count line (same journal) later fault)
-journal_since journal offers content mid counted at count line file same later (inr (lines, holds, stops)) =
+journal_since : (journal : List ℕ) (offers : List Offer) (content mid : Contents) (before at now : FailedReads) (line : FaultLine) (file : List ℕ)
+    → ((other : List ℕ) → mid other ≡ content other) → NoneFailed before at → JournalStops journal offers mid at now line file
+    → JournalStops journal offers content before now line file
+journal_since journal offers content mid before at now line file same none (inl (is, fault)) =
+    inl (is, fault_since journal_limit IsNoJournal journal (content journal) (mid journal) before at now line (same journal) none fault)
+journal_since journal offers content mid before at now line file same none (inr (lines, holds, stops)) =
     inr (
       lines,
       subst (λ c. HoldsEvents c lines) (same journal) holds,
-      offers_since offers content mid counted at count line file same later stops,
+      offers_since offers content mid before at now line file same none stops,
     )
 
-pub replay_answers : (job : ReplayJob) (content mid : Contents) (counted at count : ℕ) (call : Call) (program : Program)
-    → HoldsProgram (content job.file) program → ((other : List ℕ) → mid other ≡ content other) → counted ≤ at
-    → Replays mid at count program job call → Answers (Replay job) content counted count call
-replay_answers job content mid counted at count call program holds same later (inl (lines, events, texts, programs, sources, came)) =
-    did (
+pub replay_answers : (job : ReplayJob) (content mid : Contents) (before at now : FailedReads) (call : Call) (program : Program)
+    → HoldsProgram (content job.file) program → ((other : List ℕ) → mid other ≡ content other) → NoneFailed before at
+    → ReplaysWith mid at now program job call → Answers (Replay job) content before now call
+replay_answers job content mid before at now call program holds same none (inl (later, inl (lines, events, texts, programs, sources, came))) =
+    did (none_then before at now none later) (
       program,
       holds,
       lines,
@@ -274,23 +265,23 @@ replay_answers job content mid counted at count call program holds same later (i
       sources_since job.offers content mid texts programs same sources,
       came,
     )
-replay_answers job content mid counted at count call program holds same later (inr (inl s)) = short s
-replay_answers job content mid counted at count call program holds same later (inr (inr (line, file, stops, s))) =
+replay_answers job content mid before at now call program holds same none (inl (later, inr s)) = short (none_then before at now none later) s
+replay_answers job content mid before at now call program holds same none (inr (line, file, stops, s)) =
     stopped line file
-    (inr (program, holds, journal_since job.journal job.offers content mid counted at count line file same later stops)) s
+    (inr (program, holds, journal_since job.journal job.offers content mid before at now line file same none stops)) s
 
 -- a journal isn't read. The name of its file was taken from the job
-pub journal_stops : (job : ReplayJob) (content : Contents) (counted count : ℕ) (call : Call) (program : Program) (line : FaultLine)
+pub journal_stops : (job : ReplayJob) (content : Contents) (before now : FailedReads) (call : Call) (program : Program) (line : FaultLine)
     (file : List ℕ) → file ≡ job.journal → Stopped line file call
-    → (line ≡ Memory) ⊎ IsJournalFault (content file) counted count line → Replays content counted count program job call
-journal_stops job content counted count call program line file same s (inl is) = inr (inl (out_of_memory line file call is s))
-journal_stops job content counted count call program line file same s (inr wrong) =
-    inr (inr (
+    → OutOfMemory before now line ⊎ IsJournalFault file (content file) before now line → ReplaysWith content before now program job call
+journal_stops job content before now call program line file same s (inl (none, is)) = inl (none, inr (out_of_memory line file call is s))
+journal_stops job content before now call program line file same s (inr wrong) =
+    inr (
       line,
       file,
-      inl (same, subst (λ f. IsJournalFault (content f) counted count line) same wrong),
+      inl (same, subst (λ f. IsJournalFault f (content f) before now line) same wrong),
       s,
-    ))
+    )
 
 -- where the journal is known, the file or memory failed
 pub journal_excused : (content : Contents) (line : FaultLine) (file named : List ℕ) → file ≡ named → (call : Call) → Stopped line file call
@@ -328,11 +319,11 @@ replay_known_since journal offers content mid line file same (inr (lines, known,
 abbrev pub PrintsEffects : Program → List ℕ → Call → Type 0
 PrintsEffects program text call = EffectsShown program text call ⊎ EffectsFailed program text call ⊎ Stopped Memory [] call
 
-pub effects_answers : (file : List ℕ) (content : Contents) (counted count : ℕ) (call : Call) (text : List ℕ) (program : Program)
-    → IsSource (content file) text program → PrintsEffects program text call → Answers (Effects file) content counted count call
-effects_answers file content counted count call text program source (inl shown) = did (text, program, source, inl shown)
-effects_answers file content counted count call text program source (inr (inl failed)) = did (text, program, source, inr failed)
-effects_answers file content counted count call text program source (inr (inr s)) = short s
+pub effects_answers : (file : List ℕ) (content : Contents) (before now : FailedReads) (call : Call) (text : List ℕ) (program : Program)
+    → IsSource (content file) text program → NoneFailed before now → PrintsEffects program text call → Answers (Effects file) content before now call
+effects_answers file content before now call text program source none (inl shown) = did none (text, program, source, inl shown)
+effects_answers file content before now call text program source none (inr (inl failed)) = did none (text, program, source, inr failed)
+effects_answers file content before now call text program source none (inr (inr s)) = short none s
 
 pub effects_done : (call : Call) (text : List ℕ) (program : Program) → PrintsEffects program text call
     → IsDone call.status ⊎ IsExcused call.status
@@ -346,35 +337,28 @@ effects_done call text program (inr (inr s)) = inr (inr (inr s.status))
 abbrev pub PrintsChanges : Program → Program → List ℕ → Call → Type 0
 PrintsChanges program next text call = ChangesShown program next text call ⊎ ChangesFailed program next text call ⊎ Stopped Memory [] call
 
--- what came of the newer text
-abbrev pub Follows : Contents → ℕ → ℕ → Program → List ℕ → Call → Type 0
-Follows content counted count program new call =
-    ((text : List ℕ) × (next : Program) × IsSource (content new) text next
-    × (ChangesShown program next text call ⊎ ChangesFailed program next text call))
-    ⊎ Stopped Memory [] call
-    ⊎ ((line : FaultLine) × IsProgramFault (content new) counted count line × Stopped line new call)
+pub changes_follow : (content : Contents) (before now : FailedReads) (program : Program) (new : List ℕ) (call : Call) (text : List ℕ) (next : Program)
+    → IsSource (content new) text next → NoneFailed before now → PrintsChanges program next text call
+    → ChangesTo content before now program new call
+changes_follow content before now program new call text next source none (inl shown) = inl (none, inl (text, next, source, inl shown))
+changes_follow content before now program new call text next source none (inr (inl failed)) = inl (none, inl (text, next, source, inr failed))
+changes_follow content before now program new call text next source none (inr (inr s)) = inl (none, inr s)
 
-pub changes_follow : (content : Contents) (counted count : ℕ) (program : Program) (new : List ℕ) (call : Call) (text : List ℕ) (next : Program)
-    → IsSource (content new) text next → PrintsChanges program next text call → Follows content counted count program new call
-changes_follow content counted count program new call text next source (inl shown) = inl (text, next, source, inl shown)
-changes_follow content counted count program new call text next source (inr (inl failed)) = inl (text, next, source, inr failed)
-changes_follow content counted count program new call text next source (inr (inr s)) = inr (inl s)
+pub newer_stops : (content : Contents) (before now : FailedReads) (program : Program) (new : List ℕ) (call : Call) (line : FaultLine)
+    → Stopped line new call → OutOfMemory before now line ⊎ IsProgramFault new (content new) before now line
+    → ChangesTo content before now program new call
+newer_stops content before now program new call line s (inl (none, is)) = inl (none, inr (out_of_memory line new call is s))
+newer_stops content before now program new call line s (inr wrong) = inr (line, wrong, s)
 
-pub newer_stops : (content : Contents) (counted count : ℕ) (program : Program) (new : List ℕ) (call : Call) (line : FaultLine)
-    → Stopped line new call → (line ≡ Memory) ⊎ IsProgramFault (content new) counted count line
-    → Follows content counted count program new call
-newer_stops content counted count program new call line s (inl is) = inr (inl (out_of_memory line new call is s))
-newer_stops content counted count program new call line s (inr wrong) = inr (inr (line, wrong, s))
-
-pub changes_answers : (old new : List ℕ) (content mid : Contents) (counted at count : ℕ) (call : Call) (program : Program)
-    → HoldsProgram (content old) program → ((other : List ℕ) → mid other ≡ content other) → counted ≤ at
-    → Follows mid at count program new call → Answers (Changes old new) content counted count call
-changes_answers old new content mid counted at count call program holds same later (inl (text, next, source, printed)) =
-    did (program, holds, text, next, subst (λ c. IsSource c text next) (same new) source, printed)
-changes_answers old new content mid counted at count call program holds same later (inr (inl s)) = short s
-changes_answers old new content mid counted at count call program holds same later (inr (inr (line, wrong, s))) =
+pub changes_answers : (old new : List ℕ) (content mid : Contents) (before at now : FailedReads) (call : Call) (program : Program)
+    → HoldsProgram (content old) program → ((other : List ℕ) → mid other ≡ content other) → NoneFailed before at
+    → ChangesTo mid at now program new call → Answers (Changes old new) content before now call
+changes_answers old new content mid before at now call program holds same none (inl (later, inl (text, next, source, printed))) =
+    did (none_then before at now none later) (program, holds, text, next, subst (λ c. IsSource c text next) (same new) source, printed)
+changes_answers old new content mid before at now call program holds same none (inl (later, inr s)) = short (none_then before at now none later) s
+changes_answers old new content mid before at now call program holds same none (inr (line, wrong, s)) =
     stopped line new
-    (inr (program, holds, (refl, fault_since text_limit IsFirstOf (content new) (mid new) counted at count line (same new) later wrong))) s
+    (inr (program, holds, (refl, fault_since text_limit IsFirstOf new (content new) (mid new) before at now line (same new) none wrong))) s
 
 pub changes_done : (call : Call) (program next : Program) (text : List ℕ) → PrintsChanges program next text call
     → IsDone call.status ⊎ IsExcused call.status

@@ -1,5 +1,5 @@
 -- Texts that are known: they are read as programs, or have a first fault.
-use Rattle.std.proofs.Common.{◌≡◌, ◌⊎◌, inl, inr, ℕ, ◌<◌, ◌≤◌, List, [], ◌∷◌, Some, Ok, Err, codes, refl, sym, ◌∙◌, ap, subst, arith}
+use Rattle.std.proofs.Common.{◌≡◌, ◌⊎◌, inl, inr, ℕ, ◌<◌, ◌≤◌, List, [], ◌∷◌, Some, Ok, Err, codes, refl, sym, ap, subst, arith}
 use Rattle.std.specs.Prelude.{length, Result, IfOk, IfErr, MatchResult}
 use Rattle.std.proofs.lemmas.Option.{same_Some}
 use Rattle.c_tree.specs.declared.def.Program.{Program}

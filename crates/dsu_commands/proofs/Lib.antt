@@ -4,6 +4,7 @@ mod Reporting
 mod Reading
 mod Accepting
 mod Answering
+pub mod FailedReads
 mod Offered
 mod Outcomes
 mod Generating

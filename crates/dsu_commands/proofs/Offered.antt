@@ -1,17 +1,19 @@
 -- Offers that are read one after the other.
-use Rattle.std.proofs.Common.{◌≡◌, ◌⊎◌, inl, inr, ℕ, ◌+◌, ◌<◌, ◌≤◌, List, [], ◌∷◌, ◌++◌, Option, drop, get_or, refl, sym, ◌∙◌, ap, subst, arith, append_assoc, append-nil}
-use Rattle.std.specs.Prelude.{length, map}
+use Rattle.std.proofs.Common.{◌≡◌, ◌⊎◌, inl, inr, ℕ, ◌+◌, ◌<◌, ◌≤◌, List, [], ◌∷◌, ◌++◌, drop, get_or, refl, sym, ◌∙◌, ap, subst, arith, append_assoc, append-nil}
+use Rattle.std.specs.Prelude.{length}
 use Rattle.std.proofs.lemmas.List.{drop_all, drop_more}
+use Rattle.dsu_io.specs.Causes.{FailedReads, NoneFailed}
 use Rattle.c_tree.specs.declared.def.Program.{Program}
 use Rattle.dsu_cli.specs.declared.job.Offer.{Offer}
 use Rattle.dsu_report.specs.declared.fault.FaultLine.{FaultLine}
-use Rattle.dsu_report.specs.declared.fault.FaultLine.TheVariants.{Memory}
 use Rattle.input_files.specs.Files.{IsShort}
-use Rattle.input_files.specs.Sources.{HoldsProgram, IsFirstOf, IsSource, text_limit}
+use Rattle.input_files.specs.Sources.{IsFirstOf, IsSource, text_limit}
 use Rattle.dsu_commands.specs.Jobs.{AreKnownPrograms, AreSources, Contents, IsKnownProgram, IsProgramFault, KnownOfferFault, KnownProgramFault, OfferStops, lines_of}
 use Rattle.dsu_commands.specs.Offers.{IsOneMore}
+use Rattle.dsu_commands.specs.Remaining.{OutOfMemory}
 use Rattle.dsu_commands.specs.declared.offers.Offers.{Offers}
 use Rattle.dsu_commands.proofs.Answering.{fault_since}
+use Rattle.dsu_commands.proofs.FailedReads.{none_then, none_yet}
 use Rattle.dsu_commands.proofs.Reading.{IsAnswered}
 
 -- ---- sources
@@ -48,14 +50,14 @@ lines_length [] = refl
 lines_length (x ∷ xs) = let more = lines_length xs in omega (arith, more)
 
 -- a fault after offers without one
-stops_after : (content : Contents) (counted count : ℕ) (line : FaultLine) (file : List ℕ) (offers rest : List Offer)
+stops_after : (content : Contents) (before now : FailedReads) (line : FaultLine) (file : List ℕ) (offers rest : List Offer)
     (texts : List (List ℕ)) (programs : List Program) → AreSources content offers texts programs
-    → OfferStops rest content counted count line file → OfferStops (offers ++ rest) content counted count line file
-stops_after content counted count line file [] rest texts programs all stops = stops
-stops_after content counted count line file (x ∷ xs) rest [] ps all stops = absurd all
-stops_after content counted count line file (x ∷ xs) rest (t ∷ ts) [] all stops = absurd all
-stops_after content counted count line file (x ∷ xs) rest (t ∷ ts) (p ∷ ps) (one, all) stops =
-    inr (p, (t, one), stops_after content counted count line file xs rest ts ps all stops)
+    → OfferStops rest content before now line file → OfferStops (offers ++ rest) content before now line file
+stops_after content before now line file [] rest texts programs all stops = stops
+stops_after content before now line file (x ∷ xs) rest [] ps all stops = absurd all
+stops_after content before now line file (x ∷ xs) rest (t ∷ ts) [] all stops = absurd all
+stops_after content before now line file (x ∷ xs) rest (t ∷ ts) (p ∷ ps) (one, all) stops =
+    inr (p, (t, one), stops_after content before now line file xs rest ts ps all stops)
 
 -- ---- offers in the midst of their reading
 
@@ -63,49 +65,50 @@ stops_after content counted count line file (x ∷ xs) rest (t ∷ ts) (p ∷ ps
 abbrev pub Left : Contents → List Offer → List Program → List Program → Type 0
 Left content left read programs = (rest : List Program) × (programs ≡ read ++ rest) × AreKnownPrograms content left rest
 
--- some offers were read, and these are left
-pub record IsReading (content : Contents) (counted : ℕ) (offers left : List Offer) (mid : Contents) (count : ℕ) (read : Offers) : Type 0 where
+-- some offers were read, none of whose reads failed, and these are left
+pub record IsReading (content : Contents) (start : FailedReads) (offers left : List Offer) (mid : Contents) (at : FailedReads) (read : Offers)
+    : Type 0 where
   pub before : List Offer
   pub all : offers ≡ before ++ left
   pub sources : AreSources content before read.texts.items read.programs.items
   pub lines : read.lines.items ≡ lines_of before
   pub same : (other : List ℕ) → mid other ≡ content other
-  pub later : counted ≤ count
+  pub none_failed : NoneFailed start at
   pub known : (programs : List Program) → AreKnownPrograms content offers programs → Left content left read.programs.items programs
   pub wrong : (line : FaultLine) (file : List ℕ) → KnownOfferFault offers content line file → KnownOfferFault left content line file
 
 -- none was
-pub begun : (content : Contents) (counted : ℕ) (offers : List Offer) (read : Offers) → read.texts.items ≡ [] → read.programs.items ≡ []
-    → read.lines.items ≡ [] → IsReading content counted offers offers content counted read
-begun content counted offers read texts programs lines = record {
+pub begun : (content : Contents) (start : FailedReads) (offers : List Offer) (read : Offers) → read.texts.items ≡ [] → read.programs.items ≡ []
+    → read.lines.items ≡ [] → IsReading content start offers offers content start read
+begun content start offers read texts programs lines = record {
   before = [];
   all = refl;
   sources = subst {A = List (List ℕ)} (λ ts. AreSources content [] ts read.programs.items) (sym texts)
       (subst {A = List Program} (λ ps. AreSources content [] [] ps) (sym programs) tt);
   lines = lines;
   same = λ other. refl;
-  later = omega arith;
+  none_failed = none_yet start;
   known = λ ps known. (ps, ap (λ front. front ++ ps) (sym programs), known);
   wrong = λ line file fault. fault;
 }
 
 -- the one at an index is next
-pub reading_next : (content : Contents) (counted : ℕ) (offers : List Offer) (mid : Contents) (count : ℕ) (read : Offers) (i : ℕ) (o : Offer)
-    → i < length offers → o ≡ get_or offers i o → IsReading content counted offers (drop i offers) mid count read
-    → IsReading content counted offers (o ∷ drop (i + 1) offers) mid count read
-reading_next content counted offers mid count read i o within is reading =
-    subst {A = List Offer} (λ left. IsReading content counted offers left mid count read)
+pub reading_next : (content : Contents) (start : FailedReads) (offers : List Offer) (mid : Contents) (at : FailedReads) (read : Offers) (i : ℕ) (o : Offer)
+    → i < length offers → o ≡ get_or offers i o → IsReading content start offers (drop i offers) mid at read
+    → IsReading content start offers (o ∷ drop (i + 1) offers) mid at read
+reading_next content start offers mid at read i o within is reading =
+    subst {A = List Offer} (λ left. IsReading content start offers left mid at read)
     (drop_more offers i o within ∙ ap (λ x. x ∷ drop (i + 1) offers) (sym is)) reading
 
 -- none is next after the last one
-pub reading_all : (content : Contents) (counted : ℕ) (offers : List Offer) (mid : Contents) (count : ℕ) (read : Offers) (i : ℕ)
-    → length offers ≤ i → IsReading content counted offers (drop i offers) mid count read
-    → IsReading content counted offers [] mid count read
-reading_all content counted offers mid count read i long reading =
-    subst {A = List Offer} (λ left. IsReading content counted offers left mid count read) (drop_all i offers long) reading
+pub reading_all : (content : Contents) (start : FailedReads) (offers : List Offer) (mid : Contents) (at : FailedReads) (read : Offers) (i : ℕ)
+    → length offers ≤ i → IsReading content start offers (drop i offers) mid at read
+    → IsReading content start offers [] mid at read
+reading_all content start offers mid at read i long reading =
+    subst {A = List Offer} (λ left. IsReading content start offers left mid at read) (drop_all i offers long) reading
 
-module _ (content : Contents) (counted : ℕ) (offers : List Offer) (o : Offer) (left : List Offer) (mid : Contents) (count : ℕ) (read : Offers)
-    (reading : IsReading content counted offers (o ∷ left) mid count read) where
+module _ (content : Contents) (start : FailedReads) (offers : List Offer) (o : Offer) (left : List Offer) (mid : Contents) (at : FailedReads)
+    (read : Offers) (reading : IsReading content start offers (o ∷ left) mid at read) where
   here : mid o.file ≡ content o.file
   here = reading.same o.file
 
@@ -122,8 +125,8 @@ module _ (content : Contents) (counted : ℕ) (offers : List Offer) (o : Offer) 
       by (p ∷ ps, same, (one, are)) = (p, ps, same, subst (λ c. IsKnownProgram c p) (sym here) one, are)
 
   -- the next one was read
-  module _ (mid' : Contents) (count' : ℕ) (read' : Offers) (more : IsOneMore (mid o.file) o.lines read read')
-      (same : (other : List ℕ) → mid' other ≡ mid other) (later : count ≤ count')
+  module _ (mid' : Contents) (now : FailedReads) (read' : Offers) (more : IsOneMore (mid o.file) o.lines read read')
+      (same : (other : List ℕ) → mid' other ≡ mid other) (none : NoneFailed at now)
       (complete : (program : Program) → IsKnownProgram (mid o.file) program → read'.programs.items ≡ read.programs.items ++ program ∷ [])
       (faultless : (line : FaultLine) → KnownProgramFault (mid o.file) line → ⊥) where
     left_after : (programs : List Program) → AreKnownPrograms content offers programs → Left content left read'.programs.items programs
@@ -139,7 +142,7 @@ module _ (content : Contents) (counted : ℕ) (offers : List Offer) (o : Offer) 
     wrong_after line file (inl (is, fault)) = absurd (faultless line (subst (λ c. KnownProgramFault c line) (sym here) fault))
     wrong_after line file (inr (program, known, fault)) = fault
 
-    pub one_more : IsReading content counted offers left mid' count' read'
+    pub one_more : IsReading content start offers left mid' now read'
     one_more = record {
       before = reading.before ++ o ∷ [];
       all = reading.all ∙ sym (append_assoc reading.before (o ∷ []) left);
@@ -149,20 +152,20 @@ module _ (content : Contents) (counted : ℕ) (offers : List Offer) (o : Offer) 
           (subst (λ c. IsSource c more.text more.program) here more.source)));
       lines = more.counts ∙ ap (λ ns. ns ++ o.lines ∷ []) reading.lines ∙ sym (lines_more reading.before o);
       same = λ other. same other ∙ reading.same other;
-      later = let first = reading.later in omega (arith, first, later);
+      none_failed = none_then start at now reading.none_failed none;
       known = left_after;
       wrong = λ line file fault. wrong_after line file (reading.wrong line file fault);
     }
 
   -- the next one wasn't read
-  module _ (count' : ℕ) (line : FaultLine) where
-    pub stops : (line ≡ Memory) ⊎ IsProgramFault (mid o.file) count count' line
-        → (line ≡ Memory) ⊎ OfferStops offers content counted count' line o.file
-    stops (inl is) = inl is
+  module _ (now : FailedReads) (line : FaultLine) where
+    pub stops : OutOfMemory at now line ⊎ IsProgramFault o.file (mid o.file) at now line
+        → OutOfMemory start now line ⊎ OfferStops offers content start now line o.file
+    stops (inl (none, is)) = inl (none_then start at now reading.none_failed none, is)
     stops (inr fault) =
-        inr (subst {A = List Offer} (λ os. OfferStops os content counted count' line o.file) (sym reading.all)
-        (stops_after content counted count' line o.file reading.before (o ∷ left) read.texts.items read.programs.items reading.sources
-        (inl (refl, fault_since text_limit IsFirstOf (content o.file) (mid o.file) counted count count' line here reading.later fault))))
+        inr (subst {A = List Offer} (λ os. OfferStops os content start now line o.file) (sym reading.all)
+        (stops_after content start now line o.file reading.before (o ∷ left) read.texts.items read.programs.items reading.sources
+        (inl (refl, fault_since text_limit IsFirstOf o.file (content o.file) (mid o.file) start at now line here reading.none_failed fault))))
 
     pub short_by : ((program : Program) → IsKnownProgram (mid o.file) program → IsShort line)
         → (programs : List Program) → AreKnownPrograms content offers programs → IsShort line
@@ -183,8 +186,8 @@ module _ (content : Contents) (counted : ℕ) (offers : List Offer) (o : Offer) 
         by (inr (program, known, later)) = inr (complete program (subst (λ c. IsKnownProgram c program) (sym here) known))
 
 -- all were read
-module _ (content : Contents) (counted : ℕ) (offers : List Offer) (mid : Contents) (count : ℕ) (read : Offers)
-    (reading : IsReading content counted offers [] mid count read) where
+module _ (content : Contents) (start : FailedReads) (offers : List Offer) (mid : Contents) (at : FailedReads) (read : Offers)
+    (reading : IsReading content start offers [] mid at read) where
   pub all_sources : AreSources content offers read.texts.items read.programs.items
   all_sources = subst {A = List Offer} (λ os. AreSources content os read.texts.items read.programs.items) (sym (reading.all ∙ append-nil reading.before))
       reading.sources

@@ -12,11 +12,14 @@ use Rattle.source_model.specs.declared.answer.OfferAnswer.{OfferAnswer}
 use Rattle.source_model.specs.Answers.{answer_seen}
 use Rattle.source_model.specs.Guards.{Guard, Rules, Setup, first_guard}
 use Rattle.source_model.specs.Journals.{IsLegal, answers, guard_after, happens, play}
+use Rattle.source_model.specs.Patches.{all_names}
+use Rattle.patch_build.specs.Versions.{IsTableOf}
 use Rattle.dsu_report.specs.Statuses.{status_of_ending}
 use Rattle.dsu_report.specs.declared.fault.FaultLine.TheVariants.{Memory}
 use Rattle.dsu_runs.specs.Replays.{events_of}
 use Rattle.dsu_runs.proofs.Coming.{play_parts}
-use Rattle.dsu_runs.specs.Rows.{AreRows, RulesExist}
+use Rattle.effects.specs.Rows.{AreRows}
+use Rattle.dsu_runs.specs.Rows.{RulesExist}
 use Rattle.dsu_runs.specs.Setups.{setup_of}
 use Rattle.dsu_runs.specs.declared.ran.Ran.{Ran as RanOf}
 use Rattle.dsu_commands.specs.declared.finish.Finish.{Finish}
@@ -59,11 +62,13 @@ in_force_is f version is = ap (λ (v : ℕ). record { version = v; names = f.nam
 pub hands_back : (setup : Setup) (at : Guard → Type 0) (ending : Option Ending) (left given : List OfferAnswer) (f : InForce)
     (installed : Option InForce) → IsKept ending left f given installed
     → ((g : Guard) → at g → f.version ≡ length g.versions)
+    → ((g : Guard) → at g → IsTableOf (all_names g.versions) f.names)
     → ((g : Guard) → at g → map (answer_seen f.names) left ≡ answers setup g)
     → Hands setup at ending given installed
-hands_back setup at None left given f installed kept version shown = kept
-hands_back setup at (Some end) left given f installed (same, is) version shown = λ g there. record {
+hands_back setup at None left given f installed kept version named shown = kept
+hands_back setup at (Some end) left given f installed (same, is) version named shown = λ g there. record {
   names = f.names;
+  named = named g there;
   in_force = is ∙ ap Some (in_force_is f (length g.versions) (version g there));
   answered = ap (map (answer_seen f.names)) same ∙ shown g there;
 }
@@ -80,7 +85,7 @@ done_by status e is = let small = ending_done e in omega (arith, is, small)
 
 -- where no event of the plan is impossible, the run is done or excused
 pub came_done : (plan : Plan) (setup : Setup) (texts : List (List ℕ)) (journal : Bool) (file : List ℕ) (c : Call)
-    → ((g : Guard) (line : ℕ) → Follows plan setup c.history g → ((rules : Rules) → AreRows rules → guard_after rules setup c.history ≡ Some g)
+    → ((g : Guard) (line : ℕ) → Follows plan setup c.history g → ((rules : Rules) → AreRows rules.row → guard_after rules setup c.history ≡ Some g)
     → Impossible plan setup c.history g line → ⊥)
     → Came plan setup texts journal file c → IsDone c.status ⊎ IsExcused c.status
 came_done plan setup texts journal file c possible (ran r) = inl (done_by c.status _ r.status)
@@ -114,8 +119,8 @@ illegal rules setup es rest e g before never legal =
     ∙ ap (option_and_then (play rules setup rest)) never) ∙ legal.1)
 
 can_go_on : RulesExist → (setup : Setup) (lines : List (ℕ × Event)) (history : List Event) (g : Guard) (line : ℕ)
-    → history ≡ take (length history) (events_of lines) → ((rules : Rules) → AreRows rules → guard_after rules setup history ≡ Some g)
-    → ((rules : Rules) → AreRows rules → IsLegal rules setup (events_of lines)) → CannotGoOn setup lines history g line → ⊥
+    → history ≡ take (length history) (events_of lines) → ((rules : Rules) → AreRows rules.row → guard_after rules setup history ≡ Some g)
+    → ((rules : Rules) → AreRows rules.row → IsLegal rules setup (events_of lines)) → CannotGoOn setup lines history g line → ⊥
 can_go_on exist setup lines history g line made before legal stuck =
     let next = from_line lines (length history) (line, stuck.event) stuck.next in
     let parts : events_of lines ≡ history ++ stuck.event ∷ next.0 =
@@ -125,7 +130,7 @@ can_go_on exist setup lines history g line made before legal stuck =
     (subst {A = List Event} (IsLegal exist.0 setup) parts (legal exist.0 exist.1))
 
 pub journal_done : RulesExist → (lines : List (ℕ × Event)) (setup : Setup) (texts : List (List ℕ)) (journal : Bool) (file : List ℕ) (c : Call)
-    → ((rules : Rules) → AreRows rules → IsLegal rules setup (events_of lines))
+    → ((rules : Rules) → AreRows rules.row → IsLegal rules setup (events_of lines))
     → Came (ByJournal lines) setup texts journal file c ⊎ Stopped Memory [] c → IsDone c.status ⊎ IsExcused c.status
 journal_done exist lines setup texts journal file c legal (inl came) =
     came_done (ByJournal lines) setup texts journal file c
@@ -135,7 +140,7 @@ journal_done exist lines setup texts journal file c legal (inr s) = inr (inr (in
 -- the same where the programs and the numbers of lines that were read are those that are known
 pub replayed_done : RulesExist → (lines : List (ℕ × Event)) (program : Program) (read programs : List Program) (ns ms : List ℕ) (objects : ℕ)
     (texts : List (List ℕ)) (journal : Bool) (file : List ℕ) (c : Call) → read ≡ programs → ns ≡ ms
-    → ((rules : Rules) → AreRows rules → IsLegal rules (setup_of program programs ms objects) (events_of lines))
+    → ((rules : Rules) → AreRows rules.row → IsLegal rules (setup_of program programs ms objects) (events_of lines))
     → Came (ByJournal lines) (setup_of program read ns objects) texts journal file c ⊎ Stopped Memory [] c
     → IsDone c.status ⊎ IsExcused c.status
 replayed_done exist lines program read programs ns ms objects texts journal file c same lines_same legal came =

@@ -1,40 +1,63 @@
 -- What is known of a file's text decides what is read of it.
-use Rattle.std.proofs.Common.{◌≡◌, ◌⊎◌, inl, inr, ℕ, ◌<◌, ◌≤◌, List, Option, Some, Ok, Err, sym, ap, subst, arith}
+use Rattle.std.proofs.Common.{◌≡◌, ◌⊎◌, inl, inr, ℕ, ◌<◌, ◌≤◌, List, Option, Some, Ok, Err, sym, ◌∙◌, ap, subst, arith}
 use Rattle.std.specs.Prelude.{length, Result, IsErrOf}
 use Rattle.c_tree.specs.declared.def.Program.{Program}
 use Rattle.c_front.specs.declared.fault.FaultKind.{FaultKind}
 use Rattle.c_front.specs.Accepted.{FirstFault}
 use Rattle.dsu_journal.specs.Journals.{journal_in}
 use Rattle.dsu_journal.specs.declared.fault.JournalFault.{JournalFault}
-use Rattle.dsu_io.specs.Causes.{Rose}
+use Rattle.dsu_journal.specs.declared.fault.JournalFault.TheVariants as journal
+use Rattle.dsu_io.specs.Causes.{FailedReads, NoneFailed, ReadFailed}
 use Rattle.dsu_io.specs.Files.{IsContent}
 use Rattle.dsu_report.specs.declared.fault.FaultLine.{FaultLine}
 use Rattle.dsu_report.specs.declared.fault.FaultLine.TheVariants.{Unread, TooLong, Memory}
 use Rattle.input_files.specs.Files.{Exceeds, IsOfFile}
-use Rattle.input_files.specs.Journals.{IsOfJournal, journal_limit, line_of_journal}
+use Rattle.input_files.specs.Journals.{IsNoJournal, IsOfJournal, journal_limit, line_of_journal}
 use Rattle.input_files.specs.Lines.{line_of}
-use Rattle.input_files.specs.Sources.{IsOfSource, IsSource, text_limit}
+use Rattle.input_files.specs.Sources.{IsFirstOf, IsOfSource, IsSource, text_limit}
 use Rattle.dsu_commands.specs.Jobs.{IsJournalFault, IsProgramFault, KnownJournalFault, KnownProgramFault, long, first}
+use Rattle.dsu_commands.specs.Remaining.{OutOfMemory}
+
+-- why nothing is read of a file that may also be wrong otherwise
+file_fault : {T : Type 0} (name : List ℕ) (before now : FailedReads) (line : FaultLine) (Long Wrong : Type 0)
+    → (IsErrOf {T = T} (Err line) Unread → ReadFailed name before now)
+    → ((IsErrOf {T = T} (Err line) Unread → ⊥) → NoneFailed before now) → (IsErrOf {T = T} (Err line) TooLong → Long)
+    → (Wrong → line ≡ Unread → ⊥) → IsOfFile line ⊎ Wrong
+    → OutOfMemory before now line
+    ⊎ ((line ≡ Unread) × ReadFailed name before now) ⊎ (NoneFailed before now × (((line ≡ TooLong) × Long) ⊎ Wrong))
+file_fault name before now line Long Wrong failed none longer never (inl (inl (inl is))) = inr (inl (is, failed (ap Err is)))
+file_fault name before now line Long Wrong failed none longer never (inl (inl (inr is))) = inl (none (λ unread. cc (is, unread)), is)
+file_fault name before now line Long Wrong failed none longer never (inl (inr is)) =
+    inr (inr (none (λ unread. cc (is, unread)), inl (is, longer (ap Err is))))
+file_fault name before now line Long Wrong failed none longer never (inr wrong) =
+    inr (inr (none (λ unread. never wrong (cc (unread))), inr wrong))
 
 -- why a program isn't read
-pub program_fault : (content : Option (List ℕ)) (counted count : ℕ) (line : FaultLine) → IsOfSource content line
-    → (line ≡ Unread → Rose counted count) → (line ≡ TooLong → Exceeds text_limit content)
-    → (line ≡ Memory) ⊎ IsProgramFault content counted count line
-program_fault content counted count line (inr wrong) rose exceeds = inr (inr (inr wrong))
-program_fault content counted count line (inl (inr is)) rose exceeds = inr (inr (inl (is, exceeds is)))
-program_fault content counted count line (inl (inl (inl is))) rose exceeds = inr (inl (is, rose is))
-program_fault content counted count line (inl (inl (inr is))) rose exceeds = inl is
+pub program_fault : {T : Type 0} (name : List ℕ) (content : Option (List ℕ)) (before now : FailedReads) (line : FaultLine)
+    → (IsErrOf {T = T} (Err line) Unread → ReadFailed name before now)
+    → ((IsErrOf {T = T} (Err line) Unread → ⊥) → NoneFailed before now)
+    → (IsErrOf {T = T} (Err line) TooLong → Exceeds text_limit content) → IsOfSource content line
+    → OutOfMemory before now line ⊎ IsProgramFault name content before now line
+program_fault name content before now line failed none longer wrong =
+    file_fault name before now line (Exceeds text_limit content) (IsFirstOf content line) failed none longer
+    (λ other unread. let is = other.first.3 in cc (is, unread)) wrong
+
+no_journal_is_read : (fault : JournalFault) → line_of_journal fault ≡ Unread → ⊥
+no_journal_is_read journal.Header is = cc
+no_journal_is_read (journal.NoEvent n) is = cc
+no_journal_is_read journal.Memory is = cc
 
 -- why events aren't read
-pub journal_fault : (content : Option (List ℕ)) (counted count : ℕ) (line : FaultLine) → IsOfJournal content line
-    → (line ≡ Unread → Rose counted count) → (line ≡ TooLong → Exceeds journal_limit content)
-    → (line ≡ Memory) ⊎ IsJournalFault content counted count line
-journal_fault content counted count line (inr wrong) rose exceeds = inr (inr (inr wrong))
-journal_fault content counted count line (inl (inr is)) rose exceeds = inr (inr (inl (is, exceeds is)))
-journal_fault content counted count line (inl (inl (inl is))) rose exceeds = inr (inl (is, rose is))
-journal_fault content counted count line (inl (inl (inr is))) rose exceeds = inl is
+pub journal_fault : {T : Type 0} (name : List ℕ) (content : Option (List ℕ)) (before now : FailedReads) (line : FaultLine)
+    → (IsErrOf {T = T} (Err line) Unread → ReadFailed name before now)
+    → ((IsErrOf {T = T} (Err line) Unread → ⊥) → NoneFailed before now)
+    → (IsErrOf {T = T} (Err line) TooLong → Exceeds journal_limit content) → IsOfJournal content line
+    → OutOfMemory before now line ⊎ IsJournalFault name content before now line
+journal_fault name content before now line failed none longer wrong =
+    file_fault name before now line (Exceeds journal_limit content) (IsNoJournal content line) failed none longer
+    (λ other unread. no_journal_is_read other.fault (sym other.line_is ∙ unread)) wrong
 
--- a text that was read of a file whose text is known is that text, so it isn't too long
+-- a text that was read of a file whose text is known is that text, so it isn't too longer
 too_long : (content : Option (List ℕ)) (known read : List ℕ) (limit : ℕ) → content ≡ Some known → limit < length known
     → IsContent content read → length read ≤ limit → ⊥
 too_long content known read limit is more at fits =

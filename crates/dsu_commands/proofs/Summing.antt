@@ -1,6 +1,7 @@
 -- A run of a generated program whose summary was printed.
-use Rattle.std.proofs.Common.{◌≡◌, ◌⊎◌, inl, inr, ℕ, ◌/◌, List, [], ◌∷◌, Option, Some, Ok, Err, refl, sym, ◌∙◌, ap, subst, arith}
+use Rattle.std.proofs.Common.{◌≡◌, ◌⊎◌, inl, inr, ℕ, List, [], ◌∷◌, Option, Some, refl, sym, ◌∙◌, ap, subst}
 use Rattle.std.specs.Prelude.{false, length}
+use Rattle.dsu_io.specs.Causes.{FailedReads, NoneFailed}
 use Rattle.bytecode.specs.declared.run.Event.{Event}
 use Rattle.bytecode.specs.declared.run.Ending.{Ending}
 use Rattle.c_tree.specs.declared.def.Program.{Program}
@@ -12,6 +13,7 @@ use Rattle.source_model.specs.JournalLaws.{JournalIsARun, SeatsAlwaysFit}
 use Rattle.accepted_runs.specs.AcceptedRuns.{TransactionsShareAVersion, TextsAreAccepted}
 use Rattle.dsu_cli.specs.declared.job.Job.TheVariants.{Gen}
 use Rattle.dsu_report.specs.Statuses.{status_of_ending}
+use Rattle.dsu_report.specs.declared.fault.FaultLine.{FaultLine}
 use Rattle.dsu_report.specs.declared.fault.FaultLine.TheVariants.{Memory}
 use Rattle.c_front.specs.Accepted.{Accepted}
 use Rattle.frame_bodies.specs.AcceptedTexts.{TextsOfProgramsAreAccepted}
@@ -24,10 +26,12 @@ use Rattle.dsu_commands.specs.Calls.{Call, Shows, Stopped}
 use Rattle.dsu_commands.specs.Generated.{Printed, SummaryFailed, Summed, Unprinted, generated_plan, generated_setup, generated_summary, lines_in, summary_text}
 use Rattle.dsu_commands.specs.Jobs.{Contents, IsKnownProgram}
 use Rattle.dsu_commands.specs.Plans.{Ends}
+use Rattle.dsu_commands.specs.Remaining.{OutOfMemory}
 use Rattle.dsu_commands.specs.Reports.{run_text}
 use Rattle.dsu_commands.specs.Runs.{HandsBack, Made, report_of}
 use Rattle.dsu_commands.specs.Schedules.{EndedBy, RanBy}
 use Rattle.dsu_commands.proofs.Accepting.{texts_are_accepted}
+use Rattle.dsu_commands.proofs.FailedReads.{none_yet}
 use Rattle.dsu_commands.proofs.Outcomes.{done_by}
 use Rattle.dsu_commands.proofs.Reporting.{made, stopped}
 
@@ -105,13 +109,19 @@ module _ {T : Type 0} (setup : Setup) (is_at : Guard → T → Type 0) (told : T
 
 -- ---- the answer of the command
 
+-- a fault of a generated text isn't one of a file
+pub no_file_failed : {Fault : Type 0} (faults : FailedReads) (line : FaultLine) → (line ≡ Memory) ⊎ Fault
+    → OutOfMemory faults faults line ⊎ (NoneFailed faults faults × Fault)
+no_file_failed faults line (inl is) = inl (none_yet faults, is)
+no_file_failed faults line (inr wrong) = inr (none_yet faults, wrong)
+
 module _ (seed size : ℕ) (program next : Program) (call : Call) where
-  pub gen_answers : (content : Contents) (counted count : ℕ) → IsKnownProgram (Some (program_text seed size)) program
+  pub gen_answers : (content : Contents) (faults : FailedReads) → IsKnownProgram (Some (program_text seed size)) program
       → IsKnownProgram (Some (offer_text seed size)) next → Comes seed size (generated_setup size program next) call
-      → Answers (Gen seed size) content counted count call
-  gen_answers content counted count first second (inl s) = did (program, first, next, second, inl s)
-  gen_answers content counted count first second (inr (inl s)) = did (program, first, next, second, inr s)
-  gen_answers content counted count first second (inr (inr s)) = short s
+      → Answers (Gen seed size) content faults faults call
+  gen_answers content faults first second (inl s) = did (none_yet faults) (program, first, next, second, inl s)
+  gen_answers content faults first second (inr (inl s)) = did (none_yet faults) (program, first, next, second, inr s)
+  gen_answers content faults first second (inr (inr s)) = short (none_yet faults) s
 
   pub gen_done : Comes seed size (generated_setup size program next) call → IsDone call.status ⊎ IsExcused call.status
   gen_done (inl s) = inl (done_by call.status _ s.status)

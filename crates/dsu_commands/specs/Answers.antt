@@ -1,5 +1,6 @@
 -- What a job came to.
 use Rattle.std.specs.Prelude.{◌≡◌, ◌⊎◌, ◌≤◌, ℕ, false, List, [], Some}
+use Rattle.dsu_io.specs.Causes.{FailedReads, NoneFailed}
 use Rattle.bytecode.specs.declared.run.Event.{Event}
 use Rattle.c_tree.specs.declared.def.Program.{Program}
 use Rattle.c_types.specs.Definitions.{names_of}
@@ -100,12 +101,12 @@ Does (Gen seed size) content call =
     × (Summed seed size (generated_setup size program next) call ⊎ SummaryFailed seed size (generated_setup size program next) call)
 
 -- what a job came to: it was done as far as outputs, journal and memory let it, a file of it has a fault, or memory ran
--- out before anything was printed
-pub data Answers (job : Job) (content : Contents) (counted count : ℕ) (call : Call) : Type 0 where
-  did : Does job content call → Answers job content counted count call
-  stopped : (line : FaultLine) (file : List ℕ) → FileStops job content counted count line file → Stopped line file call
-      → Answers job content counted count call
-  short : Stopped Memory [] call → Answers job content counted count call
+-- out before anything was printed; a read of a file failed in between only where the fault says so
+pub data Answers (job : Job) (content : Contents) (before now : FailedReads) (call : Call) : Type 0 where
+  did : NoneFailed before now → Does job content call → Answers job content before now call
+  stopped : (line : FaultLine) (file : List ℕ) → FileStops job content before now line file → Stopped line file call
+      → Answers job content before now call
+  short : NoneFailed before now → Stopped Memory [] call → Answers job content before now call
 
 -- the job was done to its end
 abbrev pub IsDone : ℕ → Type 0

@@ -65,11 +65,11 @@ run_call finish ran answers installed out err = record {
 abbrev pub Shows : Output → List ℕ → Type 0
 Shows o text = Appends o.before o.now text
 
--- a prefix of it was, and a fault was counted
+-- a shorter prefix of it was, and a fault was counted
 abbrev pub ShowsPrefix : Output → List ℕ → Type 0
 ShowsPrefix o text = AppendsFront o.before o.now text × Rose o.counted o.count
 
--- the text was appended, or a prefix of it where the output failed
+-- the text was appended, or a shorter prefix of it where the output failed
 abbrev pub Writes : Output → List ℕ → Type 0
 Writes o text = Shows o text ⊎ ShowsPrefix o text
 

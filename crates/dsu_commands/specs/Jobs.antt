@@ -1,7 +1,7 @@
 -- The jobs that are built, and what their files have.
 use Rattle.std.specs.Prelude.{◌≡◌, ◌⊎◌, ◌≤◌, ◌<◌, ℕ, ⊤, Bool, true, List, [], ◌∷◌, length, map, codes, Option, Some, Ok, Err}
 use Rattle.std.specs.Option.{is_none}
-use Rattle.dsu_io.specs.Causes.{Rose}
+use Rattle.dsu_io.specs.Causes.{FailedReads, NoneFailed, ReadFailed}
 use Rattle.bytecode.specs.declared.run.Event.{Event}
 use Rattle.c_tree.specs.declared.def.Program.{Program}
 use Rattle.c_front.specs.Accepted.{Accepted}
@@ -14,7 +14,7 @@ use Rattle.dsu_cli.specs.declared.job.Job.TheVariants.{Run, Replay, Check, Effec
 use Rattle.dsu_cli.specs.declared.job.Offer.{Offer}
 use Rattle.dsu_report.specs.declared.fault.FaultLine.{FaultLine}
 use Rattle.dsu_report.specs.declared.fault.FaultLine.TheVariants.{Unread, TooLong}
-use Rattle.dsu_runs.specs.Rows.{AreRows}
+use Rattle.effects.specs.Rows.{AreRows}
 use Rattle.dsu_runs.specs.Replays.{events_of}
 use Rattle.dsu_runs.specs.Setups.{setup_of}
 use Rattle.program_gen.specs.Generated.{program_text, offer_text}
@@ -72,52 +72,53 @@ GeneratedFault text offer line file =
 
 -- ---- the first fault of the files
 
--- why the program of a file isn't read: reading failed, it is too long, or its text has a first fault
-abbrev pub IsProgramFault : Option (List ℕ) → ℕ → ℕ → FaultLine → Type 0
-IsProgramFault content counted count line =
-    ((line ≡ Unread) × Rose counted count)
-    ⊎ ((line ≡ TooLong) × Exceeds text_limit content) ⊎ IsFirstOf content line
+-- why the program of a file isn't read: its reading failed, and no other; or none failed, and it is too long, or its text has a
+-- first fault
+abbrev pub IsProgramFault : List ℕ → Option (List ℕ) → FailedReads → FailedReads → FaultLine → Type 0
+IsProgramFault name content before now line =
+    ((line ≡ Unread) × ReadFailed name before now)
+    ⊎ (NoneFailed before now × (((line ≡ TooLong) × Exceeds text_limit content) ⊎ IsFirstOf content line))
 
 -- why the events of a file aren't read
-abbrev pub IsJournalFault : Option (List ℕ) → ℕ → ℕ → FaultLine → Type 0
-IsJournalFault content counted count line =
-    ((line ≡ Unread) × Rose counted count)
-    ⊎ ((line ≡ TooLong) × Exceeds journal_limit content) ⊎ IsNoJournal content line
+abbrev pub IsJournalFault : List ℕ → Option (List ℕ) → FailedReads → FailedReads → FaultLine → Type 0
+IsJournalFault name content before now line =
+    ((line ≡ Unread) × ReadFailed name before now)
+    ⊎ (NoneFailed before now × (((line ≡ TooLong) × Exceeds journal_limit content) ⊎ IsNoJournal content line))
 
 -- the file of the program has the fault
-abbrev pub ProgramStops : List ℕ → Contents → ℕ → ℕ → FaultLine → List ℕ → Type 0
-ProgramStops named content counted count line file = (file ≡ named) × IsProgramFault (content named) counted count line
+abbrev pub ProgramStops : List ℕ → Contents → FailedReads → FailedReads → FaultLine → List ℕ → Type 0
+ProgramStops named content before now line file = (file ≡ named) × IsProgramFault named (content named) before now line
 
 -- the first file of some offers with a fault, and that fault
-abbrev pub OfferStops : List Offer → Contents → ℕ → ℕ → FaultLine → List ℕ → Type 0
-OfferStops [] content counted count line file = ⊥
-OfferStops (o ∷ offers) content counted count line file =
-    ProgramStops o.file content counted count line file
-    ⊎ ((program : Program) × HoldsProgram (content o.file) program × OfferStops offers content counted count line file)
+abbrev pub OfferStops : List Offer → Contents → FailedReads → FailedReads → FaultLine → List ℕ → Type 0
+OfferStops [] content before now line file = ⊥
+OfferStops (o ∷ offers) content before now line file =
+    ProgramStops o.file content before now line file
+    ⊎ ((program : Program) × HoldsProgram (content o.file) program × OfferStops offers content before now line file)
 
 -- the journal of a replay has a fault, or an offer after it
-abbrev pub JournalStops : List ℕ → List Offer → Contents → ℕ → ℕ → FaultLine → List ℕ → Type 0
-JournalStops journal offers content counted count line file =
-    ((file ≡ journal) × IsJournalFault (content journal) counted count line)
-    ⊎ ((lines : List (ℕ × Event)) × HoldsEvents (content journal) lines × OfferStops offers content counted count line file)
+abbrev pub JournalStops : List ℕ → List Offer → Contents → FailedReads → FailedReads → FaultLine → List ℕ → Type 0
+JournalStops journal offers content before now line file =
+    ((file ≡ journal) × IsJournalFault journal (content journal) before now line)
+    ⊎ ((lines : List (ℕ × Event)) × HoldsEvents (content journal) lines × OfferStops offers content before now line file)
 
 -- the first file of a job with a fault, and that fault; a journal is read after its program, offers after both, in the order
 -- of the words, and a newer text after the older one; generated texts are read in the place of files
-abbrev pub FileStops : Job → Contents → ℕ → ℕ → FaultLine → List ℕ → Type 0
-FileStops (Run job) content counted count line file =
-    ProgramStops job.file content counted count line file
-    ⊎ ((program : Program) × HoldsProgram (content job.file) program × OfferStops job.offers content counted count line file)
-FileStops (Replay job) content counted count line file =
-    ProgramStops job.file content counted count line file
+abbrev pub FileStops : Job → Contents → FailedReads → FailedReads → FaultLine → List ℕ → Type 0
+FileStops (Run job) content before now line file =
+    ProgramStops job.file content before now line file
+    ⊎ ((program : Program) × HoldsProgram (content job.file) program × OfferStops job.offers content before now line file)
+FileStops (Replay job) content before now line file =
+    ProgramStops job.file content before now line file
     ⊎ ((program : Program) × HoldsProgram (content job.file) program
-    × JournalStops job.journal job.offers content counted count line file)
-FileStops (Check named) content counted count line file = ProgramStops named content counted count line file
-FileStops (Effects named) content counted count line file = ProgramStops named content counted count line file
-FileStops (Changes old new) content counted count line file =
-    ProgramStops old content counted count line file
-    ⊎ ((program : Program) × HoldsProgram (content old) program × ProgramStops new content counted count line file)
-FileStops (Gen seed size) content counted count line file =
-    GeneratedFault (program_text seed size) (offer_text seed size) line file
+    × JournalStops job.journal job.offers content before now line file)
+FileStops (Check named) content before now line file = ProgramStops named content before now line file
+FileStops (Effects named) content before now line file = ProgramStops named content before now line file
+FileStops (Changes old new) content before now line file =
+    ProgramStops old content before now line file
+    ⊎ ((program : Program) × HoldsProgram (content old) program × ProgramStops new content before now line file)
+FileStops (Gen seed size) content before now line file =
+    NoneFailed before now × GeneratedFault (program_text seed size) (offer_text seed size) line file
 
 -- ---- files whose contents are known
 
@@ -145,7 +146,7 @@ IsReady (Replay job) content =
     (program : Program) × IsKnownProgram (content job.file) program
     × (lines : List (ℕ × Event)) × IsKnownJournal (content job.journal) lines
     × (programs : List Program) × AreKnownPrograms content job.offers programs
-    × ((rules : Rules) → AreRows rules
+    × ((rules : Rules) → AreRows rules.row
     → IsLegal rules (setup_of program programs (lines_of job.offers) job.objects) (events_of lines))
 IsReady (Check file) content = (program : Program) × IsKnownProgram (content file) program
 IsReady (Effects file) content = (program : Program) × IsKnownProgram (content file) program

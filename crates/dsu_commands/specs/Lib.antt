@@ -7,3 +7,4 @@ pub mod Reports
 pub mod Jobs
 pub mod Offers
 pub mod Answers
+pub mod Remaining

@@ -5,7 +5,7 @@ use Rattle.source_model.specs.Guards.{Guard, Rules, Setup}
 use Rattle.source_model.specs.Journals.{happens}
 use Rattle.source_model.specs.Schedules.{Solo, is_prompt, move_count}
 use Rattle.source_model.specs.Endings.{ending, run_ending}
-use Rattle.dsu_runs.specs.Rows.{AreRows}
+use Rattle.effects.specs.Rows.{AreRows}
 use Rattle.dsu_runs.specs.Replays.{events_of}
 use Rattle.dsu_runs.specs.Solo.{EachBeforeTheEnd}
 
@@ -19,8 +19,8 @@ pub data Plan : Type 0 where
 -- was made where the run hadn't ended; so no move was made while an offer was due
 pub record FollowsSchedule (setup : Setup) (moves : ℕ) (history : List Event) (g : Guard) : Type 0 where
   pub last : Option ℕ
-  pub solo : (rules : Rules) → AreRows rules → Solo rules setup (reverse history) g last
-  pub prompt : (rules : Rules) → AreRows rules → IsTrue (is_prompt rules setup history)
+  pub solo : (rules : Rules) → AreRows rules.row → Solo rules setup (reverse history) g last
+  pub prompt : (rules : Rules) → AreRows rules.row → IsTrue (is_prompt rules setup history)
   pub most : move_count history ≤ moves
   pub begun : EachBeforeTheEnd setup moves history
 
@@ -38,7 +38,7 @@ Ends (ByJournal lines) setup history g = history ≡ events_of lines
 pub record CannotGoOn (setup : Setup) (lines : List (ℕ × Event)) (history : List Event) (g : Guard) (line : ℕ) : Type 0 where
   pub event : Event
   pub next : slice_get lines (length history) ≡ Some (line, event)
-  pub never : (rules : Rules) → AreRows rules → happens rules setup event g ≡ None
+  pub never : (rules : Rules) → AreRows rules.row → happens rules setup event g ≡ None
 
 -- the solo schedule has no event that can't happen
 abbrev pub Impossible : Plan → Setup → List Event → Guard → ℕ → Type 0

@@ -8,12 +8,14 @@ use Rattle.source_model.specs.Guards.{Guard, Rules, Setup}
 use Rattle.source_model.specs.Journals.{answers, guard_after, moves}
 use Rattle.source_model.specs.JournalLaws.{texts_of}
 use Rattle.source_model.specs.Endings.{ending as ending_of, int_ending}
+use Rattle.source_model.specs.Patches.{all_names}
+use Rattle.patch_build.specs.Versions.{IsTableOf}
 use Rattle.admission_laws.specs.AdmissionLaws.{IsVersionConsistent}
 use Rattle.dsu_report.specs.declared.fault.FaultLine.TheVariants.{Line, Write, Memory}
 use Rattle.dsu_report.specs.declared.fault.LineWord.TheVariants.{CannotHappen}
 use Rattle.dsu_report.specs.Faults.{fault_line}
 use Rattle.dsu_report.specs.Statuses.{status_of_ending}
-use Rattle.dsu_runs.specs.Rows.{AreRows}
+use Rattle.effects.specs.Rows.{AreRows}
 use Rattle.dsu_runs.specs.Ran.{FailedAt}
 use Rattle.dsu_commands.specs.declared.outcome.InForce.{InForce}
 use Rattle.dsu_commands.specs.Calls.{Call, NoEnd, Shows, ShowsPrefix, Writes}
@@ -25,16 +27,17 @@ use Rattle.dsu_commands.specs.Reports.{run_text}
 pub record Made (plan : Plan) (setup : Setup) (history : List Event) : Type 0 where
   pub guard : Guard
   pub machine : Result
-  pub legal : (rules : Rules) → AreRows rules → guard_after rules setup history ≡ Some guard
+  pub legal : (rules : Rules) → AreRows rules.row → guard_after rules setup history ≡ Some guard
   pub same : machine.world ≡ guard.world
   pub moved : source_run (texts_of setup) setup.limits (moves guard.answers history) ≡ Some machine
   pub consistent : IsVersionConsistent machine
   pub follows : Follows plan setup history guard
 
--- what is handed back of the versions of a run: the number of the one in force, the names, and an answer to each offer, whose
--- ids stand for these names
+-- what is handed back of the versions of a run: the number of the one in force, the names of all versions so far, each once,
+-- and an answer to each offer, whose ids stand for these names
 pub record HandsBack (setup : Setup) (g : Guard) (given : List OfferAnswer) (installed : Option InForce) : Type 0 where
   pub names : List (List ℕ)
+  pub named : IsTableOf (all_names g.versions) names
   pub in_force : installed ≡ Some (record { version = length g.versions; names = names })
   pub answered : map (answer_seen names) given ≡ answers setup g
 
@@ -54,7 +57,8 @@ pub record Ran (plan : Plan) (setup : Setup) (texts : List (List ℕ)) (journal 
   pub out : Shows call.out made.machine.output
   pub err : Shows call.err (report_of journal call.history setup texts made.guard)
 
--- standard output failed at a move: it has what was printed before and a prefix of what the move printed
+-- standard output failed at a move that printed something: it has what was printed before the move, and not all of what the
+-- move printed
 pub record PrintFailed (plan : Plan) (setup : Setup) (call : Call) : Type 0 where
   pub made : Made plan setup call.history
   pub failed : FailedAt setup call.history made.guard call.out.before call.out.now call.out.counted call.out.count

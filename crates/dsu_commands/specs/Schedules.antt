@@ -6,7 +6,7 @@ use Rattle.source_model.specs.Guards.{Guard, Rules, Setup}
 use Rattle.source_model.specs.Journals.{guard_after}
 use Rattle.source_model.specs.Endings.{ending, int_ending}
 use Rattle.dsu_report.specs.Statuses.{status_of_ending}
-use Rattle.dsu_runs.specs.Rows.{AreRows}
+use Rattle.effects.specs.Rows.{AreRows}
 use Rattle.dsu_runs.specs.Ran.{FailedAt, Printed}
 use Rattle.dsu_runs.specs.declared.ran.Ran.{Ran}
 use Rattle.dsu_runs.specs.declared.ran.StopCause.{StopCause}
@@ -44,7 +44,7 @@ StoppedBy plan setup is_at told faults engine ran g Memory = Printed (told engin
 pub record RanBy {T : Type 0} (plan : Plan) (setup : Setup) (is_at : Guard → T → Type 0) (told : T → Option (List ℕ))
     (faults : T → ℕ) (engine : T) (ran : Ran T) : Type 0 where
   pub guard : Guard
-  pub legal : (rules : Rules) → AreRows rules → guard_after rules setup ran.history.items ≡ Some guard
+  pub legal : (rules : Rules) → AreRows rules.row → guard_after rules setup ran.history.items ≡ Some guard
   pub follows : Follows plan setup ran.history.items guard
   pub stopped : StoppedBy plan setup is_at told faults engine ran guard ran.cause
 

@@ -1,11 +1,11 @@
-ghost use Rattle.std.specs.Prelude.{◌⊎◌, ◌≤◌, ℕ, List, []};
+ghost use Rattle.std.specs.Prelude.{◌⊎◌, ℕ, List, []};
 ghost use Rattle.c_tree.specs.declared.def.Program.{Program};
 ghost use Rattle.dsu_cli.specs.declared.job.Job.TheVariants.{Changes};
 ghost use Rattle.dsu_report.specs.declared.fault.FaultLine.{FaultLine as Line};
-ghost use Rattle.input_files.specs.Sources.{IsSource};
 ghost use Rattle.dsu_commands.specs.Answers.{Answers, ChangesFailed, ChangesShown, IsDone, IsExcused};
 ghost use Rattle.dsu_commands.specs.Calls.{Stopped, call_of, output_of};
-ghost use Rattle.dsu_commands.specs.Jobs.{IsKnownFault, IsKnownProgram, IsProgramFault, IsReady, KnownProgramFault};
+ghost use Rattle.dsu_commands.specs.Jobs.{IsKnownFault, IsKnownProgram, IsReady, KnownProgramFault};
+ghost use Rattle.dsu_commands.specs.Remaining.{ChangesTo};
 
 use crate::input::{program_of, source_in};
 use crate::outcome::{Outcome, without_end};
@@ -49,21 +49,13 @@ fn changes_from<F: Files, O: Sink, E: Sink>(
     out: O,
     err: &mut E,
 ) -> Outcome<O>
-    ensures answers { ((text : List ℕ) × (next : Program) × IsSource (F.content files.old new.now) text next
-        × (ChangesShown program.now next text
-        (call_of result (output_of O.told O.faults out result.out) (output_of E.told E.faults err.old err.new))
-        ⊎ ChangesFailed program.now next text
-        (call_of result (output_of O.told O.faults out result.out) (output_of E.told E.faults err.old err.new))))
-        ⊎ Stopped FaultLine.Memory [] (call_of result (output_of O.told O.faults out result.out) (output_of E.told E.faults err.old err.new))
-        ⊎ ((line : Line) × IsProgramFault (F.content files.old new.now) (F.faults files.old) (F.faults files.new) line
-        × Stopped line new.now
-        (call_of result (output_of O.told O.faults out result.out) (output_of E.told E.faults err.old err.new))) }
+    ensures answers { ChangesTo (F.content files.old) (F.faults files.old) (F.faults files.new) program.now new.now
+        (call_of result (output_of O.told O.faults out result.out) (output_of E.told E.faults err.old err.new)) }
     ensures complete { (next : Program) → IsKnownProgram (F.content files.old new.now) next
         → IsDone result.status ⊎ IsExcused result.status }
     ensures first { (line : Line) → KnownProgramFault (F.content files.old new.now) line
         → IsExcused result.status ⊎ Stopped line new.now
         (call_of result (output_of O.told O.faults out result.out) (output_of E.told E.faults err.old err.new)) }
-    ensures later { F.faults files.old ≤ F.faults files.new }
 {
     match source_in(alloc, files, new) {
         Ok(source) => print_changes(alloc, program, &source, out, err),

@@ -1,4 +1,5 @@
 ghost use Rattle.std.specs.Prelude.{◌⊎◌, ◌≡◌, ◌<◌, ◌≤◌, ◌/◌, ℕ, List as ListOf, [], ◌∷◌, false, length};
+ghost use Rattle.dsu_io.specs.Causes.{FailedReads};
 ghost use Rattle.c_front.specs.Accepted.{Accepted};
 ghost use Rattle.c_tree.specs.declared.def.Program.{Program};
 ghost use Rattle.source_model.specs.Guards.{Guard, Setup, first_guard};
@@ -48,7 +49,8 @@ pub fn run_generated<O: Sink, E: Sink>(
     err: &mut E,
 ) -> Outcome<O>
     requires some { 0 < size }
-    ensures answers { (content : Contents) (counted count : ℕ) → Answers (Gen seed size) content counted count
+    // No file is read.
+    ensures answers { (content : Contents) (faults : FailedReads) → Answers (Gen seed size) content faults faults
         (call_of result (output_of O.told O.faults out result.out) (output_of E.told E.faults err.old err.new)) }
     ensures complete { (content : Contents) → IsReady (Gen seed size) content → IsDone result.status ⊎ IsExcused result.status }
     ensures first { (content : Contents) (line : Line) (file : ListOf ℕ) → IsKnownFault (Gen seed size) content line file

@@ -1,4 +1,5 @@
-ghost use Rattle.std.specs.Prelude.{◌≡◌, ◌⊎◌, ◌≤◌, ℕ, List, IfOk, IfErr, IsErrOf, MatchResult};
+ghost use Rattle.std.specs.Prelude.{◌≡◌, ◌⊎◌, ℕ, List, IfOk, IfErr, IsErrOf, MatchResult, OnOk};
+ghost use Rattle.dsu_io.specs.Causes.{NoneFailed};
 ghost use Rattle.bytecode.specs.declared.run.Event.{Event as Made};
 ghost use Rattle.c_tree.specs.declared.def.Program.{Program};
 ghost use Rattle.dsu_report.specs.declared.fault.FaultLine.{FaultLine as Line};
@@ -6,6 +7,7 @@ ghost use Rattle.input_files.specs.Files.{IsShort};
 ghost use Rattle.input_files.specs.Journals.{HoldsEvents};
 ghost use Rattle.input_files.specs.Sources.{HoldsProgram, IsSource};
 ghost use Rattle.dsu_commands.specs.Jobs.{IsJournalFault, IsKnownJournal, IsKnownProgram, IsProgramFault, KnownJournalFault, KnownProgramFault};
+ghost use Rattle.dsu_commands.specs.Remaining.{OutOfMemory};
 
 use bytecode::Event;
 use c_types::Typed;
@@ -21,10 +23,10 @@ pub(crate) fn source_in<F: Files>(
     file: &str,
 ) -> Result<Source, FaultLine>
     ensures read { IfOk result (λ source. IsSource (F.content files.old file.now) source.text.items source.typed) }
-    ensures fault { IfErr result (λ line. (line ≡ FaultLine.Memory)
-        ⊎ IsProgramFault (F.content files.old file.now) (F.faults files.old) (F.faults files.new) line) }
+    ensures fault { IfErr result (λ line. OutOfMemory (F.faults files.old) (F.faults files.new) line
+        ⊎ IsProgramFault file.now (F.content files.old file.now) (F.faults files.old) (F.faults files.new) line) }
     ensures same { (other : List ℕ) → F.content files.new other ≡ F.content files.old other }
-    ensures later { F.faults files.old ≤ F.faults files.new }
+    ensures none_failed { OnOk result (NoneFailed (F.faults files.old) (F.faults files.new)) }
     ensures complete { (program : Program) → IsKnownProgram (F.content files.old file.now) program
         → MatchResult result (λ source. source.typed ≡ program) IsShort }
     ensures first { (line : Line) → KnownProgramFault (F.content files.old file.now) line
@@ -43,10 +45,10 @@ pub(crate) fn program_of<F: Files>(
     file: &str,
 ) -> Result<Typed, FaultLine>
     ensures read { IfOk result (λ program. HoldsProgram (F.content files.old file.now) program) }
-    ensures fault { IfErr result (λ line. (line ≡ FaultLine.Memory)
-        ⊎ IsProgramFault (F.content files.old file.now) (F.faults files.old) (F.faults files.new) line) }
+    ensures fault { IfErr result (λ line. OutOfMemory (F.faults files.old) (F.faults files.new) line
+        ⊎ IsProgramFault file.now (F.content files.old file.now) (F.faults files.old) (F.faults files.new) line) }
     ensures same { (other : List ℕ) → F.content files.new other ≡ F.content files.old other }
-    ensures later { F.faults files.old ≤ F.faults files.new }
+    ensures none_failed { OnOk result (NoneFailed (F.faults files.old) (F.faults files.new)) }
     ensures complete { (program : Program) → IsKnownProgram (F.content files.old file.now) program
         → MatchResult result (λ typed. typed ≡ program) IsShort }
     ensures first { (line : Line) → KnownProgramFault (F.content files.old file.now) line
@@ -65,10 +67,10 @@ pub(crate) fn events_of<F: Files>(
     file: &str,
 ) -> Result<Vec<(u32, Event)>, FaultLine>
     ensures read { IfOk result (λ lines. HoldsEvents (F.content files.old file.now) lines.items) }
-    ensures fault { IfErr result (λ line. (line ≡ FaultLine.Memory)
-        ⊎ IsJournalFault (F.content files.old file.now) (F.faults files.old) (F.faults files.new) line) }
+    ensures fault { IfErr result (λ line. OutOfMemory (F.faults files.old) (F.faults files.new) line
+        ⊎ IsJournalFault file.now (F.content files.old file.now) (F.faults files.old) (F.faults files.new) line) }
     ensures same { (other : List ℕ) → F.content files.new other ≡ F.content files.old other }
-    ensures later { F.faults files.old ≤ F.faults files.new }
+    ensures none_failed { OnOk result (NoneFailed (F.faults files.old) (F.faults files.new)) }
     ensures complete { (lines : List (ℕ × Made)) → IsKnownJournal (F.content files.old file.now) lines
         → MatchResult result (λ read. read.items ≡ lines) IsShort }
     ensures first { (line : Line) → KnownJournalFault (F.content files.old file.now) line

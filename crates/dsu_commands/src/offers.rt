@@ -1,10 +1,12 @@
-ghost use Rattle.std.specs.Prelude.{◌≡◌, ◌⊎◌, ◌≤◌, ◌++◌, ◌∷◌, ℕ, List as ListOf, [], length, IfOk, IfErr, IsErrOf, MatchResult, OnOk};
+ghost use Rattle.std.specs.Prelude.{◌≡◌, ◌⊎◌, ◌++◌, ◌∷◌, ℕ, List as ListOf, [], length, IfOk, IfErr, IsErrOf, MatchResult, OnOk};
+ghost use Rattle.dsu_io.specs.Causes.{NoneFailed};
 ghost use Rattle.c_tree.specs.declared.def.Program.{Program};
 ghost use Rattle.dsu_report.specs.declared.fault.FaultLine.{FaultLine as Line};
 ghost use Rattle.input_files.specs.Files.{IsShort};
 ghost use Rattle.input_files.specs.Sources.{IsSource};
 ghost use Rattle.dsu_commands.specs.Jobs.{AreKnownPrograms, AreSources, IsKnownProgram, IsProgramFault, KnownOfferFault, KnownProgramFault, OfferStops, lines_of};
 ghost use Rattle.dsu_commands.specs.Offers.{IsOneMore};
+ghost use Rattle.dsu_commands.specs.Remaining.{OutOfMemory};
 
 use crate::input::source_in;
 use c_types::Typed;
@@ -33,9 +35,9 @@ pub(crate) fn offers_in<'a, F: Files>(
     ensures read { IfOk result (λ read. AreSources (F.content files.old) offers.now read.texts.items read.programs.items) }
     ensures lines { IfOk result (λ read. read.lines.items ≡ lines_of offers.now) }
     ensures each { IfOk result (λ read. length read.programs.items ≡ length offers.now) }
-    ensures fault { IfErr result (λ fault. (fault.0 ≡ FaultLine.Memory)
+    ensures fault { IfErr result (λ fault. OutOfMemory (F.faults files.old) (F.faults files.new) fault.0
         ⊎ OfferStops offers.now (F.content files.old) (F.faults files.old) (F.faults files.new) fault.0 fault.1.now) }
-    ensures later { F.faults files.old ≤ F.faults files.new }
+    ensures none_failed { OnOk result (NoneFailed (F.faults files.old) (F.faults files.new)) }
     ensures complete { (programs : ListOf Program) → AreKnownPrograms (F.content files.old) offers.now programs
         → MatchResult result (λ read. read.programs.items ≡ programs) (λ fault. IsShort fault.0) }
     ensures first { (line : Line) (file : ListOf ℕ) → KnownOfferFault offers.now (F.content files.old) line file
@@ -71,10 +73,10 @@ fn read_offer<F: Files>(
     read: &mut Offers,
 ) -> Result<(), FaultLine>
     ensures read { OnOk result (IsOneMore (F.content files.old offer.now.file) offer.now.lines read.old read.new) }
-    ensures fault { IfErr result (λ line. (line ≡ FaultLine.Memory)
-        ⊎ IsProgramFault (F.content files.old offer.now.file) (F.faults files.old) (F.faults files.new) line) }
+    ensures fault { IfErr result (λ line. OutOfMemory (F.faults files.old) (F.faults files.new) line
+        ⊎ IsProgramFault offer.now.file (F.content files.old offer.now.file) (F.faults files.old) (F.faults files.new) line) }
     ensures same { (other : ListOf ℕ) → F.content files.new other ≡ F.content files.old other }
-    ensures later { F.faults files.old ≤ F.faults files.new }
+    ensures none_failed { OnOk result (NoneFailed (F.faults files.old) (F.faults files.new)) }
     ensures complete { (program : Program) → IsKnownProgram (F.content files.old offer.now.file) program
         → MatchResult result (λ _. read.new.programs.items ≡ read.old.programs.items ++ program ∷ []) IsShort }
     ensures first { (line : Line) → KnownProgramFault (F.content files.old offer.now.file) line

@@ -8,14 +8,14 @@ ghost use Rattle.source_model.specs.Journals.{IsLegal};
 ghost use Rattle.accepted_runs.specs.AcceptedRuns.{TextsAreAccepted};
 ghost use Rattle.dsu_cli.specs.declared.job.Job.TheVariants.{Replay};
 ghost use Rattle.dsu_report.specs.declared.fault.FaultLine.{FaultLine as Line};
-ghost use Rattle.dsu_runs.specs.Rows.{AreRows};
+ghost use Rattle.effects.specs.Rows.{AreRows};
 ghost use Rattle.dsu_runs.specs.Replays.{events_of};
 ghost use Rattle.dsu_runs.specs.Setups.{setup_of};
-ghost use Rattle.input_files.specs.Journals.{HoldsEvents};
 ghost use Rattle.dsu_commands.specs.Answers.{Answers, IsDone, IsExcused};
 ghost use Rattle.dsu_commands.specs.Calls.{Stopped, call_of, output_of, run_call};
-ghost use Rattle.dsu_commands.specs.Jobs.{AreKnownPrograms, AreSources, IsKnownFault, IsKnownJournal, IsReady, JournalStops, KnownOfferFault, KnownReplayFault, OfferStops, lines_of};
+ghost use Rattle.dsu_commands.specs.Jobs.{AreKnownPrograms, IsKnownFault, IsKnownJournal, IsReady, KnownOfferFault, KnownReplayFault, lines_of};
 ghost use Rattle.dsu_commands.specs.Plans.{ByJournal};
+ghost use Rattle.dsu_commands.specs.Remaining.{ReplaysWith, RunsWith};
 ghost use Rattle.dsu_commands.specs.Runs.{Came};
 ghost use Rattle.dsu_commands.specs.Schedules.{Hands};
 ghost use Rattle.dsu_commands.specs.declared.outcome.InForce.{InForce as Installed};
@@ -70,23 +70,16 @@ fn replay_program<F: Files, O: Sink, E: Sink>(
 ) -> Outcome<O>
     requires few { length job.now.offers ≤ 63 }
     requires accepted { (text : ListOf ℕ) × Accepted text program }
-    ensures answers { ((lines : ListOf (ℕ × Made)) × HoldsEvents (F.content files.old job.now.journal) lines
-        × (texts : ListOf (ListOf ℕ)) × (programs : ListOf Program) × AreSources (F.content files.old) job.now.offers texts programs
-        × Came (ByJournal lines) (setup_of program programs (lines_of job.now.offers) job.now.objects) texts false job.now.journal
-        (call_of result (output_of O.told O.faults out result.out) (output_of E.told E.faults err.old err.new)))
-        ⊎ Stopped FaultLine.Memory [] (call_of result (output_of O.told O.faults out result.out) (output_of E.told E.faults err.old err.new))
-        ⊎ ((line : Line) × (file : ListOf ℕ)
-        × JournalStops job.now.journal job.now.offers (F.content files.old) (F.faults files.old) (F.faults files.new) line file
-        × Stopped line file (call_of result (output_of O.told O.faults out result.out) (output_of E.told E.faults err.old err.new))) }
+    ensures answers { ReplaysWith (F.content files.old) (F.faults files.old) (F.faults files.new) program job.now
+        (call_of result (output_of O.told O.faults out result.out) (output_of E.told E.faults err.old err.new)) }
     ensures complete { (lines : ListOf (ℕ × Made)) (programs : ListOf Program) → IsKnownJournal (F.content files.old job.now.journal) lines
         → AreKnownPrograms (F.content files.old) job.now.offers programs
-        → ((rules : Rules) → AreRows rules
+        → ((rules : Rules) → AreRows rules.row
         → IsLegal rules (setup_of program programs (lines_of job.now.offers) job.now.objects) (events_of lines))
         → IsDone result.status ⊎ IsExcused result.status }
     ensures first { (line : Line) (file : ListOf ℕ) → KnownReplayFault job.now.journal job.now.offers (F.content files.old) line file
         → IsExcused result.status ⊎ Stopped line file
         (call_of result (output_of O.told O.faults out result.out) (output_of E.told E.faults err.old err.new)) }
-    ensures later { F.faults files.old ≤ F.faults files.new }
 {
     let file = job.journal.as_str();
     match events_of(alloc, files, file) {
@@ -107,20 +100,16 @@ fn replay_with_offers<F: Files, O: Sink, E: Sink>(
 ) -> Outcome<O>
     requires few { length job.now.offers ≤ 63 }
     requires accepted { (text : ListOf ℕ) × Accepted text program }
-    ensures answers { ((texts : ListOf (ListOf ℕ)) × (programs : ListOf Program) × AreSources (F.content files.old) job.now.offers texts programs
-        × Came (ByJournal lines.now) (setup_of program programs (lines_of job.now.offers) job.now.objects) texts false job.now.journal
-        (call_of result (output_of O.told O.faults out result.out) (output_of E.told E.faults err.old err.new)))
-        ⊎ Stopped FaultLine.Memory [] (call_of result (output_of O.told O.faults out result.out) (output_of E.told E.faults err.old err.new))
-        ⊎ ((line : Line) × (file : ListOf ℕ) × OfferStops job.now.offers (F.content files.old) (F.faults files.old) (F.faults files.new) line file
-        × Stopped line file (call_of result (output_of O.told O.faults out result.out) (output_of E.told E.faults err.old err.new))) }
+    ensures answers { RunsWith (ByJournal lines.now) (F.content files.old) (F.faults files.old) (F.faults files.new) program
+        job.now.offers job.now.objects false job.now.journal
+        (call_of result (output_of O.told O.faults out result.out) (output_of E.told E.faults err.old err.new)) }
     ensures complete { (programs : ListOf Program) → AreKnownPrograms (F.content files.old) job.now.offers programs
-        → ((rules : Rules) → AreRows rules
+        → ((rules : Rules) → AreRows rules.row
         → IsLegal rules (setup_of program programs (lines_of job.now.offers) job.now.objects) (events_of lines.now))
         → IsDone result.status ⊎ IsExcused result.status }
     ensures first { (line : Line) (file : ListOf ℕ) → KnownOfferFault job.now.offers (F.content files.old) line file
         → IsExcused result.status ⊎ Stopped line file
         (call_of result (output_of O.told O.faults out result.out) (output_of E.told E.faults err.old err.new)) }
-    ensures later { F.faults files.old ≤ F.faults files.new }
 {
     rules_exist();
     texts_of_programs_are_accepted();

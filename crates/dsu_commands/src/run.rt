@@ -9,8 +9,9 @@ ghost use Rattle.dsu_report.specs.declared.fault.FaultLine.{FaultLine as Line};
 ghost use Rattle.dsu_runs.specs.Setups.{setup_of};
 ghost use Rattle.dsu_commands.specs.Answers.{Answers, IsDone, IsExcused};
 ghost use Rattle.dsu_commands.specs.Calls.{Stopped, call_of, output_of, run_call};
-ghost use Rattle.dsu_commands.specs.Jobs.{AreKnownPrograms, AreSources, IsKnownFault, IsReady, KnownOfferFault, OfferStops, lines_of};
+ghost use Rattle.dsu_commands.specs.Jobs.{AreKnownPrograms, IsKnownFault, IsReady, KnownOfferFault};
 ghost use Rattle.dsu_commands.specs.Plans.{BySchedule};
+ghost use Rattle.dsu_commands.specs.Remaining.{RunsWith};
 ghost use Rattle.dsu_commands.specs.Runs.{Came};
 ghost use Rattle.dsu_commands.specs.Schedules.{Hands};
 ghost use Rattle.dsu_commands.specs.declared.outcome.InForce.{InForce as Installed};
@@ -65,18 +66,14 @@ fn run_with_offers<F: Files, O: Sink, E: Sink>(
 ) -> Outcome<O>
     requires few { length job.now.offers ≤ 63 }
     requires accepted { (text : ListOf ℕ) × Accepted text program }
-    ensures answers { ((texts : ListOf (ListOf ℕ)) × (programs : ListOf Program) × AreSources (F.content files.old) job.now.offers texts programs
-        × Came (BySchedule job.now.moves) (setup_of program programs (lines_of job.now.offers) job.now.objects) texts job.now.journal []
-        (call_of result (output_of O.told O.faults out result.out) (output_of E.told E.faults err.old err.new)))
-        ⊎ Stopped FaultLine.Memory [] (call_of result (output_of O.told O.faults out result.out) (output_of E.told E.faults err.old err.new))
-        ⊎ ((line : Line) × (file : ListOf ℕ) × OfferStops job.now.offers (F.content files.old) (F.faults files.old) (F.faults files.new) line file
-        × Stopped line file (call_of result (output_of O.told O.faults out result.out) (output_of E.told E.faults err.old err.new))) }
+    ensures answers { RunsWith (BySchedule job.now.moves) (F.content files.old) (F.faults files.old) (F.faults files.new) program
+        job.now.offers job.now.objects job.now.journal []
+        (call_of result (output_of O.told O.faults out result.out) (output_of E.told E.faults err.old err.new)) }
     ensures complete { (programs : ListOf Program) → AreKnownPrograms (F.content files.old) job.now.offers programs
         → IsDone result.status ⊎ IsExcused result.status }
     ensures first { (line : Line) (file : ListOf ℕ) → KnownOfferFault job.now.offers (F.content files.old) line file
         → IsExcused result.status ⊎ Stopped line file
         (call_of result (output_of O.told O.faults out result.out) (output_of E.told E.faults err.old err.new)) }
-    ensures later { F.faults files.old ≤ F.faults files.new }
 {
     texts_of_programs_are_accepted();
     match offers_in(alloc, files, job.offers.as_slice()) {

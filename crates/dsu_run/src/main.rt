@@ -53,7 +53,7 @@ fn call(rt: &HostRuntime) -> u8 {
             return fault.status();
         }
     };
-    let mut files = StdFiles::new(rt);
+    let mut files = StdFiles::new(rt, rt.alloc());
     let out = StdSink::new(rt.stdout());
     dsu_main(rt.alloc(), &words, &mut files, out, &mut err).status
 }

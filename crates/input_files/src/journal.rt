@@ -1,5 +1,5 @@
 ghost use Rattle.std.specs.Prelude.{◌≡◌, ◌⊎◌, ◌≤◌, ℕ, List, length, IfOk, IfErr, IsErrOf, MatchResult, Some, Ok, Err};
-ghost use Rattle.dsu_io.specs.Causes.{Rose};
+ghost use Rattle.dsu_io.specs.Causes.{NoneFailed, ReadFailed};
 ghost use Rattle.bytecode.specs.declared.run.Event.{Event as Made};
 ghost use Rattle.dsu_journal.specs.Journals.{journal_in};
 ghost use Rattle.dsu_journal.specs.declared.fault.JournalFault.{JournalFault as Fault};
@@ -34,11 +34,11 @@ pub fn journal_of<F: Files>(
     file: &str,
 ) -> Result<Vec<(u32, Event)>, FaultLine>
     ensures read { IfOk result (λ events. HoldsEvents (F.content files.old file.now) events.items) }
-    ensures unread { IsErrOf result FaultLine.Unread → Rose (F.faults files.old) (F.faults files.new) }
+    ensures unread { IsErrOf result FaultLine.Unread → ReadFailed file.now (F.faults files.old) (F.faults files.new) }
+    ensures none_failed { (IsErrOf result FaultLine.Unread → ⊥) → NoneFailed (F.faults files.old) (F.faults files.new) }
     ensures too_long { IsErrOf result FaultLine.TooLong → Exceeds journal_limit (F.content files.old file.now) }
     ensures others { IfErr result (λ line. IsOfJournal (F.content files.old file.now) line) }
     ensures same { (other : List ℕ) → F.content files.new other ≡ F.content files.old other }
-    ensures later { F.faults files.old ≤ F.faults files.new }
     // The events of a known journal are read, if the file and memory don't fail.
     ensures complete { (text : List ℕ) (events : List (ℕ × Made)) → F.content files.old file.now ≡ Some text
         → length text ≤ journal_limit → journal_in text ≡ Ok events

@@ -1,5 +1,5 @@
 ghost use Rattle.std.specs.Prelude.{◌≡◌, ◌⊎◌, ◌≤◌, ℕ, List, length, IfOk, IfErr, IsErrOf, MatchResult, Some, Err};
-ghost use Rattle.dsu_io.specs.Causes.{Rose};
+ghost use Rattle.dsu_io.specs.Causes.{NoneFailed, ReadFailed};
 ghost use Rattle.c_tree.specs.declared.def.Program.{Program};
 ghost use Rattle.c_front.specs.declared.fault.FaultKind.{FaultKind};
 ghost use Rattle.c_front.specs.Accepted.{Accepted, FirstFault};
@@ -54,11 +54,11 @@ pub fn tree_of(alloc: Global, text: &[u8]) -> Result<Typed, FaultLine>
 /// Reads the file, and its text.
 pub fn source_of<F: Files>(alloc: Global, files: &mut F, file: &str) -> Result<Source, FaultLine>
     ensures read { IfOk result (λ source. IsSource (F.content files.old file.now) source.text.items source.typed) }
-    ensures unread { IsErrOf result FaultLine.Unread → Rose (F.faults files.old) (F.faults files.new) }
+    ensures unread { IsErrOf result FaultLine.Unread → ReadFailed file.now (F.faults files.old) (F.faults files.new) }
+    ensures none_failed { (IsErrOf result FaultLine.Unread → ⊥) → NoneFailed (F.faults files.old) (F.faults files.new) }
     ensures too_long { IsErrOf result FaultLine.TooLong → Exceeds text_limit (F.content files.old file.now) }
     ensures others { IfErr result (λ line. IsOfSource (F.content files.old file.now) line) }
     ensures same { (other : List ℕ) → F.content files.new other ≡ F.content files.old other }
-    ensures later { F.faults files.old ≤ F.faults files.new }
     // A text that is known and accepted is read, if the file and memory don't fail.
     ensures complete { (text : List ℕ) (program : Program) → F.content files.old file.now ≡ Some text → length text ≤ text_limit
         → Accepted text program → MatchResult result (λ source. source.typed ≡ program) IsShort }

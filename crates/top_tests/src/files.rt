@@ -50,7 +50,7 @@ static CASES: [Case; 7] = [
 fn files_of(alloc: Global, text: &[u8], failing: &[u64]) -> Result<MemoryFiles, AllocError> {
     let mut held = Vec::new(alloc);
     held.push((String::from_str(alloc, "x")?, text.to_vec(alloc)?))?;
-    Ok(MemoryFiles::of(held, failing.to_vec(alloc)?))
+    Ok(MemoryFiles::of(alloc, held, failing.to_vec(alloc)?))
 }
 
 /// Whether a source is `RIGHT` with its tree.

@@ -8,7 +8,7 @@ use Rattle.dsu_commands.proofs.changes_job.changes_files.Goals as goal
 pub returns-in-Ok-clause-answers : goal.returns-in-Ok-clause-answers
 returns-in-Ok-clause-answers g c =
     changes_answers c.args.old.now c.args.new.now (g.F.Files.content c.args.files.now) (g.F.Files.content c.program_of.new.files) _ _ _ _
-    c.in-Ok.program c.in-Ok.ensures.read c.in-Ok.ensures.same c.in-Ok.ensures.later c.changes_from.ensures.answers
+    c.in-Ok.program c.in-Ok.ensures.read c.in-Ok.ensures.same c.in-Ok.ensures.none_failed c.changes_from.ensures.answers
 
 pub returns-in-Ok-clause-complete : goal.returns-in-Ok-clause-complete
 returns-in-Ok-clause-complete g c = λ ready.

@@ -4,7 +4,7 @@ use Rattle.dsu_commands.proofs.changes_job.changes_from.Goals as goal
 
 pub returns-in-Ok-clause-answers : goal.returns-in-Ok-clause-answers
 returns-in-Ok-clause-answers g c =
-    changes_follow (g.F.Files.content c.args.files.now) _ _ c.args.program.now c.args.new.now _ _ _ c.in-Ok.ensures.read c.print_changes.ensures
+    changes_follow (g.F.Files.content c.args.files.now) _ _ c.args.program.now c.args.new.now _ _ _ c.in-Ok.ensures.read c.in-Ok.ensures.none_failed c.print_changes.ensures
 
 pub returns-in-Ok-clause-complete : goal.returns-in-Ok-clause-complete
 returns-in-Ok-clause-complete g c = λ next known. changes_done _ _ _ _ c.print_changes.ensures

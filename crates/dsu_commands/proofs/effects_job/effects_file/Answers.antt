@@ -5,7 +5,7 @@ use Rattle.dsu_commands.proofs.effects_job.effects_file.Goals as goal
 
 pub returns-in-Ok-clause-answers : goal.returns-in-Ok-clause-answers
 returns-in-Ok-clause-answers g c =
-    effects_answers c.args.file.now (g.F.Files.content c.args.files.now) _ _ _ _ _ c.in-Ok.ensures.read c.print_effects.ensures
+    effects_answers c.args.file.now (g.F.Files.content c.args.files.now) _ _ _ _ _ c.in-Ok.ensures.read c.in-Ok.ensures.none_failed c.print_effects.ensures
 
 pub returns-in-Ok-clause-complete : goal.returns-in-Ok-clause-complete
 returns-in-Ok-clause-complete g c = λ ready. effects_done _ _ _ c.print_effects.ensures

@@ -13,7 +13,7 @@ returns-in-Ok g c = λ setup.
       history_is = ap (λ h. h.items) done.ensures.history;
       versions =
           hands_back setup _ (Some c.args.ending) parts.result.1.items done.result.answers.items _ done.result.installed done.ensures.versions
-          (c.version-version.ensures setup) (parts.ensures.answered setup);
+          (c.version-version.ensures setup) (parts.ensures.named setup) (parts.ensures.answered setup);
       out = subst (λ o. Appends (g.O.Sink.told c.args.out) (g.O.Sink.told o) c.args.summary.now) (sym done.ensures.out) c.in-Ok.ensures.bytes;
       err = record { same = refl; quiet = refl };
     })

@@ -1,9 +1,9 @@
-use Rattle.std.proofs.Common.{◌∙◌, ℕ, List, ap, arith, inr, sym}
+use Rattle.std.proofs.Common.{◌∙◌, ap, arith, inr, sym}
 use Rattle.std.specs.Prelude.{◌≡◌, length}
 use Rattle.dsu_cli.specs.declared.job.Job.TheVariants.{Gen}
 use Rattle.dsu_commands.proofs.Answering.{answered, excused}
 use Rattle.dsu_commands.proofs.Generating.{told_stopped}
-use Rattle.dsu_commands.proofs.Summing.{gen_answers, gen_done}
+use Rattle.dsu_commands.proofs.Summing.{gen_answers, gen_done, no_file_failed}
 use Rattle.dsu_commands.proofs.gen_job.run_generated.Goals as goal
 
 pub run_offered-requires-clause-equal : goal.run_offered-requires-clause-equal
@@ -18,9 +18,9 @@ pub run_offered-requires-clause-accepted : goal.run_offered-requires-clause-acce
 run_offered-requires-clause-accepted g c = (c.in-Ok.ensures.program.text, c.in-Ok.ensures.program.accepted)
 
 pub returns-in-Ok-clause-answers : goal.returns-in-Ok-clause-answers
-returns-in-Ok-clause-answers g c = λ content counted count.
+returns-in-Ok-clause-answers g c = λ content faults.
     let offer = c.in-Ok.ensures.offer in
-    gen_answers c.args.seed c.args.size c.in-Ok.program offer.next _ content counted count c.in-Ok.ensures.program offer.known
+    gen_answers c.args.seed c.args.size c.in-Ok.program offer.next _ content faults c.in-Ok.ensures.program offer.known
     (c.run_offered.ensures offer.next offer.programs)
 
 pub returns-in-Ok-clause-complete : goal.returns-in-Ok-clause-complete
@@ -32,8 +32,9 @@ pub returns-in-Ok-clause-first : goal.returns-in-Ok-clause-first
 returns-in-Ok-clause-first g c = λ content line file fault. absurd (c.in-Ok.ensures.first line file fault)
 
 pub returns-in-Err-clause-answers : goal.returns-in-Err-clause-answers
-returns-in-Err-clause-answers g c = λ content counted count.
-    answered (Gen c.args.seed c.args.size) content counted count _ c.in-Err.line c.in-Err.file.now c.stop.ensures c.in-Err.ensures.fault
+returns-in-Err-clause-answers g c = λ content faults.
+    answered (Gen c.args.seed c.args.size) content faults faults _ c.in-Err.line c.in-Err.file.now c.stop.ensures
+    (no_file_failed faults c.in-Err.line c.in-Err.ensures.fault)
 
 pub returns-in-Err-clause-complete : goal.returns-in-Err-clause-complete
 returns-in-Err-clause-complete g c = λ content ready.

@@ -4,7 +4,7 @@ use Rattle.c_tree.specs.declared.def.Program.{Program}
 use Rattle.accepted_runs.specs.AcceptedRuns.{TextsAreAccepted}
 use Rattle.program_gen.specs.Generated.{offer_text}
 use Rattle.dsu_runs.specs.Setups.{setup_of}
-use Rattle.source_model.specs.Guards.{Setup, first_guard}
+use Rattle.source_model.specs.Guards.{first_guard}
 use Rattle.plain_engine.specs.Plain.{IsAt}
 use Rattle.dsu_commands.specs.Generated.{generated_setup}
 use Rattle.dsu_commands.proofs.Summing.{only_offer_is_accepted}

@@ -1,9 +1,9 @@
 use Rattle.std.proofs.Common.{◌∙◌, List, ℕ, Some, subst, sym}
-use Rattle.std.specs.Prelude.{◌≡◌, ◌⊎◌, ◌/◌, IfErr, IfOk, MatchResult}
+use Rattle.std.specs.Prelude.{◌≡◌, ◌⊎◌, ◌/◌, IfErr, IfOk}
 use Rattle.dsu_report.specs.declared.fault.FaultLine.TheVariants.{Memory}
 use Rattle.program_gen.specs.Generated.{program_text, offer_text}
 use Rattle.dsu_commands.specs.Jobs.{GeneratedFault, IsKnownProgram}
-use Rattle.dsu_commands.specs.Offers.{IsOnlyOffer, IsToldAt}
+use Rattle.dsu_commands.specs.Offers.{IsOnlyOffer}
 use Rattle.dsu_commands.proofs.generated.generated.Goals as goal
 
 pub returns-in-Ok-clause-program : goal.returns-in-Ok-clause-program

@@ -1,4 +1,4 @@
-use Rattle.std.proofs.Common.{List, ℕ, Some, codes, subst, sym}
+use Rattle.std.proofs.Common.{Some, subst, sym}
 use Rattle.std.specs.Prelude.{MatchResult}
 use Rattle.c_tree.specs.declared.def.Program.{Program}
 use Rattle.dsu_commands.specs.Jobs.{IsKnownProgram}

@@ -29,4 +29,4 @@ returns-in-Ok g c =
     (run_call ran.result.1 ran.result.0 done.result.answers.items done.result.installed run_out err))
     c.deref.ensures.value (ran.ensures setup c.requires.accepted c.in-Ok.ensures.start done.result.answers.items done.result.installed
     (hands_back setup _ ran.result.1.ending parts.result.1.items done.result.answers.items _ done.result.installed done.ensures.versions
-    (c.version-version.ensures setup) (parts.ensures.answered setup))))))
+    (c.version-version.ensures setup) (parts.ensures.named setup) (parts.ensures.answered setup))))))

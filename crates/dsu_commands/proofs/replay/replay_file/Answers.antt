@@ -18,7 +18,7 @@ returns-in-Ok-clause-answers g c =
     let content = g.F.Files.content c.args.files.now in
     replay_answers c.args.job.now content (g.F.Files.content c.program_of.new.files) _ _ _ _ c.in-Ok.program
     (subst (λ f. HoldsProgram (content f) c.in-Ok.program) c.as_str-file.ensures c.in-Ok.ensures.read)
-    c.in-Ok.ensures.same c.in-Ok.ensures.later c.replay_program.ensures.answers
+    c.in-Ok.ensures.same c.in-Ok.ensures.none_failed c.replay_program.ensures.answers
 
 pub returns-in-Ok-clause-complete : goal.returns-in-Ok-clause-complete
 returns-in-Ok-clause-complete g c = λ (program, known, lines, journal, programs, all, legal).

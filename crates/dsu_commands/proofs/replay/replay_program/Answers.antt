@@ -15,7 +15,7 @@ returns-in-Ok-clause-answers g c =
     journal_runs c.args.job.now content (g.F.Files.content c.events_of.new.files) _ _ _ _ c.args.program c.deref.result.now
     (subst {A = List (ℕ × Event)} (HoldsEvents (content c.args.job.now.journal)) (sym c.deref.ensures.value)
     (subst (λ f. HoldsEvents (content f) c.in-Ok.lines.items) c.as_str-file.ensures c.in-Ok.ensures.read))
-    c.in-Ok.ensures.same c.in-Ok.ensures.later c.replay_with_offers.ensures.answers
+    c.in-Ok.ensures.same c.in-Ok.ensures.none_failed c.replay_with_offers.ensures.answers
 
 pub returns-in-Ok-clause-complete : goal.returns-in-Ok-clause-complete
 returns-in-Ok-clause-complete g c = λ lines programs known all legal.

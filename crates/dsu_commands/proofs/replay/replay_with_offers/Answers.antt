@@ -1,8 +1,8 @@
-use Rattle.std.proofs.Common.{◌≡◌, ◌⊎◌, ◌∙◌, List, false, ap, inr, subst, sym}
+use Rattle.std.proofs.Common.{◌⊎◌, ◌∙◌, List, false, ap, inr, subst, sym}
 use Rattle.dsu_cli.specs.declared.job.Offer.{Offer}
-use Rattle.dsu_report.specs.declared.fault.FaultLine.TheVariants.{Memory}
 use Rattle.dsu_commands.specs.Jobs.{AreKnownPrograms, AreSources, KnownOfferFault, OfferStops, lines_of}
 use Rattle.dsu_commands.specs.Plans.{ByJournal}
+use Rattle.dsu_commands.specs.Remaining.{OutOfMemory}
 use Rattle.dsu_commands.proofs.Accepting.{texts_are_accepted}
 use Rattle.dsu_commands.proofs.Answering.{excused, first_stopped_at, offers_run, offers_stop}
 use Rattle.dsu_commands.proofs.Outcomes.{replayed_done}
@@ -22,7 +22,7 @@ returns-in-Ok-clause-answers g c =
     offers_run (ByJournal c.args.lines.now) content _ _ c.args.program job.offers job.objects false job.journal _
     offers.texts.items offers.programs.items offers.lines.items
     (subst {A = List Offer} (λ os. AreSources content os offers.texts.items offers.programs.items) c.as_slice.ensures c.in-Ok.ensures.read)
-    (c.in-Ok.ensures.lines ∙ ap lines_of c.as_slice.ensures) c.replay_events.ensures
+    (c.in-Ok.ensures.lines ∙ ap lines_of c.as_slice.ensures) c.in-Ok.ensures.none_failed c.replay_events.ensures
 
 pub returns-in-Ok-clause-complete : goal.returns-in-Ok-clause-complete
 returns-in-Ok-clause-complete g c = λ programs known legal.
@@ -38,11 +38,11 @@ pub returns-in-Err-clause-answers : goal.returns-in-Err-clause-answers
 returns-in-Err-clause-answers g c =
     let job = c.args.job.now in
     let content = g.F.Files.content c.args.files.now in
-    let counted = g.F.Files.faults c.args.files.now in
-    let count = g.F.Files.faults c.offers_in.new.files in
-    offers_stop (ByJournal c.args.lines.now) content counted count c.args.program job.offers job.objects false job.journal _ c.in-Err.line
+    let before = g.F.Files.faults c.args.files.now in
+    let now = g.F.Files.faults c.offers_in.new.files in
+    offers_stop (ByJournal c.args.lines.now) content before now c.args.program job.offers job.objects false job.journal _ c.in-Err.line
     c.in-Err.file.now c.stop.ensures
-    (subst {A = List Offer} (λ os. (c.in-Err.line ≡ Memory) ⊎ OfferStops os content counted count c.in-Err.line c.in-Err.file.now)
+    (subst {A = List Offer} (λ os. OutOfMemory before now c.in-Err.line ⊎ OfferStops os content before now c.in-Err.line c.in-Err.file.now)
     c.as_slice.ensures c.in-Err.ensures.fault)
 
 pub returns-in-Err-clause-complete : goal.returns-in-Err-clause-complete

@@ -1,6 +1,6 @@
 use Rattle.std.proofs.lemmas.Result.{err_from_is_err_and}
 use Rattle.source_model.specs.Journals.{answers}
-use Rattle.dsu_journal.proofs.Pages.{AppendsFront-first, PutAppends-then}
+use Rattle.dsu_journal.proofs.Pieces.{AppendsFront-first, PutAppends-then}
 use Rattle.dsu_report.specs.Answers.{answers_text}
 use Rattle.dsu_commands.specs.Reports.{ending_text}
 use Rattle.dsu_commands.proofs.Printing.{answers_front, answers_whole}

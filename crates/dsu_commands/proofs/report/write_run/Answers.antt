@@ -1,7 +1,7 @@
 use Rattle.std.proofs.lemmas.Result.{err_from_is_err_and}
 use Rattle.source_model.specs.Journals.{answers}
 use Rattle.dsu_journal.specs.Journals.{journal_text}
-use Rattle.dsu_journal.proofs.Pages.{AppendsFront-first, PutAppends-then}
+use Rattle.dsu_journal.proofs.Pieces.{AppendsFront-first, PutAppends-then}
 use Rattle.dsu_commands.proofs.Printing.{result_text, with_journal}
 use Rattle.dsu_commands.proofs.report.write_run.Goals as goal
 

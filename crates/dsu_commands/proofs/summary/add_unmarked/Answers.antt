@@ -1,5 +1,5 @@
-use Rattle.std.proofs.Common.{◌≤◌, ◌<◌, arith, length, refl}
-use Rattle.dsu_commands.proofs.Unmarking.{unmarked_all, unmarked_more}
+use Rattle.std.proofs.Common.{arith, refl}
+use Rattle.dsu_commands.proofs.Unmarking.{unmarked_all}
 use Rattle.dsu_commands.proofs.summary.add_unmarked.Goals as goal
 
 pub loop-byte-init : goal.loop-byte-init

@@ -27,7 +27,7 @@ returns-in-Ok-Changes-clause-first g c = λ asked line file is fault.
 pub returns-in-Ok-Gen-clause-answers : goal.returns-in-Ok-Gen-clause-answers
 returns-in-Ok-Gen-clause-answers g c = λ asked is.
     let job = c.in-Ok-Gen in
-    answers_asked asked _ _ _ _ _ (same_Some asked job.field-0 (sym is ∙ job.ensures.job) ∙ job.field-0-is) c.run_generated.ensures.answers
+    answers_asked asked _ _ _ _ (same_Some asked job.field-0 (sym is ∙ job.ensures.job) ∙ job.field-0-is) c.run_generated.ensures.answers
 
 pub returns-in-Ok-Gen-clause-complete : goal.returns-in-Ok-Gen-clause-complete
 returns-in-Ok-Gen-clause-complete g c = λ asked is ready.
