@@ -30,7 +30,7 @@ pub(crate) fn words_of(alloc: Global, line: &str) -> Result<Vec<Text>, AllocErro
 
 /// Makes a call over the files of a stage.
 pub(crate) fn see(alloc: Global, words: &[Text], stage: &Stage) -> Result<Seen, AllocError> {
-    let mut files = stage.disk()?;
+    let mut files = stage.disk(alloc)?;
     let out = stage.output(alloc)?;
     let mut err = stage.errors(alloc)?;
     let outcome = call(alloc, words, &mut files, out, &mut err);

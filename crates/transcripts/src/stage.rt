@@ -126,9 +126,9 @@ impl Stage {
     }
 
     /// The files of the next call.
-    pub(crate) fn disk(&self) -> Result<MemoryFiles, AllocError> {
+    pub(crate) fn disk(&self, alloc: Global) -> Result<MemoryFiles, AllocError> {
         let files = self.files.clone()?;
-        Ok(MemoryFiles::of(files, self.reads.clone()?))
+        Ok(MemoryFiles::of(alloc, files, self.reads.clone()?))
     }
 
     /// Standard output of the next call.
