@@ -1,0 +1,2 @@
+pub mod EqualParts
+pub mod DefinitionLaws
