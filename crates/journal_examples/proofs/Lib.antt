@@ -1,0 +1,6 @@
+pub mod Straight
+pub mod RowTests
+pub mod PinnedRows
+pub mod RowsInForce
+pub mod PinnedPlay
+mod PinnedSchedule

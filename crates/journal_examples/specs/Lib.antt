@@ -1,0 +1,2 @@
+pub mod PinnedTexts
+pub mod PinnedRun
