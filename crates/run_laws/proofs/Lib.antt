@@ -1,0 +1,2 @@
+pub mod Deterministic
+pub mod Repeated
