@@ -1,0 +1,5 @@
+pub mod ValueTypes
+pub mod ExpressionTypes
+pub mod StatementTypes
+pub mod PieceTypes
+pub mod TypeLaws
