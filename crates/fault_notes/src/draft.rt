@@ -1,0 +1,78 @@
+//! A message that is put together.
+use itoa::Buffer;
+use std::alloc::{AllocError, Global};
+
+/// A message: pieces of text, one after the other.
+#[derive(Drop)]
+pub(crate) struct Draft {
+    alloc: Global,
+    text: Vec<u8>,
+}
+
+/// Of a word of a text a message shows at most so many bytes.
+const MOST_SHOWN: usize = 40;
+
+impl Draft {
+    pub(crate) fn new(alloc: Global) -> Draft {
+        Draft {
+            alloc,
+            text: Vec::new(alloc),
+        }
+    }
+
+    /// What its memory comes from.
+    pub(crate) fn alloc(&self) -> Global {
+        self.alloc
+    }
+
+    /// The message of one piece.
+    pub(crate) fn of(alloc: Global, text: &str) -> Result<Draft, AllocError> {
+        let mut draft = Draft::new(alloc);
+        draft.say(text)?;
+        Ok(draft)
+    }
+
+    /// Adds a text.
+    pub(crate) fn say(&mut self, text: &str) -> Result<(), AllocError> {
+        self.text.extend_from_slice(text.as_bytes())
+    }
+
+    /// Adds a number.
+    pub(crate) fn number(&mut self, number: usize) -> Result<(), AllocError> {
+        let mut digits = Buffer::new();
+        self.say(digits.format(number))
+    }
+
+    /// Adds a number of things, whose name is that of one of them.
+    pub(crate) fn count(&mut self, number: usize, one: &str) -> Result<(), AllocError> {
+        self.number(number)?;
+        self.say(" ")?;
+        self.say(one)?;
+        if number != 1 {
+            self.say("s")?;
+        }
+        Ok(())
+    }
+
+    /// Adds a word of a text between quotes; of a long one the first bytes.
+    pub(crate) fn word(&mut self, word: &str) -> Result<(), AllocError> {
+        let bytes = word.as_bytes();
+        self.say("'")?;
+        if bytes.len() <= MOST_SHOWN {
+            self.text.extend_from_slice(bytes)?;
+        } else {
+            self.text.extend_from_slice(&bytes[..MOST_SHOWN])?;
+            self.say("..")?;
+        }
+        self.say("'")
+    }
+
+    /// Adds a printable byte between quotes.
+    pub(crate) fn byte(&mut self, byte: u8) -> Result<(), AllocError> {
+        self.text.extend_from_slice(&[b'\'', byte, b'\''])
+    }
+
+    pub(crate) fn as_slice(&self) -> &[u8] {
+        self.text.as_slice()
+    }
+}

@@ -1,0 +1,56 @@
+//! Lines after a mark.
+ghost use Rattle.std.specs.Prelude.{◌≡◌, ◌++◌, OnOk, codes, map};
+ghost use Rattle.dsu_io.specs.Sinks.{joined};
+ghost use Rattle.fault_notes.specs.Notes.{AreNotes, LinesEnd, is_control, note_line, shown};
+
+use std::alloc::AllocError;
+
+/// Adds a line that has the pieces one after the other, after a mark. A byte that controls a terminal is shown as `?`.
+pub fn add_line(text: &mut Vec<u8>, mark: &[u8], pieces: &[&[u8]]) -> Result<(), AllocError>
+    ensures line { OnOk result (text.new.items ≡ text.old.items ++ note_line mark.now (joined pieces.now)) }
+    ensures notes { AreNotes mark.now text.old.items → OnOk result (AreNotes mark.now text.new.items) }
+{
+    text.extend_from_slice(mark)?;
+    add_shown(text, pieces)?;
+    text.push(b'\n')?;
+    Ok(())
+}
+
+/// Adds the bytes of the pieces as a line shows them.
+fn add_shown(text: &mut Vec<u8>, pieces: &[&[u8]]) -> Result<(), AllocError>
+    ensures { OnOk result (text.new.items ≡ text.old.items ++ map shown (joined pieces.now)) }
+{
+    for piece in pieces {
+        add_piece(text, piece)?;
+    }
+    Ok(())
+}
+
+/// Adds the bytes of one piece.
+fn add_piece(text: &mut Vec<u8>, piece: &[u8]) -> Result<(), AllocError>
+    ensures { OnOk result (text.new.items ≡ text.old.items ++ map shown piece.now) }
+{
+    for byte in piece {
+        text.push(shown(*byte))?;
+    }
+    Ok(())
+}
+
+/// A byte as a line shows it.
+fn shown(byte: u8) -> u8
+    ensures { result ≡ shown byte }
+{
+    if is_control(byte) { b'?' } else { byte }
+}
+
+/// Whether a byte controls a terminal. The tab doesn't.
+fn is_control(byte: u8) -> bool
+    ensures { result ≡ is_control byte }
+{
+    (byte < 32 && byte != 9) || byte == 127
+}
+
+/// A line of a note has no newline but its last byte.
+pub fn lines_end()
+    ensures { LinesEnd }
+{}
