@@ -45,6 +45,7 @@ option_tested command.Replay Objects v e = sym (or-false _) ∙ e
 option_tested command.Check s v e = absurd (true≢false (sym e))
 option_tested command.Effects s v e = absurd (true≢false (sym e))
 option_tested command.Changes s v e = absurd (true≢false (sym e))
+option_tested command.Admits s v e = absurd (true≢false (sym e))
 option_tested command.Gen s v e = absurd (true≢false (sym e))
 
 switch_known : (c : Command) (name : Text) → item_fits (line c) (switch name) ≡ true → bytes_eq name (codes "journal") ≡ true
@@ -53,6 +54,7 @@ switch_known command.Replay name e = absurd (true≢false (sym e))
 switch_known command.Check name e = absurd (true≢false (sym e))
 switch_known command.Effects name e = absurd (true≢false (sym e))
 switch_known command.Changes name e = absurd (true≢false (sym e))
+switch_known command.Admits name e = absurd (true≢false (sym e))
 switch_known command.Gen name e = absurd (true≢false (sym e))
 
 option_known : (c : Command) (name v : Text) → item_fits (line c) (option name v) ≡ true → is_known (option name v) ≡ true
@@ -74,6 +76,7 @@ tests_strict command.Replay = ((λ word is. is), ((λ word is. is), tt))
 tests_strict command.Check = ((λ word is. is), tt)
 tests_strict command.Effects = ((λ word is. is), tt)
 tests_strict command.Changes = ((λ word is. is), ((λ word is. is), tt))
+tests_strict command.Admits = ((λ word is. is), ((λ word is. is), tt))
 tests_strict command.Gen = (number_is_value 19 0 9223372036854775807, (number_is_value 7 1 200, tt))
 
 known_all : (c : Command) (its : List Item) (tests : List (Text → Bool)) → Strict tests → list_all (item_fits (line c)) its ≡ true

@@ -113,4 +113,5 @@ unknown_option command.Replay name value none =
 unknown_option command.Check name value none = refl
 unknown_option command.Effects name value none = refl
 unknown_option command.Changes name value none = refl
+unknown_option command.Admits name value none = refl
 unknown_option command.Gen name value none = refl

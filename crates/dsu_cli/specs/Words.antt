@@ -5,7 +5,7 @@ use Rattle.std.specs.Option.{option_map_or}
 use Rattle.std.specs.Str.{bytes_eq, all_ascii_digits}
 use Rattle.std.specs.Str.Parse.{digits_value}
 use Rattle.dsu_cli.specs.declared.job.Job.{Job}
-use Rattle.dsu_cli.specs.declared.job.Job.TheVariants.{Run, Replay, Check, Effects, Changes, Gen}
+use Rattle.dsu_cli.specs.declared.job.Job.TheVariants.{Run, Replay, Check, Effects, Changes, Admits, Gen}
 use Rattle.dsu_cli.specs.declared.job.Offer.{Offer}
 use Rattle.dsu_cli.specs.declared.command.Command.{Command}
 use Rattle.dsu_cli.specs.declared.command.Command.TheVariants as command
@@ -136,6 +136,8 @@ line command.Check = record { positionals = is_value ∷ []; options = []; switc
 line command.Effects = record { positionals = is_value ∷ []; options = []; switches = [] }
 -- changes OLD NEW
 line command.Changes = record { positionals = is_value ∷ is_value ∷ []; options = []; switches = [] }
+-- admits OLD NEW
+line command.Admits = record { positionals = is_value ∷ is_value ∷ []; options = []; switches = [] }
 -- gen SEED SIZE
 line command.Gen = record { positionals = is_seed ∷ is_size ∷ []; options = []; switches = [] }
 
@@ -192,6 +194,7 @@ job command.Replay items (file ∷ journal ∷ []) = Some (Replay (record {
 job command.Check items (file ∷ []) = Some (Check file)
 job command.Effects items (file ∷ []) = Some (Effects file)
 job command.Changes items (old ∷ new ∷ []) = Some (Changes old new)
+job command.Admits items (old ∷ new ∷ []) = Some (Admits old new)
 job command.Gen items (seed ∷ size ∷ []) = Some (Gen (digits_value 10 seed) (digits_value 10 size))
 job _ items _ = None
 
@@ -203,6 +206,7 @@ command_of name =
     else if bytes_eq name (codes "check") then Some command.Check
     else if bytes_eq name (codes "effects") then Some command.Effects
     else if bytes_eq name (codes "changes") then Some command.Changes
+    else if bytes_eq name (codes "admits") then Some command.Admits
     else if bytes_eq name (codes "gen") then Some command.Gen
     else None
 

@@ -22,6 +22,7 @@ pub enum Command {
     Check,
     Effects,
     Changes,
+    Admits,
     Gen,
 }
 
@@ -36,6 +37,7 @@ impl Command {
             "check" => Some(Command::Check),
             "effects" => Some(Command::Effects),
             "changes" => Some(Command::Changes),
+            "admits" => Some(Command::Admits),
             "gen" => Some(Command::Gen),
             _ => None,
         }
@@ -65,7 +67,7 @@ impl Command {
     {
         match (self, at) {
             (Command::Run | Command::Check | Command::Effects, 0) => is_value(word),
-            (Command::Replay | Command::Changes, 0 | 1) => is_value(word),
+            (Command::Replay | Command::Changes | Command::Admits, 0 | 1) => is_value(word),
             (Command::Gen, 0) => is_number(word, SEED_DIGITS, 0, MOST_SEED),
             (Command::Gen, 1) => is_number(word, DIGITS, 1, MOST_SIZE),
             _ => false,
@@ -78,7 +80,7 @@ impl Command {
     {
         match self {
             Command::Run | Command::Check | Command::Effects => 1,
-            Command::Replay | Command::Changes | Command::Gen => 2,
+            Command::Replay | Command::Changes | Command::Admits | Command::Gen => 2,
         }
     }
 }

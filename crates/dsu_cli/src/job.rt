@@ -46,6 +46,8 @@ pub enum Job {
     Effects(Text),
     /// The old file and the new one.
     Changes(Text, Text),
+    /// The text of a run, and the one that it could take.
+    Admits(Text, Text),
     /// The seed and the size of a made-up program.
     Gen(u64, u32),
 }

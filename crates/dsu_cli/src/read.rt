@@ -77,6 +77,7 @@ fn job(alloc: Global, command: Command, matches: &ArgMatches<'_>) -> Result<Job,
         Command::Check => Ok(Job::Check(file(alloc, matches, 0)?)),
         Command::Effects => Ok(Job::Effects(file(alloc, matches, 0)?)),
         Command::Changes => Ok(Job::Changes(file(alloc, matches, 0)?, file(alloc, matches, 1)?)),
+        Command::Admits => Ok(Job::Admits(file(alloc, matches, 0)?, file(alloc, matches, 1)?)),
         Command::Gen => {
             let seed = known_number(positional(matches, 0), SEED_DIGITS, 0, MOST_SEED);
             let size = known_number(positional(matches, 1), DIGITS, 1, MOST_SIZE);
