@@ -57,7 +57,7 @@ journal_fault name content before now line failed none longer wrong =
     file_fault name before now line (Exceeds journal_limit content) (IsNoJournal content line) failed none longer
     (λ other unread. no_journal_is_read other.fault (sym other.line_is ∙ unread)) wrong
 
--- a text that was read of a file whose text is known is that text, so it isn't too longer
+-- a text that was read of a file whose text is known is that text, so it isn't too long
 too_long : (content : Option (List ℕ)) (known read : List ℕ) (limit : ℕ) → content ≡ Some known → limit < length known
     → IsContent content read → length read ≤ limit → ⊥
 too_long content known read limit is more at fits =

@@ -5,13 +5,14 @@ use Rattle.bytecode.specs.declared.run.Event.{Event}
 use Rattle.c_tree.specs.declared.def.Program.{Program}
 use Rattle.c_types.specs.Definitions.{names_of}
 use Rattle.dsu_cli.specs.declared.job.Job.{Job}
-use Rattle.dsu_cli.specs.declared.job.Job.TheVariants.{Run, Replay, Check, Effects, Changes, Gen}
+use Rattle.dsu_cli.specs.declared.job.Job.TheVariants.{Run, Replay, Check, Effects, Changes, Admits, Gen}
 use Rattle.dsu_report.specs.declared.fault.FaultLine.{FaultLine}
 use Rattle.dsu_report.specs.declared.fault.FaultLine.TheVariants.{Write, Memory}
 use Rattle.dsu_report.specs.Faults.{fault_line}
 use Rattle.dsu_runs.specs.Setups.{setup_of}
 use Rattle.effects_report.specs.EffectsText.{IsEffectsText}
 use Rattle.changes_report.specs.ChangesText.{changes_text}
+use Rattle.admits_report.specs.AdmitsText.{IsAdmitsText}
 use Rattle.program_gen.specs.Generated.{program_text, offer_text}
 use Rattle.input_files.specs.Sources.{HoldsProgram, IsSource}
 use Rattle.input_files.specs.Journals.{HoldsEvents}
@@ -74,6 +75,26 @@ pub record ChangesFailed (program next : Program) (text : List ℕ) (call : Call
   pub out : ShowsPrefix call.out (changes_text program.definitions next.definitions text)
   pub err : Writes call.err (fault_line Write [])
 
+-- a text of where a run of one program could take another was printed, for the texts of both
+pub record AdmitsShown (program : Program) (text : List ℕ) (next : Program) (newer : List ℕ) (call : Call) : Type 0 where
+  pub status : call.status ≡ 0
+  pub history : call.history ≡ []
+  pub no_end : NoEnd call
+  pub printed : List ℕ
+  pub is_text : IsAdmitsText program text next newer printed
+  pub out : Shows call.out printed
+  pub err : Untouched call.err
+
+-- it couldn't be printed whole
+pub record AdmitsFailed (program : Program) (text : List ℕ) (next : Program) (newer : List ℕ) (call : Call) : Type 0 where
+  pub status : call.status ≡ 13
+  pub history : call.history ≡ []
+  pub no_end : NoEnd call
+  pub printed : List ℕ
+  pub is_text : IsAdmitsText program text next newer printed
+  pub out : ShowsPrefix call.out printed
+  pub err : Writes call.err (fault_line Write [])
+
 -- what a job came to whose files have no fault
 abbrev pub Does : Job → Contents → Call → Type 0
 Does (Run job) content call =
@@ -95,6 +116,10 @@ Does (Changes old new) content call =
     (program : Program) × HoldsProgram (content old) program
     × (text : List ℕ) × (next : Program) × IsSource (content new) text next
     × (ChangesShown program next text call ⊎ ChangesFailed program next text call)
+Does (Admits old new) content call =
+    (text : List ℕ) × (program : Program) × IsSource (content old) text program
+    × (newer : List ℕ) × (next : Program) × IsSource (content new) newer next
+    × (AdmitsShown program text next newer call ⊎ AdmitsFailed program text next newer call)
 Does (Gen seed size) content call =
     (program : Program) × IsKnownProgram (Some (program_text seed size)) program
     × (next : Program) × IsKnownProgram (Some (offer_text seed size)) next

@@ -10,7 +10,7 @@ use Rattle.source_model.specs.Journals.{IsLegal}
 use Rattle.dsu_journal.specs.Journals.{journal_in}
 use Rattle.dsu_journal.specs.declared.fault.JournalFault.{JournalFault}
 use Rattle.dsu_cli.specs.declared.job.Job.{Job}
-use Rattle.dsu_cli.specs.declared.job.Job.TheVariants.{Run, Replay, Check, Effects, Changes, Gen}
+use Rattle.dsu_cli.specs.declared.job.Job.TheVariants.{Run, Replay, Check, Effects, Changes, Admits, Gen}
 use Rattle.dsu_cli.specs.declared.job.Offer.{Offer}
 use Rattle.dsu_report.specs.declared.fault.FaultLine.{FaultLine}
 use Rattle.dsu_report.specs.declared.fault.FaultLine.TheVariants.{Unread, TooLong}
@@ -33,6 +33,7 @@ is_built (Replay job) = true
 is_built (Check file) = true
 is_built (Effects file) = true
 is_built (Changes old new) = true
+is_built (Admits old new) = true
 is_built (Gen seed size) = true
 
 -- ---- offers
@@ -102,6 +103,12 @@ JournalStops journal offers content before now line file =
     ((file ≡ journal) × IsJournalFault journal (content journal) before now line)
     ⊎ ((lines : List (ℕ × Event)) × HoldsEvents (content journal) lines × OfferStops offers content before now line file)
 
+-- the file of an older text has a fault, or that of a newer one, which is read after it
+abbrev pub PairStops : List ℕ → List ℕ → Contents → FailedReads → FailedReads → FaultLine → List ℕ → Type 0
+PairStops old new content before now line file =
+    ProgramStops old content before now line file
+    ⊎ ((program : Program) × HoldsProgram (content old) program × ProgramStops new content before now line file)
+
 -- the first file of a job with a fault, and that fault; a journal is read after its program, offers after both, in the order
 -- of the words, and a newer text after the older one; generated texts are read in the place of files
 abbrev pub FileStops : Job → Contents → FailedReads → FailedReads → FaultLine → List ℕ → Type 0
@@ -114,9 +121,8 @@ FileStops (Replay job) content before now line file =
     × JournalStops job.journal job.offers content before now line file)
 FileStops (Check named) content before now line file = ProgramStops named content before now line file
 FileStops (Effects named) content before now line file = ProgramStops named content before now line file
-FileStops (Changes old new) content before now line file =
-    ProgramStops old content before now line file
-    ⊎ ((program : Program) × HoldsProgram (content old) program × ProgramStops new content before now line file)
+FileStops (Changes old new) content before now line file = PairStops old new content before now line file
+FileStops (Admits old new) content before now line file = PairStops old new content before now line file
 FileStops (Gen seed size) content before now line file =
     NoneFailed before now × GeneratedFault (program_text seed size) (offer_text seed size) line file
 
@@ -136,6 +142,11 @@ AreKnownPrograms content (o ∷ offers) (program ∷ programs) =
     IsKnownProgram (content o.file) program × AreKnownPrograms content offers programs
 AreKnownPrograms content _ _ = ⊥
 
+-- the known texts of two files are accepted
+abbrev pub IsReadyPair : List ℕ → List ℕ → Contents → Type 0
+IsReadyPair old new content =
+    ((program : Program) × IsKnownProgram (content old) program) × ((next : Program) × IsKnownProgram (content new) next)
+
 -- the files of a job, or its generated texts, are known and have no fault, and each event of its journal can happen when it
 -- comes
 abbrev pub IsReady : Job → Contents → Type 0
@@ -150,8 +161,8 @@ IsReady (Replay job) content =
     → IsLegal rules (setup_of program programs (lines_of job.offers) job.objects) (events_of lines))
 IsReady (Check file) content = (program : Program) × IsKnownProgram (content file) program
 IsReady (Effects file) content = (program : Program) × IsKnownProgram (content file) program
-IsReady (Changes old new) content =
-    ((program : Program) × IsKnownProgram (content old) program) × ((next : Program) × IsKnownProgram (content new) next)
+IsReady (Changes old new) content = IsReadyPair old new content
+IsReady (Admits old new) content = IsReadyPair old new content
 IsReady (Gen seed size) content =
     ((program : Program) × IsKnownProgram (Some (program_text seed size)) program)
     × ((next : Program) × IsKnownProgram (Some (offer_text seed size)) next)
@@ -175,6 +186,12 @@ KnownReplayFault journal offers content line file =
     ((file ≡ journal) × KnownJournalFault (content journal) line)
     ⊎ ((lines : List (ℕ × Event)) × IsKnownJournal (content journal) lines × KnownOfferFault offers content line file)
 
+-- the first fault of two known files, the older text before the newer one
+abbrev pub KnownPairFault : List ℕ → List ℕ → Contents → FaultLine → List ℕ → Type 0
+KnownPairFault old new content line file =
+    ((file ≡ old) × KnownProgramFault (content old) line)
+    ⊎ ((program : Program) × IsKnownProgram (content old) program × (file ≡ new) × KnownProgramFault (content new) line)
+
 -- the first fault of a job's files, where they are known
 abbrev pub IsKnownFault : Job → Contents → FaultLine → List ℕ → Type 0
 IsKnownFault (Run job) content line file =
@@ -186,8 +203,7 @@ IsKnownFault (Replay job) content line file =
     × KnownReplayFault job.journal job.offers content line file)
 IsKnownFault (Check named) content line file = (file ≡ named) × KnownProgramFault (content named) line
 IsKnownFault (Effects named) content line file = (file ≡ named) × KnownProgramFault (content named) line
-IsKnownFault (Changes old new) content line file =
-    ((file ≡ old) × KnownProgramFault (content old) line)
-    ⊎ ((program : Program) × IsKnownProgram (content old) program × (file ≡ new) × KnownProgramFault (content new) line)
+IsKnownFault (Changes old new) content line file = KnownPairFault old new content line file
+IsKnownFault (Admits old new) content line file = KnownPairFault old new content line file
 IsKnownFault (Gen seed size) content line file =
     GeneratedFault (program_text seed size) (offer_text seed size) line file

@@ -10,7 +10,7 @@ use Rattle.dsu_report.specs.declared.fault.FaultLine.TheVariants.{Memory}
 use Rattle.dsu_runs.specs.Setups.{setup_of}
 use Rattle.input_files.specs.Journals.{HoldsEvents}
 use Rattle.input_files.specs.Sources.{IsSource}
-use Rattle.dsu_commands.specs.Answers.{ChangesFailed, ChangesShown}
+use Rattle.dsu_commands.specs.Answers.{AdmitsFailed, AdmitsShown, ChangesFailed, ChangesShown}
 use Rattle.dsu_commands.specs.Calls.{Call, Stopped}
 use Rattle.dsu_commands.specs.Jobs.{AreSources, Contents, IsProgramFault, JournalStops, OfferStops, lines_of}
 use Rattle.dsu_commands.specs.Plans.{Plan, ByJournal}
@@ -39,11 +39,19 @@ ReplaysWith content before now program job call =
     ⊎ Stopped Memory [] call))
     ⊎ ((line : FaultLine) × (at : List ℕ) × JournalStops job.journal job.offers content before now line at × Stopped line at call)
 
--- what came of the file of the newer text, and of the text of what changes
-abbrev pub ChangesTo : Contents → FailedReads → FailedReads → Program → List ℕ → Call → Type 0
-ChangesTo content before now program new call =
+-- what came of the file of the newer text, and of what was printed of it, whole or not
+abbrev pub NewerTo : (Shown Failed : Program → List ℕ → Call → Type 0) → Contents → FailedReads → FailedReads → List ℕ → Call → Type 0
+NewerTo Shown Failed content before now new call =
     (NoneFailed before now
-    × (((text : List ℕ) × (next : Program) × IsSource (content new) text next
-    × (ChangesShown program next text call ⊎ ChangesFailed program next text call))
+    × (((text : List ℕ) × (next : Program) × IsSource (content new) text next × (Shown next text call ⊎ Failed next text call))
     ⊎ Stopped Memory [] call))
     ⊎ ((line : FaultLine) × IsProgramFault new (content new) before now line × Stopped line new call)
+
+-- the text of what changes was printed
+abbrev pub ChangesTo : Contents → FailedReads → FailedReads → Program → List ℕ → Call → Type 0
+ChangesTo content before now program new call = NewerTo (ChangesShown program) (ChangesFailed program) content before now new call
+
+-- the text of where a run of the older one could take the newer one was printed
+abbrev pub AdmitsTo : Contents → FailedReads → FailedReads → Program → List ℕ → List ℕ → Call → Type 0
+AdmitsTo content before now program text new call =
+    NewerTo (AdmitsShown program text) (AdmitsFailed program text) content before now new call

@@ -19,6 +19,7 @@ usage_text =
     ++ codes "       ginseng effects FILE\n"
     ++ codes "       ginseng changes OLD NEW\n"
     ++ codes "       ginseng gen SEED SIZE\n"
+    ++ codes "       ginseng admits OLD NEW\n"
 
 -- the words of a fault of the types
 abbrev pub kind_word : TypeKind → List ℕ

@@ -1,8 +1,8 @@
 //! What the program writes on standard error: for each fault its one line, or the usage text, byte for
 //! byte as [`specs/Faults.antt`] has it, and for a run that ended its report: what was answered to each
 //! offer, as [`specs/Answers.antt`] has it, and how the run ended, as [`specs/Endings.antt`] has it. A writer
-//! puts all of its text into the sink, or a prefix of it where the sink failed, and takes no memory. Beside
-//! it stands how a place in a text is counted by lines and columns.
+//! puts all of its text into the sink, or a shorter prefix of it where the sink failed, and takes no memory.
+//! Beside it stands how a place in a text is counted by lines and columns.
 //!
 //! - [`place`]: a byte's place, by line and column
 //! - [`fault`]: the faults and their words

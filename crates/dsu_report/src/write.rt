@@ -16,6 +16,7 @@ usage: ginseng run FILE [--offer FILE@LINES]... [--workers W] [--moves N] [--obj
        ginseng effects FILE
        ginseng changes OLD NEW
        ginseng gen SEED SIZE
+       ginseng admits OLD NEW
 ";
 
 /// Writes the line of a fault at a place.

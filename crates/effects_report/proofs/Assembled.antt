@@ -1,20 +1,15 @@
 -- A report has the blocks of its program.
-use Rattle.std.proofs.Common.{◌≡◌, ℕ, zero, suc, ◌+◌, ◌<◌, ◌≤◌, List, [], ◌∷◌, map, length, get_or, Option, None, Some, slice_get, refl, sym, ap, ◌∙◌, subst, arith, append-nil}
-use Rattle.std.specs.Prelude.{All, slice_index, filter_map}
-use Rattle.std.specs.List.{cons_option, AllZip}
+use Rattle.std.proofs.Common.{◌≡◌, ℕ, zero, suc, ◌+◌, List, [], ◌∷◌, map, length, Option, None, Some, slice_get, refl, sym, ap, ◌∙◌, subst, arith}
+use Rattle.std.specs.Prelude.{All, slice_index}
+use Rattle.std.specs.List.{AllZip}
 use Rattle.std.specs.Option.{option_map, option_and_then}
-use Rattle.std.specs.List.Sorted.{IsNonDecreasingBy}
-use Rattle.std.proofs.lemmas.List.{length-map, get_or-map}
-use Rattle.std.proofs.lemmas.List.Elements.{All-nil, All-cons, All-head, All-tail, All-append, All-weaker}
+use Rattle.std.proofs.lemmas.List.Elements.{All-nil, All-cons, All-head, All-tail, All-weaker}
 use Rattle.std.proofs.lemmas.List.Sorted.{All-permutation}
 use Rattle.std.proofs.lemmas.Option.{none-some, same_Some, slice_get-map, slice_get_within, get_or_from_slice_get}
 use Rattle.bytecode.specs.CheckIns.{CheckInKind}
-use Rattle.bytecode.specs.Skeleton.{Skeleton, Point, point_at, check_in_of, check_in_at}
+use Rattle.bytecode.specs.Skeleton.{Point, point_at, check_in_of, check_in_at}
 use Rattle.c_tree.specs.BareExpr.{Bytes}
-use Rattle.c_tree.specs.Bare.{bare_function, bare_def, bare_kind}
-use Rattle.c_tree.specs.declared.def.Def.{Def}
-use Rattle.c_tree.specs.declared.def.DefKind.{DefKind}
-use Rattle.c_tree.specs.declared.def.DefKind.TheVariants as kind
+use Rattle.c_tree.specs.Bare.{bare_function}
 use Rattle.c_tree.specs.declared.def.Function.{Function}
 use Rattle.c_tree.specs.declared.def.Program.{Program}
 use Rattle.c_semantics.specs.Texts.{Definitions, definition}
@@ -22,7 +17,6 @@ use Rattle.c_semantics.specs.SourceTexts.{Text, text_of}
 use Rattle.c_semantics.specs.Skeletons.{skeleton_of}
 use Rattle.c_semantics.specs.Places.{places}
 use Rattle.c_semantics.specs.Store.{Body, store}
-use Rattle.c_semantics.specs.Store.{body_of as stored_body}
 use Rattle.effects.specs.Sites.{Site}
 use Rattle.effects.specs.Standard.{Standard}
 use Rattle.effects.specs.Contextual.{Prior, Future}
@@ -30,46 +24,18 @@ use Rattle.effects.specs.Concrete.{Concrete}
 use Rattle.effect_flow.specs.Parts.{Contents}
 use Rattle.effect_flow.specs.Flows.{IsFlowOf, points_before, place_of}
 use Rattle.contextual_effects.specs.Effects.{Sets, AreEffectsOf}
-use Rattle.effects_report.specs.declared.report.Spot.{Spot}
-use Rattle.effects_report.specs.declared.report.Section.{Section}
-use Rattle.effects_report.specs.EffectsText.{CheckIn, check_in_if, check_ins_below, check_ins_in, function_of, functions_in, functions, IsLineOf, IsBlockOf, AreBlocksFrom}
-use Rattle.effects_report.specs.Shown.{line_of, block_of, IsReady, IsWithin}
-use Rattle.effects_report.specs.Bodies.{IsOrdered, shown, IsSpotOf, IsSectionFor, AreSections, AreBodiesOf, body_of}
+use Rattle.check_in_places.specs.declared.section.Spot.{Spot}
+use Rattle.check_in_places.specs.declared.section.Section.{Section}
+use Rattle.check_in_places.specs.CheckIns.{check_ins_in, functions}
+use Rattle.check_in_places.specs.Bodies.{shown, IsSpotOf, IsWithin, IsSectionFor, AreSections, AreBodiesOf, body_of}
+use Rattle.check_in_places.proofs.CheckIns.{are_check_ins, ascending_shown}
+use Rattle.check_in_places.proofs.OneText.{store_of}
+use Rattle.effects_report.specs.EffectsText.{IsLineOf, IsBlockOf, AreBlocksFrom}
+use Rattle.effects_report.specs.Shown.{line_of, block_of, IsReady}
+use Rattle.effects_report.specs.Tables.{IsOrdered}
 use Rattle.effects_report.proofs.SetTexts.{set_is}
 
--- ---- the store of one text has the bodies of its functions
-
-by_kind : (q : Text) (k : DefKind) (rest : List Body) (fs : List Function) → rest ≡ map (body_of q) fs
-    → cons_option (stored_body 1 [] q (bare_kind k)) rest ≡ map (body_of q) (cons_option (function_of k) fs)
-by_kind q (kind.Struct name members) rest fs e = e
-by_kind q (kind.Forward name) rest fs e = e
-by_kind q (kind.Mutex name) rest fs e = e
-by_kind q (kind.Function f) rest fs e = ap (λ bodies. body_of q f ∷ bodies) e
-by_kind q (kind.Prototype p) rest fs e = e
-by_kind q (kind.Global d) rest fs e = e
-by_kind q (kind.Array a) rest fs e = e
-by_kind q (kind.TransformStruct t) rest fs e = e
-by_kind q (kind.TransformGlobal name value) rest fs e = e
-
-bodies_by : (q : Text) (ds : List Def) → filter_map (stored_body 1 [] q) (map bare_def ds) ≡ map (body_of q) (functions_in ds)
-bodies_by q [] = refl
-bodies_by q (d ∷ ds) = by_kind q d.kind (filter_map (stored_body 1 [] q) (map bare_def ds)) (functions_in ds) (bodies_by q ds)
-
-pub store_of : (p : Program) → store (text_of p ∷ []) ≡ map (body_of (text_of p)) (functions p)
-store_of p = append-nil _ ∙ bodies_by (text_of p) p.definitions
-
--- ---- check-ins are points of their body
-
-one_check_in : (s : Skeleton) (n place : ℕ) (o : Option CheckInKind) → check_in_at s n ≡ o
-    → All (λ c. check_in_at s c.point ≡ Some c.kind) (check_in_if o n place)
-one_check_in s n place (Some kind) e = All-cons (λ c. check_in_at s c.point ≡ Some c.kind) _ [] e (All-nil (λ c. check_in_at s c.point ≡ Some c.kind))
-one_check_in s n place None e = All-nil (λ c. check_in_at s c.point ≡ Some c.kind)
-
-are_check_ins : (s : Skeleton) (at : List ℕ) (n : ℕ) → All (λ c. check_in_at s c.point ≡ Some c.kind) (check_ins_below s at n)
-are_check_ins s at zero = All-nil (λ c. check_in_at s c.point ≡ Some c.kind)
-are_check_ins s at (suc n) =
-    All-append (λ c. check_in_at s c.point ≡ Some c.kind) (check_ins_below s at n) (check_in_if (check_in_at s n) n (slice_index at n))
-    (are_check_ins s at n) (one_check_in s n (slice_index at n) (check_in_at s n) refl)
+-- ---- the place of a check-in in the flow
 
 point_of_check_in : (o : Option Point) (kind : CheckInKind) → option_and_then check_in_of (option_map (λ p. p.kind) o) ≡ Some kind
     → (p : Point) × (o ≡ Some p)
@@ -136,17 +102,6 @@ lines_are names bodies flow sets k first size b (spot ∷ spots) solved stored b
   lines_are names bodies flow sets k first size b spots solved stored begin (All-tail (IsSpotOf first size) spot spots are)
       (All-tail (λ c. check_in_at b.skeleton c.point ≡ Some c.kind) (shown spot) (map shown spots) check_ins),
 )
-
-ascending_shown : (spots : List Spot) → IsNonDecreasingBy (λ spot. spot.at) spots → IsNonDecreasingBy (λ c. c.place) (map shown spots)
-ascending_shown [] up = λ i j d less within. absurd (omega arith)
-ascending_shown (spot ∷ spots) up = λ i j d less within.
-    let all = spot ∷ spots in
-    let last : j < length all = subst {A = ℕ} (λ n. j < n) (length-map all shown) within in
-    let a : get_or (map shown all) i d ≡ shown (get_or all i spot) = get_or-map shown all i spot d (omega arith) in
-    let b : get_or (map shown all) j d ≡ shown (get_or all j spot) = get_or-map shown all j spot d last in
-    let fact : (get_or all i spot).at ≤ (get_or all j spot).at = up i j spot less last in
-    subst {A = CheckIn} (λ c. c.place ≤ (get_or (map shown all) j d).place) (sym a)
-    (subst {A = CheckIn} (λ c. (get_or all i spot).at ≤ c.place) (sym b) fact)
 
 block_is : (names : List Bytes) (bodies : List Body) (flow : Contents) (sets : Sets) (q : Text) (k first size : ℕ) (f : Function) (section : Section)
     → IsSolved names bodies flow sets → slice_get bodies k ≡ Some (body_of q f) → first ≡ points_before bodies k

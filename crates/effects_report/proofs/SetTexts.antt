@@ -17,7 +17,7 @@ use Rattle.c_tree.specs.BareExpr.{Bytes}
 use Rattle.effects.specs.Rows.{IsSet}
 use Rattle.contextual_effects.specs.Effects.{HasNames}
 use Rattle.effects_report.specs.Shown.{name_if, names_below, names_in}
-use Rattle.effects_report.specs.Bodies.{IsOrdered}
+use Rattle.effects_report.specs.Tables.{IsOrdered}
 
 -- ---- the order of bytes
 

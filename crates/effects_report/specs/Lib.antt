@@ -1,5 +1,4 @@
 pub mod EffectsText
-pub mod LineStarts
 pub mod Shown
-pub mod Bodies
+pub mod Tables
 pub mod Writing

@@ -1,13 +1,14 @@
 -- What the parts of a report show: the names of a set by a table, and the lines and blocks of the text.
-use Rattle.std.specs.Prelude.{ℕ, zero, suc, ◌-◌, ◌^◌, ◌<◌, ◌≤◌, ◌==◌, List, [], ◌∷◌, ◌++◌, length, map, All, slice_index, if◌then◌else◌}
+use Rattle.std.specs.Prelude.{ℕ, zero, suc, ◌<◌, ◌==◌, List, [], ◌∷◌, ◌++◌, length, map, All, slice_index, if◌then◌else◌}
 use Rattle.std.specs.Int.{bit_at}
 use Rattle.name_sets.specs.Texts.{text_of}
 use Rattle.con_freeness.specs.Rows.{Names, Row}
 use Rattle.c_tree.specs.BareExpr.{Bytes}
 use Rattle.skeletons.specs.Meaning.{check_in_of}
 use Rattle.contextual_effects.specs.Effects.{Sets}
-use Rattle.effects_report.specs.declared.report.Spot.{Spot}
-use Rattle.effects_report.specs.declared.report.Section.{Section}
+use Rattle.check_in_places.specs.declared.section.Spot.{Spot}
+use Rattle.check_in_places.specs.declared.section.Section.{Section}
+use Rattle.check_in_places.specs.Bodies.{IsWithin}
 use Rattle.effects_report.specs.EffectsText.{Line, Block}
 
 -- a name, if its id is in a set
@@ -42,11 +43,6 @@ block_of names sets section = record {
   standard = names_in names (slice_index sets.standard section.function);
   lines = map (line_of names sets) section.spots.items;
 }
-
--- a check-in is in a text of so many bytes, and its line and column fit
-pub record IsWithin (size : ℕ) (spot : Spot) : Type 0 where
-  pub within : spot.at ≤ size
-  pub fits : spot.at < 2 ^ 32 - 1
 
 -- a function can be written: its name is in the table, and its check-ins are in the text
 pub record IsReady (names : List Bytes) (size : ℕ) (section : Section) : Type 0 where

@@ -2,7 +2,7 @@
 ghost use Rattle.std.specs.Prelude.{◌<◌, ◌↔◌, length, IfOk, IsTrue};
 ghost use Rattle.std.specs.Bool.{OnTrue};
 ghost use Rattle.name_sets.specs.Texts.{IsBefore};
-ghost use Rattle.effects_report.specs.Bodies.{IsOrdered};
+ghost use Rattle.effects_report.specs.Tables.{IsOrdered};
 
 use crate::names::id_at;
 use c_tree::Def;

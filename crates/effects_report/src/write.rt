@@ -1,44 +1,28 @@
 //! The lines of the text.
-ghost use Rattle.std.specs.Prelude.{◌≡◌, ◌+◌, ◌-◌, ◌++◌, ◌^◌, ◌<◌, ◌≤◌, length, map, All, codes, slice_index};
-ghost use Rattle.std.specs.Fmt.{decimal};
-ghost use Rattle.dsu_report.specs.Places.{line_at, column_at};
+ghost use Rattle.std.specs.Prelude.{◌≡◌, ◌<◌, length, map, All, slice_index};
 ghost use Rattle.std.specs.List.{flat_map};
 ghost use Rattle.dsu_io.specs.Causes.{HasCause};
 ghost use Rattle.dsu_io.specs.Sinks.{PutAppends};
 ghost use Rattle.name_sets.specs.Texts.{text_of};
 ghost use Rattle.skeletons.specs.Meaning.{check_in_of};
-ghost use Rattle.effects_report.specs.EffectsText.{kind_word, head_text, row_text, line_text, title_text, block_text, blocks_text};
-ghost use Rattle.effects_report.specs.Shown.{IsWithin, IsReady, names_in, row_at, line_of, block_of};
+ghost use Rattle.check_in_places.specs.Bodies.{IsWithin};
+ghost use Rattle.check_in_places.specs.CheckIns.{head_text};
+ghost use Rattle.effects_report.specs.EffectsText.{row_text, line_text, title_text, block_text, blocks_text};
+ghost use Rattle.effects_report.specs.Shown.{IsReady, names_in, row_at, line_of, block_of};
 
-use crate::lines::Lines;
 use crate::names::{put_set, text_at};
-use crate::report::{Section, Spot};
 use crate::sets::{concrete_at, future_at, prior_at, standard_at};
+use check_in_places::{Lines, Section, Spot, kind_word};
 use contextual_effects::Effects;
 use dsu_io::{Failed, Sink, put, put_all};
 use itoa::Buffer;
 use name_sets::{NameId, Names};
-use skeletons::CheckInKind;
-
-/// The word of a kind of check-in.
-fn kind_word(kind: CheckInKind) -> &'static [u8]
-    ensures { result.now ≡ kind_word (check_in_of kind) }
-{
-    match kind {
-        CheckInKind::Entry => b"entry",
-        CheckInKind::Call => b"call",
-        CheckInKind::Begin => b"begin",
-        CheckInKind::End => b"end",
-        CheckInKind::Update => b"update",
-    }
-}
 
 /// Writes the line, the column and the kind of a check-in.
 fn put_head<S: Sink>(lines: &Lines, spot: Spot, sink: &mut S) -> Result<(), Failed>
     requires { IsWithin (length lines.now.text.now) spot }
     ensures bytes { PutAppends (S.told sink.old) (S.told sink.new) result
-        (codes "  " ++ decimal (line_at lines.now.text.now spot.at) ++ codes ":" ++ decimal (column_at lines.now.text.now spot.at)
-        ++ codes " " ++ kind_word (check_in_of spot.kind)) }
+        (head_text lines.now.text.now spot.at (check_in_of spot.kind)) }
     ensures cause { HasCause (S.faults sink.old) (S.faults sink.new) result }
 {
     let place = lines.place(spot.at);

@@ -2,7 +2,7 @@
 use Rattle.std.specs.Prelude.{◌<◌, ◌≤◌, ⊤, List, length, Option, Some, None, option_and_then, if◌then◌else◌}
 use Rattle.dsu_cli.specs.Words.{Text, job_of}
 use Rattle.dsu_cli.specs.declared.job.Job.{Job}
-use Rattle.dsu_cli.specs.declared.job.Job.TheVariants.{Run, Replay, Check, Effects, Changes, Gen}
+use Rattle.dsu_cli.specs.declared.job.Job.TheVariants.{Run, Replay, Check, Effects, Changes, Admits, Gen}
 use Rattle.dsu_commands.specs.Jobs.{is_built}
 
 -- a job, where it is built
@@ -20,4 +20,5 @@ IsInRange (Replay job) = length job.offers ≤ 63
 IsInRange (Check file) = ⊤
 IsInRange (Effects file) = ⊤
 IsInRange (Changes old new) = ⊤
+IsInRange (Admits old new) = ⊤
 IsInRange (Gen seed size) = 0 < size

@@ -10,7 +10,8 @@ ghost use Rattle.dsu_run.specs.Words.{asked};
 use crate::words::job_in;
 use dsu_cli::Job;
 use dsu_commands::{
-    Outcome, changes_files, check_file, effects_file, replay_file, run_file, run_generated, stop,
+    Outcome, admits_files, changes_files, check_file, effects_file, replay_file, run_file,
+    run_generated, stop,
 };
 use dsu_io::{Files, Sink, Text};
 use dsu_report::FaultLine;
@@ -19,7 +20,8 @@ use std::alloc::Global;
 /// Does what the words of a command line ask for; they are those after the program's name. `run FILE` runs the program of
 /// the file, `replay FILE JOURNAL` makes the events of the journal, and both print on `out` and report on `err`;
 /// `check FILE` prints on `out` how many names the text has, `effects FILE` what its threads may use, `changes OLD NEW` what
-/// changes from one text to another, and `gen SEED SIZE` a summary of the run of a program that it makes.
+/// changes from one text to another, `admits OLD NEW` where a run of the one could take the other, and `gen SEED SIZE` a summary
+/// of the run of a program that it makes.
 ///
 /// What `out` holds at the end is given back with it. `dsu_commands` has the words of the clauses, in
 /// `specs/Answers.antt`.
@@ -57,6 +59,9 @@ pub fn dsu_main<F: Files, O: Sink, E: Sink>(
         Ok(Job::Effects(file)) => effects_file(alloc, file.as_str(), files, out, err),
         Ok(Job::Changes(old, new)) => {
             changes_files(alloc, old.as_str(), new.as_str(), files, out, err)
+        }
+        Ok(Job::Admits(old, new)) => {
+            admits_files(alloc, old.as_str(), new.as_str(), files, out, err)
         }
         Ok(Job::Gen(seed, size)) => run_generated(alloc, seed, size, out, err),
         Err(fault) => stop(alloc, fault, "", out, err),

@@ -37,8 +37,11 @@ fn is_built(job: &Job) -> bool
 {
     match job {
         Job::Run(job) => job.workers.is_none(),
-        Job::Replay(_) | Job::Check(_) | Job::Effects(_) | Job::Changes(_, _) | Job::Gen(_, _) => {
-            true
-        }
+        Job::Replay(_)
+        | Job::Check(_)
+        | Job::Effects(_)
+        | Job::Changes(_, _)
+        | Job::Admits(_, _)
+        | Job::Gen(_, _) => true,
     }
 }

@@ -68,6 +68,7 @@ fn job_shown(alloc: Global, job: &Job) -> Option<String> {
         Job::Check(file) => files_shown(alloc, "check", file, None),
         Job::Effects(file) => files_shown(alloc, "effects", file, None),
         Job::Changes(old, new) => files_shown(alloc, "changes", old, Some(new)),
+        Job::Admits(old, new) => files_shown(alloc, "admits", old, Some(new)),
         Job::Gen(seed, size) => format!(in alloc; "gen {seed} {size}.").ok(),
     }
 }
@@ -145,6 +146,9 @@ static OTHERS: &str = "\
     changes a.c b.c => changes a.c b.c.¶\
     changes b.c a.c => changes b.c a.c.¶\
     changes a.c a.c => changes a.c a.c.¶\
+    admits a.c b.c => admits a.c b.c.¶\
+    admits b.c a.c => admits b.c a.c.¶\
+    admits admits changes => admits admits changes.¶\
     gen 7 200 => gen 7 200.¶\
     gen 0 1 => gen 0 1.¶\
     gen 9223372036854775807 2 => gen 9223372036854775807 2.¶\
@@ -266,6 +270,13 @@ static WRONG: [&str; 5] = [
     effects a.c --moves 1¶\
     changes a.c¶\
     changes a.c b.c c.c¶\
+    admits¶\
+    admits a.c¶\
+    admits a.c b.c c.c¶\
+    admits a.c -b.c¶\
+    admits a.c b.c --journal¶\
+    admits a.c --offer b.c@1¶\
+    admit a.c b.c¶\
     gen 7¶\
     gen 7 0¶\
     gen 7 201¶\

@@ -6,9 +6,12 @@
 //! - `reports` and `answers`: `dsu_report`
 //! - `effects_reports`: `effects_report`
 //! - `changes`: `changes_report`
+//! - `admits`: `admits_report`
 //! - `files`: `input_files`
 #![tactic(auto)]
 
+#[cfg(test)]
+mod admits;
 #[cfg(test)]
 mod answers;
 #[cfg(test)]

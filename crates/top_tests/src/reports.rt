@@ -18,6 +18,7 @@ usage: ginseng run FILE [--offer FILE@LINES]... [--workers W] [--moves N] [--obj
        ginseng effects FILE
        ginseng changes OLD NEW
        ginseng gen SEED SIZE
+       ginseng admits OLD NEW
 ";
 
 /// Faults in the file `d/f.c`, and their lines.

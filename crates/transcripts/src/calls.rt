@@ -3,7 +3,8 @@
 use crate::stage::Stage;
 use dsu_cli::{CliFault, Job, ReplayJob, RunJob, read_words};
 use dsu_commands::{
-    Outcome, changes_files, check_file, effects_file, replay_file, run_file, run_generated, stop,
+    Outcome, admits_files, changes_files, check_file, effects_file, replay_file, run_file,
+    run_generated, stop,
 };
 use dsu_io::{MemoryFiles, MemorySink, Text};
 use dsu_report::FaultLine;
@@ -71,6 +72,7 @@ fn call_job(
         Job::Check(file) => check_file(alloc, file.as_str(), files, out, err),
         Job::Effects(file) => effects_file(alloc, file.as_str(), files, out, err),
         Job::Changes(old, new) => changes_files(alloc, old.as_str(), new.as_str(), files, out, err),
+        Job::Admits(old, new) => admits_files(alloc, old.as_str(), new.as_str(), files, out, err),
         Job::Gen(seed, size) => call_gen(alloc, *seed, *size, out, err),
     }
 }

@@ -1,7 +1,7 @@
 use Rattle.std.proofs.Common.{◌∙◌, List, ℕ, subst, sym}
 use Rattle.std.proofs.lemmas.Option.{same_Some}
 use Rattle.dsu_cli.specs.declared.job.Job.{Job as Asked}
-use Rattle.dsu_cli.specs.declared.job.Job.TheVariants.{Changes}
+use Rattle.dsu_cli.specs.declared.job.Job.TheVariants.{Admits, Changes}
 use Rattle.dsu_commands.specs.Jobs.{IsKnownFault}
 use Rattle.dsu_run.proofs.Asking.{answers_asked, ready_as_asked}
 use Rattle.dsu_run.proofs.top.dsu_main.Goals as goal
@@ -21,6 +21,17 @@ returns-in-Ok-Changes-clause-first g c = λ asked line file is fault.
     (subst {A = List ℕ} (λ old. IsKnownFault (Changes old c.as_str-in-Ok-Changes-2.result.now) content line file)
     (sym c.as_str-in-Ok-Changes.ensures)
     (subst {A = List ℕ} (λ new. IsKnownFault (Changes job.old new) content line file) (sym c.as_str-in-Ok-Changes-2.ensures)
+    (subst {A = Asked} (λ j. IsKnownFault j content line file)
+    (same_Some asked job.field-0 (sym is ∙ job.ensures.job) ∙ job.field-0-is) fault)))
+
+pub returns-in-Ok-Admits-clause-first : goal.returns-in-Ok-Admits-clause-first
+returns-in-Ok-Admits-clause-first g c = λ asked line file is fault.
+    let job = c.in-Ok-Admits in
+    let content = g.F.Files.content c.args.files.now in
+    c.admits_files.ensures.first line file
+    (subst {A = List ℕ} (λ old. IsKnownFault (Admits old c.as_str-in-Ok-Admits-2.result.now) content line file)
+    (sym c.as_str-in-Ok-Admits.ensures)
+    (subst {A = List ℕ} (λ new. IsKnownFault (Admits job.old new) content line file) (sym c.as_str-in-Ok-Admits-2.ensures)
     (subst {A = Asked} (λ j. IsKnownFault j content line file)
     (same_Some asked job.field-0 (sym is ∙ job.ensures.job) ∙ job.field-0-is) fault)))
 

@@ -1,7 +1,7 @@
 use Rattle.std.proofs.Common.{length}
 use Rattle.c_semantics.specs.SourceTexts.{text_of}
 use Rattle.c_semantics.specs.Texts.{definition}
-use Rattle.effects_report.specs.EffectsText.{functions}
+use Rattle.check_in_places.specs.CheckIns.{functions}
 use Rattle.effects_report.proofs.Assembled.{report_is, report_ready}
 use Rattle.effects_report.proofs.output.report_of.Goals as goal
 

@@ -4,7 +4,7 @@ use Rattle.std.specs.Prelude.{slice_index}
 use Rattle.name_sets.specs.Texts.{text_of}
 use Rattle.std.proofs.lemmas.Result.{err_from_is_err_and}
 use Rattle.dsu_io.specs.Sinks.{PutAppends}
-use Rattle.effects_report.specs.declared.report.Spot.{Spot}
+use Rattle.check_in_places.specs.declared.section.Spot.{Spot}
 use Rattle.effects_report.specs.EffectsText.{title_text, line_text}
 use Rattle.effects_report.specs.Shown.{line_of, names_in}
 use Rattle.dsu_journal.proofs.Pieces.{AppendsFront-first, PutAppends-then}

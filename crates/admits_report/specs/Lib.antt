@@ -1,0 +1,5 @@
+pub mod AdmitsText
+pub mod Writing
+pub mod Known
+pub mod Shown
+pub mod Answered

@@ -1,0 +1,75 @@
+//! What the rows of functions and check-ins answer.
+ghost use Rattle.std.specs.Prelude.{◌≡◌, All, IfOk, map};
+ghost use Rattle.std.specs.List.{AllZip};
+ghost use Rattle.admits_report.specs.Answered.{AreAnswersOf, AreLinesFor, spot_of};
+
+use crate::admission::Admission;
+use check_in_places::{Section, Spot};
+use con_freeness::Effect;
+use name_sets::NameId;
+use std::alloc::{AllocError, Global};
+
+/// A check-in, and what its row answers.
+#[derive(Clone, Copy)]
+pub(crate) struct CheckInAnswer {
+    pub spot: Spot,
+    pub answer: Option<Effect>,
+}
+
+/// A function, and what the rows of its start and of its check-ins answer.
+#[derive(Drop)]
+pub(crate) struct FunctionAnswers {
+    pub function: NameId,
+    pub start: Option<Effect>,
+    pub lines: Vec<CheckInAnswer>,
+}
+
+/// What the rows of some functions answer.
+pub(crate) fn answers(
+    alloc: Global,
+    admission: &Admission<'_>,
+    sections: &[Section],
+) -> Result<Vec<FunctionAnswers>, AllocError>
+    ensures { IfOk result (λ answers. AllZip (AreAnswersOf admission.now) sections.now answers.items) }
+{
+    let mut answers = Vec::new(alloc);
+    for section in sections {
+        answers.push(answers_of(alloc, admission, section)?)?;
+    }
+    Ok(answers)
+}
+
+/// What the rows of a function answer.
+fn answers_of(
+    alloc: Global,
+    admission: &Admission<'_>,
+    section: &Section,
+) -> Result<FunctionAnswers, AllocError>
+    ensures { IfOk result (AreAnswersOf admission.now section.now) }
+{
+    let lines = lines_of(alloc, admission, section)?;
+    Ok(FunctionAnswers {
+        function: section.function,
+        start: admission.start(section.function),
+        lines,
+    })
+}
+
+/// What the rows of a function's check-ins answer.
+fn lines_of(
+    alloc: Global,
+    admission: &Admission<'_>,
+    section: &Section,
+) -> Result<Vec<CheckInAnswer>, AllocError>
+    ensures spots { IfOk result (λ lines. map spot_of lines.items ≡ section.now.spots.items) }
+    ensures answers { IfOk result (λ lines. AreLinesFor admission.now section.now.function lines.items) }
+{
+    let mut lines = Vec::new(alloc);
+    for spot in &section.spots {
+        lines.push(CheckInAnswer {
+            spot: *spot,
+            answer: admission.check_in(section.function, *spot),
+        })?;
+    }
+    Ok(lines)
+}

@@ -1,0 +1,100 @@
+//! The whole text.
+ghost use Rattle.std.specs.Prelude.{◌≡◌, ◌≤◌, [], ◌∷◌, IfOk, IsErrOf};
+ghost use Rattle.c_semantics.specs.SourceTexts.{text_of as text_of_program};
+ghost use Rattle.con_freeness.specs.Rows.{Names as Texts};
+ghost use Rattle.con_freeness.specs.Decisions.{IsListOf};
+ghost use Rattle.dsu_io.specs.Causes.{Rose};
+ghost use Rattle.patch_build.specs.Versions.{AreVersions};
+ghost use Rattle.admits_report.specs.AdmitsText.{IsAdmitsText, IsPatchText};
+ghost use Rattle.admits_report.specs.Writing.{Writes};
+
+use crate::admission::Admission;
+use crate::answers::answers;
+use crate::counts::counts;
+use crate::lines::{add_counts, add_functions};
+use crate::refused::text_of_cause;
+use c_types::Typed;
+use check_in_places::{Lines, Section, bodies_of};
+use dsu_io::{Sink, put};
+use dsu_report::ReportFault;
+use installed_versions::Installed;
+use patch_build::{Patch, PatchFault, Versions, prepare};
+use std::alloc::{AllocError, Global};
+
+/// Writes where a run of an older typed text could take a newer one. `old_text` and `new_text` have the bytes of the texts.
+///
+/// `Memory` is also the answer where a text uses a name that it doesn't define, where the older one has more names, check-ins or
+/// tokens than a version may or more check-ins and functions than there are numbers of rows, or where a place isn't in the bytes
+/// of its text or is 2^32 - 1 or more: none of these occurs in a typed text and its bytes, but that isn't proved.
+pub fn write_admission<S: Sink>(
+    alloc: Global,
+    old: &Typed,
+    old_text: &[u8],
+    new: &Typed,
+    new_text: &[u8],
+    sink: &mut S,
+) -> Result<(), ReportFault>
+    ensures bytes { Writes (IsAdmitsText old.now old_text.now new.now new_text.now)
+        (S.told sink.old) (S.told sink.new) result }
+    ensures later { S.faults sink.old ≤ S.faults sink.new }
+    ensures failed { IsErrOf result ReportFault.Failed → Rose (S.faults sink.old) (S.faults sink.new) }
+    ensures memory { IsErrOf result ReportFault.Memory → sink.new ≡ sink.old }
+{
+    let Ok(text) = text_of(alloc, old, old_text, new, new_text) else {
+        return Err(ReportFault::Memory);
+    };
+    match put(sink, &text) {
+        Ok(()) => Ok(()),
+        Err(_) => Err(ReportFault::Failed),
+    }
+}
+
+/// The whole text.
+fn text_of(
+    alloc: Global,
+    old: &Typed,
+    old_text: &[u8],
+    new: &Typed,
+    new_text: &[u8],
+) -> Result<Vec<u8>, AllocError>
+    ensures { IfOk result (λ text. IsAdmitsText old.now old_text.now new.now new_text.now text.items) }
+{
+    let installed = Installed::first(alloc, old)?;
+    let versions = installed.versions(old);
+    match prepare(alloc, versions, new) {
+        Ok(patch) => text_of_patch(alloc, versions, &patch, old_text),
+        Err(PatchFault::Not(cause)) => text_of_cause(alloc, &cause, new_text),
+        Err(PatchFault::Memory) => Err(AllocError),
+    }
+}
+
+/// The text of a patch.
+fn text_of_patch(
+    alloc: Global,
+    versions: Versions<'_>,
+    patch: &Patch,
+    old_text: &[u8],
+) -> Result<Vec<u8>, AllocError>
+{
+    let program = versions.last.program();
+    let bodies = bodies_of(alloc, program, versions.names, old_text.len())?;
+    let admission = Admission::of(alloc, versions, patch)?;
+    let lines = Lines::of(alloc, old_text)?;
+    text_of_sections(alloc, &admission, &lines, bodies.sections.as_slice())
+}
+
+/// The text of functions.
+fn text_of_sections(
+    alloc: Global,
+    admission: &Admission<'_>,
+    lines: &Lines<'_>,
+    sections: &[Section],
+) -> Result<Vec<u8>, AllocError>
+{
+    let functions = answers(alloc, admission, sections)?;
+    let counts = counts(functions.as_slice())?;
+    let mut text = Vec::new(alloc);
+    add_functions(&mut text, lines, admission.names, functions.as_slice())?;
+    add_counts(&mut text, counts)?;
+    Ok(text)
+}

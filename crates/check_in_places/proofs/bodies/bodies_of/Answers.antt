@@ -1,0 +1,15 @@
+use Rattle.std.proofs.Common.{List, ap, ◌∙◌, subst}
+use Rattle.std.specs.Prelude.{IfOk}
+use Rattle.c_tree.specs.declared.def.Def.{Def}
+use Rattle.c_semantics.specs.SourceTexts.{text_of}
+use Rattle.resolved_tree.specs.Known.{known_of}
+use Rattle.check_in_places.specs.CheckIns.{functions_in}
+use Rattle.check_in_places.specs.Bodies.{AreBodiesOf}
+use Rattle.check_in_places.proofs.bodies.bodies_of.Goals as goal
+
+pub returns : goal.returns
+returns c =
+    subst {A = List Def}
+    (λ ds. IfOk c.bodies_among.result (λ bodies. AreBodiesOf c.args.names.now (text_of c.args.program.now) c.args.size (functions_in ds) bodies.flow bodies.sections.items))
+    c.as_slice-definitions.ensures
+    (c.bodies_among.ensures (text_of c.args.program.now) (ap known_of (c.in_ok-known.ensures ∙ c.as_slice-definitions.ensures)))

@@ -1,0 +1,3 @@
+pub mod CheckIns
+pub mod LineStarts
+pub mod Bodies

@@ -1,0 +1,161 @@
+//! The bodies of a program's functions.
+ghost use Rattle.std.specs.Prelude.{◌≡◌, [], ◌∷◌, ◌++◌, List, IfOk, OnOk, option_copied};
+ghost use Rattle.name_sets.specs.Texts.{IsTable};
+ghost use Rattle.c_tree.specs.declared.def.Function.{Function as FunctionTree};
+ghost use Rattle.c_semantics.specs.Texts.{definition};
+ghost use Rattle.c_semantics.specs.SourceTexts.{Text, text_of};
+ghost use Rattle.resolved_tree.specs.Known.{known_of};
+ghost use Rattle.check_in_places.specs.CheckIns.{function_of, functions, functions_in};
+ghost use Rattle.check_in_places.specs.Bodies.{IsOutline, AreBodiesOf};
+
+use crate::section::{Bodies, Outline};
+use crate::spots::section_of;
+use c_tree::{Def, DefKind, Function, Program};
+use c_types::Known;
+use effect_flow::Flow;
+use name_sets::Names;
+use point_places::places_of;
+use resolved_tree::Trees;
+use resolved_tree::resolve::resolve_body;
+use skeleton_gen::skeleton_of;
+use std::alloc::{AllocError, Global};
+
+/// The bodies of the functions of a program, in the order of its text, for a text of `size` bytes, by a table of its names.
+///
+/// `AllocError` is also the answer where a function uses a name that the table doesn't have, where a check-in has a place after
+/// the end of the text or after 2^32 - 2 bytes, or where there are too many points to number.
+pub fn bodies_of(
+    alloc: Global,
+    program: &Program,
+    names: &Names,
+    size: usize,
+) -> Result<Bodies, AllocError>
+    requires { IsTable names.now }
+    ensures { IfOk result (λ bodies. AreBodiesOf names.now (text_of program.now) size (functions program.now)
+        bodies.flow bodies.sections.items) }
+{
+    let definitions = program.definitions.as_slice();
+    let known = Known::of(alloc, definitions)?;
+    bodies_among(alloc, &known, names, size, definitions)
+}
+
+/// The bodies of the functions that some definitions define.
+fn bodies_among(
+    alloc: Global,
+    known: &Known,
+    names: &Names,
+    size: usize,
+    definitions: &[Def],
+) -> Result<Bodies, AllocError>
+    requires { IsTable names.now }
+    ensures { (text : Text) → known_of known.now ≡ definition text.definitions
+        → IfOk result (λ bodies. AreBodiesOf names.now text size (functions_in definitions.now)
+        bodies.flow bodies.sections.items) }
+{
+    let mut bodies = Bodies {
+        flow: Flow::new(alloc),
+        sections: Vec::new(alloc),
+    };
+    for one in definitions {
+        add_definition(alloc, known, names, size, one, &mut bodies)?;
+    }
+    Ok(bodies)
+}
+
+/// Adds the body of a definition, if it is a function.
+fn add_definition(
+    alloc: Global,
+    known: &Known,
+    names: &Names,
+    size: usize,
+    added: &Def,
+    bodies: &mut Bodies,
+) -> Result<(), AllocError>
+    ensures { (text : Text) (done : List FunctionTree) → known_of known.now ≡ definition text.definitions
+        → AreBodiesOf names.now text size done bodies.old.flow bodies.old.sections.items
+        → OnOk result (AreBodiesOf names.now text size (done ++ functions_in (added.now ∷ []))
+        bodies.new.flow bodies.new.sections.items) }
+{
+    match function_in(&added.kind) {
+        Some(function) => add_function(alloc, known, names, size, function, bodies),
+        None => Ok(()),
+    }
+}
+
+/// The function that a definition defines, if it defines one.
+fn function_in(kind: &DefKind) -> Option<&Function>
+    ensures { option_copied result ≡ function_of kind.now }
+{
+    match kind {
+        DefKind::Function(function) => Some(function),
+        DefKind::Struct(_, _)
+        | DefKind::Forward(_)
+        | DefKind::Mutex(_)
+        | DefKind::Prototype(_)
+        | DefKind::Global(_)
+        | DefKind::Array(_)
+        | DefKind::TransformStruct(_)
+        | DefKind::TransformGlobal(_, _) => None,
+    }
+}
+
+/// Adds the body of a function.
+fn add_function(
+    alloc: Global,
+    known: &Known,
+    names: &Names,
+    size: usize,
+    function: &Function,
+    bodies: &mut Bodies,
+) -> Result<(), AllocError>
+    ensures { (text : Text) (done : List FunctionTree) → known_of known.now ≡ definition text.definitions
+        → AreBodiesOf names.now text size done bodies.old.flow bodies.old.sections.items
+        → OnOk result (AreBodiesOf names.now text size (done ++ function.now ∷ [])
+        bodies.new.flow bodies.new.sections.items) }
+{
+    let outline = outline_of(alloc, known, names, function)?;
+    add_outline(alloc, names, size, function, &outline, bodies)
+}
+
+/// The skeleton and the places of a function. A name that the table doesn't have is answered as lack of memory.
+fn outline_of(
+    alloc: Global,
+    known: &Known,
+    names: &Names,
+    function: &Function,
+) -> Result<Outline, AllocError>
+    ensures { IfOk result (λ outline. IsOutline names.now (known_of known.now) function.now outline) }
+{
+    let mut trees = Trees::new(alloc);
+    let body = resolve_body(&mut trees, known, function)?;
+    let places = places_of(alloc, &trees, body, function)?;
+    match skeleton_of(alloc, &trees, body, names) {
+        Ok(skeleton) => Ok(Outline { skeleton, places }),
+        Err(_) => Err(AllocError),
+    }
+}
+
+/// Adds a function by its skeleton and its places.
+fn add_outline(
+    alloc: Global,
+    names: &Names,
+    size: usize,
+    function: &Function,
+    outline: &Outline,
+    bodies: &mut Bodies,
+) -> Result<(), AllocError>
+    ensures { (text : Text) (done : List FunctionTree)
+        → IsOutline names.now (definition text.definitions) function.now outline.now
+        → AreBodiesOf names.now text size done bodies.old.flow bodies.old.sections.items
+        → OnOk result (AreBodiesOf names.now text size (done ++ function.now ∷ [])
+        bodies.new.flow bodies.new.sections.items) }
+{
+    let Some(id) = names.find(function.name.text.as_str()) else {
+        return Err(AllocError);
+    };
+    let first = bodies.flow.points().len();
+    let skeleton = &outline.skeleton;
+    let section = section_of(alloc, id, first, size, skeleton, outline.places.as_slice())?;
+    bodies.sections.push(section)?;
+    bodies.flow.add(id, 1, skeleton)
+}

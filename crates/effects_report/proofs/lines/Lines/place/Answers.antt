@@ -1,4 +1,0 @@
-use Rattle.effects_report.proofs.lines.Lines.place.Goals as goal
-
-pub returns-clause-line : goal.returns-clause-line
-returns-clause-line c = c.line-line.ensures.number
