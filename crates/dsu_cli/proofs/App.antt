@@ -5,8 +5,10 @@ use Rattle.clap.specs.Walk.{arg_by_id, arg_by_index, arg_by_long}
 use Rattle.clap.specs.Simple.{Shape, built, filled, with_index}
 use Rattle.dsu_cli.specs.declared.setting.Setting.{Setting}
 use Rattle.dsu_cli.specs.declared.setting.Setting.TheVariants.{Offer, Workers, Moves, Objects}
+use Rattle.dsu_cli.specs.declared.setting.Switch.{Switch}
+use Rattle.dsu_cli.specs.declared.setting.Switch.TheVariants.{Journal, Explain}
 use Rattle.dsu_cli.specs.Words.{Text}
-use Rattle.dsu_cli.specs.Fit.{name_of}
+use Rattle.dsu_cli.specs.Fit.{name_of, switch_name}
 use Rattle.dsu_cli.specs.Sorted.{app, files_rule, option_rule, switch_rule}
 
 pub app_simple : is_simple app ≡ true
@@ -24,8 +26,8 @@ files_built = with_index 1 (filled files_rule)
 abbrev pub option_built : Text → Rule
 option_built name = filled (option_rule name)
 
-abbrev pub journal_built : Rule
-journal_built = filled (switch_rule (codes "journal"))
+abbrev pub switch_built : Text → Rule
+switch_built name = filled (switch_rule name)
 
 pub by_long : (s : Setting) → arg_by_long rules (name_of s) ≡ Some (option_built (name_of s))
 by_long Offer = refl
@@ -45,5 +47,6 @@ files_by_id = refl
 pub files_by_index : arg_by_index rules 1 ≡ Some files_built
 files_by_index = refl
 
-pub journal_by_long : arg_by_long rules (codes "journal") ≡ Some journal_built
-journal_by_long = refl
+pub switch_by_long : (s : Switch) → arg_by_long rules (switch_name s) ≡ Some (switch_built (switch_name s))
+switch_by_long Journal = refl
+switch_by_long Explain = refl

@@ -1,16 +1,16 @@
 -- What follows where items fit a command.
-use Rattle.std.proofs.Common.{◌≡◌, ◌∙◌, ℕ, Bool, true, List, [], ◌∷◌, refl, sym, ap, codes, true≢false, inl, inr, arith}
+use Rattle.std.proofs.Common.{◌≡◌, ◌∙◌, ◌||◌, ℕ, Bool, true, List, [], ◌∷◌, refl, sym, ap, codes, true≢false, inl, inr, arith}
 use Rattle.std.specs.Prelude.{⊤, ◌==◌, is_some}
 use Rattle.std.specs.List.{list_all}
 use Rattle.std.specs.Str.{bytes_eq}
-use Rattle.std.proofs.Math.Bool.{or-false}
+use Rattle.std.proofs.Math.Bool.{or-false, or-true}
 use Rattle.std.proofs.lemmas.Bool.{and_from, and_parts, cases_Bool, ne_eqb, leb-true, not_from_false}
 use Rattle.std.proofs.lemmas.Slice.Eq.{bytes_eq-Decides}
 use Rattle.dsu_cli.specs.declared.command.Command.{Command}
 use Rattle.dsu_cli.specs.declared.command.Command.TheVariants as command
 use Rattle.dsu_cli.specs.declared.setting.Setting.{Setting}
 use Rattle.dsu_cli.specs.declared.setting.Setting.TheVariants.{Offer, Workers, Moves, Objects}
-use Rattle.dsu_cli.specs.Words.{Text, Item, positional, option, switch, line, fits, item_fits, is_number, is_value, positionals, positionals_fit, values}
+use Rattle.dsu_cli.specs.Words.{Text, Item, positional, option, switch, line, fits, is_switch, item_fits, is_number, is_value, positionals, positionals_fit, values}
 use Rattle.dsu_cli.specs.Fit.{name_of, setting_of, value_test}
 use Rattle.dsu_cli.specs.Sorted.{is_known}
 use Rattle.dsu_cli.proofs.Names.{known, name_view, other, setting_named, setting_other}
@@ -48,14 +48,17 @@ option_tested command.Changes s v e = absurd (true≢false (sym e))
 option_tested command.Admits s v e = absurd (true≢false (sym e))
 option_tested command.Gen s v e = absurd (true≢false (sym e))
 
-switch_known : (c : Command) (name : Text) → item_fits (line c) (switch name) ≡ true → bytes_eq name (codes "journal") ≡ true
-switch_known command.Run name e = sym (or-false _) ∙ e
-switch_known command.Replay name e = absurd (true≢false (sym e))
-switch_known command.Check name e = absurd (true≢false (sym e))
-switch_known command.Effects name e = absurd (true≢false (sym e))
-switch_known command.Changes name e = absurd (true≢false (sym e))
-switch_known command.Admits name e = absurd (true≢false (sym e))
-switch_known command.Gen name e = absurd (true≢false (sym e))
+explain_known : (name : Text) → item_fits (line command.Check) (switch name) ≡ true → is_switch name ≡ true
+explain_known name e = ap (λ b. bytes_eq name (codes "journal") || b) (sym (or-false _) ∙ e) ∙ or-true _
+
+switch_known : (c : Command) (name : Text) → item_fits (line c) (switch name) ≡ true → is_switch name ≡ true
+switch_known command.Run name e = ap (λ b. bytes_eq name (codes "journal") || b) (sym (or-false _)) ∙ e
+switch_known command.Replay name e = explain_known name e
+switch_known command.Check name e = explain_known name e
+switch_known command.Effects name e = explain_known name e
+switch_known command.Changes name e = explain_known name e
+switch_known command.Admits name e = explain_known name e
+switch_known command.Gen name e = explain_known name e
 
 option_known : (c : Command) (name v : Text) → item_fits (line c) (option name v) ≡ true → is_known (option name v) ≡ true
 option_known c name v e = elim (name_view name) [

@@ -11,6 +11,7 @@ use Rattle.dsu_cli.specs.declared.command.Command.{Command}
 use Rattle.dsu_cli.specs.declared.command.Command.TheVariants as command
 use Rattle.dsu_cli.specs.declared.setting.Setting.{Setting}
 use Rattle.dsu_cli.specs.declared.setting.Setting.TheVariants.{Offer, Workers, Moves, Objects}
+use Rattle.dsu_cli.specs.declared.setting.Switch.TheVariants.{Journal}
 use Rattle.dsu_cli.specs.declared.job.Offer as offers
 use Rattle.dsu_cli.specs.declared.job.Job.{Job}
 use Rattle.dsu_cli.specs.declared.job.Job.TheVariants.{Run, Replay}
@@ -50,7 +51,7 @@ module _ (its : List Item) (m : ArgMatches) (sorts : Sorts its m) where
       let w-is = w ∙ ap (λ vs. option_map (digits_value 10) (slice_get vs 0)) (sorts.options Workers) in
       let mo-is = mo ∙ ap (λ vs. unwrap_or (option_map (digits_value 10) (slice_get vs 0)) 1000000) (sorts.options Moves) in
       let ob-is = ob ∙ ap (λ vs. unwrap_or (option_map (digits_value 10) (slice_get vs 0)) 4096) (sorts.options Objects) in
-      let j-is = j ∙ ap (nat_lt 0) sorts.journal in
+      let j-is = j ∙ ap (nat_lt 0) (sorts.switches Journal) in
       ap (job command.Run its) words
       ∙ sym (λ i. Some (Run (record { file = file; offers = o-is i; workers = w-is i; moves = mo-is i; objects = ob-is i; journal = j-is i })))
 

@@ -9,12 +9,12 @@ use Rattle.clap.specs.Takes.{default_passes, entered_passes, is_valid, settle_pa
 use Rattle.clap.specs.declared.builder.value_parser.Reading.{Reading}
 use Rattle.clap.specs.declared.parser.matches.ArgMatches.{ArgMatches}
 use Rattle.dsu_cli.specs.Words.{Text, Item}
-use Rattle.dsu_cli.specs.Fit.{name_of}
+use Rattle.dsu_cli.specs.Fit.{name_of, switch_name}
 use Rattle.dsu_cli.specs.Sorted.{AreKnown, Sorts, app}
 use Rattle.dsu_cli.proofs.App.{app_simple, rules, shape}
 use Rattle.dsu_cli.proofs.Walk.{at, base, idle_rests, nothing, put_item, settle_ok}
 use Rattle.dsu_cli.proofs.WalkAll.{Walked, resting, walk_all}
-use Rattle.dsu_cli.proofs.Rows.{files_in, journal_in, option_in, values_in}
+use Rattle.dsu_cli.proofs.Rows.{files_in, option_in, switch_in, values_in}
 
 no_rows : (id : Text) (how : Reading) (defaults : List Text) (rows : List Row) → is_empty defaults ≡ true → default_rows id how defaults rows ≡ rows
 no_rows id how [] rows e = refl
@@ -54,5 +54,5 @@ module _ (words : List Text) (its : List Item) (h : AreKnown words its) where
       record {
         files = ap (values_in (codes "files")) rows ∙ files_in its h.known;
         options = λ s. ap (values_in (name_of s)) rows ∙ option_in s its h.known;
-        journal = ap (λ r. length (values_in (codes "journal") r)) rows ∙ journal_in its h.known;
+        switches = λ s. ap (λ r. length (values_in (switch_name s) r)) rows ∙ switch_in s its h.known;
       }

@@ -7,8 +7,10 @@ use Rattle.std.proofs.lemmas.Option.{none-some, same_Some}
 use Rattle.std.proofs.lemmas.Slice.Eq.{bytes_eq-Decides}
 use Rattle.dsu_cli.specs.declared.setting.Setting.{Setting}
 use Rattle.dsu_cli.specs.declared.setting.Setting.TheVariants.{Offer, Workers, Moves, Objects}
-use Rattle.dsu_cli.specs.Words.{Text}
-use Rattle.dsu_cli.specs.Fit.{name_of, setting_of}
+use Rattle.dsu_cli.specs.declared.setting.Switch.{Switch}
+use Rattle.dsu_cli.specs.declared.setting.Switch.TheVariants.{Journal, Explain}
+use Rattle.dsu_cli.specs.Words.{Text, is_switch}
+use Rattle.dsu_cli.specs.Fit.{name_of, setting_of, switch_name, switch_of}
 
 -- the text is no option's name
 pub record IsOther (name : Text) : Type 0 where
@@ -68,3 +70,66 @@ setting_is name is = elim (name_view name) [
   | known s e ↦ (s, e)
   | other h ↦ absurd (true≢false (sym is ∙ ap is_some (setting_other name h)))
 ]
+
+-- ---- options without a value
+
+data SwitchView (name : Text) : Type 0 where
+  named : (s : Switch) → name ≡ switch_name s → SwitchView name
+  unnamed : is_switch name ≡ false → switch_of name ≡ None → SwitchView name
+
+switch_view : (name : Text) → SwitchView name
+switch_view name = elim (cases_Bool (bytes_eq name (codes "journal"))) [
+  | inl is ↦ named Journal ((bytes_eq-Decides name _).0 is)
+  | inr a ↦ elim (cases_Bool (bytes_eq name (codes "explain"))) [
+    | inl is ↦ named Explain ((bytes_eq-Decides name _).0 is)
+    | inr b ↦ unnamed (rw (a, b) refl) (rw (a, b) refl)
+  ]
+]
+
+-- an option without a value is known by its name
+pub switch_named : (s : Switch) → is_switch (switch_name s) ≡ true
+switch_named Journal = refl
+switch_named Explain = refl
+
+switch_found : (s : Switch) → switch_of (switch_name s) ≡ Some s
+switch_found Journal = refl
+switch_found Explain = refl
+
+-- the option that a name is known to be
+pub switch_is : (name : Text) → is_switch name ≡ true → (s : Switch) × (name ≡ switch_name s)
+switch_is name is = elim (switch_view name) [
+  | named s e ↦ (s, e)
+  | unnamed isnt _ ↦ absurd (true≢false (sym is ∙ isnt))
+]
+
+pub switch_known : (name : Text) (s : Switch) → switch_of name ≡ Some s → name ≡ switch_name s
+switch_known name s is = elim (switch_view name) [
+  | named found e ↦ e ∙ ap switch_name (same_Some found s (sym (switch_found found) ∙ ap switch_of (sym e) ∙ is))
+  | unnamed _ none ↦ absurd (none-some s (sym none ∙ is))
+]
+
+pub not_switch : (name : Text) → switch_of name ≡ None → is_switch name ≡ false
+not_switch name none = elim (switch_view name) [
+  | named s e ↦ absurd (none-some s (sym none ∙ ap switch_of e ∙ switch_found s))
+  | unnamed isnt _ ↦ isnt
+]
+
+-- its name is no other
+pub switch_apart : (s : Switch) (name : Text) → is_switch name ≡ false → bytes_eq (switch_name s) name ≡ false
+switch_apart s name other_name = elim (cases_Bool (bytes_eq (switch_name s) name)) [
+  | inl is ↦ absurd (true≢false (sym (switch_named s) ∙ ap is_switch ((bytes_eq-Decides (switch_name s) name).0 is) ∙ other_name))
+  | inr isnt ↦ isnt
+]
+
+pub apart_switch : (name : Text) (s : Switch) → is_switch name ≡ false → bytes_eq name (switch_name s) ≡ false
+apart_switch name s other_name = elim (cases_Bool (bytes_eq name (switch_name s))) [
+  | inl is ↦ absurd (true≢false (sym (switch_named s) ∙ ap is_switch (sym ((bytes_eq-Decides name (switch_name s)).0 is)) ∙ other_name))
+  | inr isnt ↦ isnt
+]
+
+-- the name of an option with a value isn't one
+pub setting_no_switch : (s : Setting) → is_switch (name_of s) ≡ false
+setting_no_switch Offer = refl
+setting_no_switch Workers = refl
+setting_no_switch Moves = refl
+setting_no_switch Objects = refl

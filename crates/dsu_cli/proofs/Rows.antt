@@ -9,11 +9,12 @@ use Rattle.std.proofs.Common.{append-nil, append_assoc}
 use Rattle.clap.specs.Walk.{Row, all_of}
 use Rattle.dsu_cli.specs.declared.setting.Setting.{Setting}
 use Rattle.dsu_cli.specs.declared.setting.Setting.TheVariants.{Offer, Workers, Moves, Objects}
+use Rattle.dsu_cli.specs.declared.setting.Switch.{Switch}
 use Rattle.dsu_cli.specs.Words.{Text, Item, positional, option, switch, positionals, uses, values}
-use Rattle.dsu_cli.specs.Fit.{name_of}
+use Rattle.dsu_cli.specs.Fit.{name_of, switch_name}
 use Rattle.dsu_cli.specs.Sorted.{is_known}
 use Rattle.dsu_cli.proofs.Walk.{put, put_item}
-use Rattle.dsu_cli.proofs.Names.{setting_is}
+use Rattle.dsu_cli.proofs.Names.{apart_switch, setting_is, setting_no_switch, switch_apart, switch_is}
 
 -- the values of an argument
 abbrev pub values_in : Text → List Row → List Text
@@ -72,8 +73,8 @@ files_step (option name v) rows k =
     let s = setting_is name (and_parts _ _ k).0 in
     (put_other (codes "files") name v rows (ap (λ n. bytes_eq n (codes "files")) s.1 ∙ setting_apart s.0) ∙ sym (append-nil _))
 files_step (switch name) rows k =
-    let is : name ≡ codes "journal" = (bytes_eq-Decides name (codes "journal")).0 k in
-    (put_other (codes "files") name (codes "true") rows (ap (λ n. bytes_eq n (codes "files")) is) ∙ sym (append-nil _))
+    let s = switch_is name k in
+    (put_other (codes "files") name (codes "true") rows (ap (λ n. bytes_eq n (codes "files")) s.1 ∙ switch_apart s.0 (codes "files") refl) ∙ sym (append-nil _))
 
 files_flat : (its : List Item) → flat of_files its ≡ positionals its
 files_flat [] = refl
@@ -96,12 +97,6 @@ files_apart Workers = refl
 files_apart Moves = refl
 files_apart Objects = refl
 
-journal_apart : (s : Setting) → bytes_eq (codes "journal") (name_of s) ≡ false
-journal_apart Offer = refl
-journal_apart Workers = refl
-journal_apart Moves = refl
-journal_apart Objects = refl
-
 option_step : (s : Setting) (item : Item) (rows : List Row) → is_known item ≡ true
     → values_in (name_of s) (put_item rows item) ≡ values_in (name_of s) rows ++ of_option (name_of s) item
 option_step s (positional word) rows k = (put_other (name_of s) (codes "files") word rows (files_apart s) ∙ sym (append-nil _))
@@ -110,8 +105,8 @@ option_step s (option name v) rows k = elim (cases_Bool (bytes_eq name (name_of 
   | inr isnt ↦ rw isnt ((put_other (name_of s) name v rows isnt ∙ sym (append-nil _)))
 ]
 option_step s (switch name) rows k =
-    let is : name ≡ codes "journal" = (bytes_eq-Decides name (codes "journal")).0 k in
-    (put_other (name_of s) name (codes "true") rows (ap (λ n. bytes_eq n (name_of s)) is ∙ journal_apart s) ∙ sym (append-nil _))
+    let used = switch_is name k in
+    (put_other (name_of s) name (codes "true") rows (ap (λ n. bytes_eq n (name_of s)) used.1 ∙ switch_apart used.0 (name_of s) (setting_no_switch s)) ∙ sym (append-nil _))
 
 option_flat : (name : Text) (its : List Item) → flat (of_option name) its ≡ values name its
 option_flat name [] = refl
@@ -125,40 +120,40 @@ option_flat name (switch other ∷ its) = option_flat name its
 pub option_in : (s : Setting) (its : List Item) → list_all is_known its ≡ true → values_in (name_of s) (fold put_item [] its) ≡ values (name_of s) its
 option_in s its k = collects (name_of s) (of_option (name_of s)) (option_step s) its [] k ∙ option_flat (name_of s) its
 
--- ---- `--journal`
+-- ---- options without a value
 
-abbrev of_journal : Item → List Text
-of_journal (switch _) = codes "true" ∷ []
-of_journal _ = []
+abbrev of_switch : Text → Item → List Text
+of_switch name (switch other) = cond (bytes_eq other name) (codes "true" ∷ []) []
+of_switch name _ = []
 
-option_not_journal : (s : Setting) → bytes_eq (name_of s) (codes "journal") ≡ false
-option_not_journal Offer = refl
-option_not_journal Workers = refl
-option_not_journal Moves = refl
-option_not_journal Objects = refl
+-- a known option with a value is no other
+option_apart : (s : Switch) (name v : Text) → is_known (option name v) ≡ true → bytes_eq name (switch_name s) ≡ false
+option_apart s name v k =
+    let found = setting_is name (and_parts _ _ k).0 in
+    ap (λ n. bytes_eq n (switch_name s)) found.1 ∙ apart_switch (name_of found.0) s (setting_no_switch found.0)
 
-journal_step : (item : Item) (rows : List Row) → is_known item ≡ true
-    → values_in (codes "journal") (put_item rows item) ≡ values_in (codes "journal") rows ++ of_journal item
-journal_step (positional word) rows k = (put_other (codes "journal") (codes "files") word rows refl ∙ sym (append-nil _))
-journal_step (option name v) rows k =
-    let s = setting_is name (and_parts _ _ k).0 in
-    (put_other (codes "journal") name v rows (ap (λ n. bytes_eq n (codes "journal")) s.1 ∙ option_not_journal s.0) ∙ sym (append-nil _))
-journal_step (switch name) rows k =
-    ap (λ n. values_in (codes "journal") (put n (codes "true") rows)) ((bytes_eq-Decides name (codes "journal")).0 k) ∙ put_same (codes "journal") (codes "true") rows
+switch_step : (s : Switch) (item : Item) (rows : List Row) → is_known item ≡ true
+    → values_in (switch_name s) (put_item rows item) ≡ values_in (switch_name s) rows ++ of_switch (switch_name s) item
+switch_step s (positional word) rows k = (put_other (switch_name s) (codes "files") word rows (apart_switch (codes "files") s refl) ∙ sym (append-nil _))
+switch_step s (option name v) rows k = (put_other (switch_name s) name v rows (option_apart s name v k) ∙ sym (append-nil _))
+switch_step s (switch name) rows k = elim (cases_Bool (bytes_eq name (switch_name s))) [
+  | inl is ↦
+      rw is (ap (λ n. values_in (switch_name s) (put n (codes "true") rows)) ((bytes_eq-Decides name (switch_name s)).0 is) ∙ put_same (switch_name s) (codes "true") rows)
+  | inr isnt ↦ rw isnt ((put_other (switch_name s) name (codes "true") rows isnt ∙ sym (append-nil _)))
+]
 
-journal_uses : (its : List Item) → list_all is_known its ≡ true → length (flat of_journal its) ≡ uses (codes "journal") its
-journal_uses [] k = refl
-journal_uses (positional word ∷ its) k = journal_uses its (and_parts _ _ k).1
-journal_uses (option name v ∷ its) k =
+switch_uses : (s : Switch) (its : List Item) → list_all is_known its ≡ true → length (flat (of_switch (switch_name s)) its) ≡ uses (switch_name s) its
+switch_uses s [] k = refl
+switch_uses s (positional word ∷ its) k = switch_uses s its (and_parts _ _ k).1
+switch_uses s (option name v ∷ its) k =
     let all = and_parts _ _ k in
-    let s = setting_is name (and_parts _ _ all.0).0 in
-    let apart : bytes_eq name (codes "journal") ≡ false = ap (λ n. bytes_eq n (codes "journal")) s.1 ∙ option_not_journal s.0 in
-    rw apart (journal_uses its all.1)
-journal_uses (switch name ∷ its) k =
-    let all = and_parts _ _ k in
-    let journal : bytes_eq name (codes "journal") ≡ true = all.0 in
-    let rest : length (flat of_journal its) ≡ uses (codes "journal") its = journal_uses its all.1 in
-    rw journal (omega arith)
+    rw (option_apart s name v all.0) (switch_uses s its all.1)
+switch_uses s (switch name ∷ its) k =
+    let rest : length (flat (of_switch (switch_name s)) its) ≡ uses (switch_name s) its = switch_uses s its (and_parts _ _ k).1 in
+    elim (cases_Bool (bytes_eq name (switch_name s))) [
+      | inl is ↦ rw is (omega arith)
+      | inr isnt ↦ rw isnt rest
+    ]
 
-pub journal_in : (its : List Item) → list_all is_known its ≡ true → length (values_in (codes "journal") (fold put_item [] its)) ≡ uses (codes "journal") its
-journal_in its k = ap length (collects (codes "journal") of_journal journal_step its [] k) ∙ journal_uses its k
+pub switch_in : (s : Switch) (its : List Item) → list_all is_known its ≡ true → length (values_in (switch_name s) (fold put_item [] its)) ≡ uses (switch_name s) its
+switch_in s its k = ap length (collects (switch_name s) (of_switch (switch_name s)) (switch_step s) its [] k) ∙ switch_uses s its k

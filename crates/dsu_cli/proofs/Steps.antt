@@ -1,19 +1,18 @@
 -- How the words lead from one state to the next.
-use Rattle.std.proofs.Common.{◌≡◌, ◌+◌, ◌∙◌, ℕ, suc, zero, Bool, true, false, List, [], ◌∷◌, Option, Some, None, length, drop, refl, sym, arith, codes, true≢false, inl, inr}
+use Rattle.std.proofs.Common.{◌≡◌, ◌+◌, ◌∙◌, ℕ, suc, zero, Bool, true, false, List, [], ◌∷◌, Option, Some, None, length, drop, refl, sym, ap, arith, true≢false, inl, inr}
 use Rattle.std.specs.Prelude.{IfSome, nat_le}
 use Rattle.std.specs.Option.{option_map_or}
-use Rattle.std.specs.Str.{bytes_eq}
 use Rattle.std.proofs.Math.Bool.{and-true}
 use Rattle.std.proofs.lemmas.Bool.{le-leb, lt-leb, and_left}
 use Rattle.std.proofs.lemmas.Bool.Decides.{leb_tells}
-use Rattle.std.proofs.lemmas.Slice.Eq.{bytes_eq-Decides}
-use Rattle.dsu_cli.proofs.Names.{name_known, name_other}
+use Rattle.dsu_cli.proofs.Names.{name_known, name_other, switch_named}
 use Rattle.dsu_cli.specs.declared.command.Command.{Command}
 use Rattle.dsu_cli.specs.declared.command.Command.TheVariants as command
 use Rattle.dsu_cli.specs.declared.setting.Setting.{Setting}
+use Rattle.dsu_cli.specs.declared.setting.Switch.{Switch}
 use Rattle.dsu_cli.specs.declared.fit.Seen.{Seen}
-use Rattle.dsu_cli.specs.Words.{Text, Item, positional, option, switch, Line, line, item_fits, items, then_items, behind_dashes, name_and_value, positionals_fit}
-use Rattle.dsu_cli.specs.Fit.{Steps, StepsTo, fits_after, fits_from, name_of, next_fits, setting_of, times}
+use Rattle.dsu_cli.specs.Words.{Text, Item, positional, option, Line, line, is_switch, item_fits, items, then_items, behind_dashes, name_and_value, positionals_fit}
+use Rattle.dsu_cli.specs.Fit.{Steps, StepsTo, fits_after, fits_from, name_of, next_fits, setting_of, switch_name, times, use_of}
 
 -- ---- the end of the words
 
@@ -35,7 +34,7 @@ positionals_end (test ∷ tests) (suc k) = positionals_end tests k ∙ both_more
 
 pub words_end : (l : Line) (s : Seen) → s.waiting ≡ None → fits_from l s [] ≡ nat_le (length l.positionals) s.positionals
 words_end l s none =
-    rw (none, once_ends s.workers, once_ends s.moves, once_ends s.objects, once_ends s.journal, le-leb 0 s.offers_left (omega arith), positionals_end l.positionals s.positionals) (and-true _)
+    rw (none, once_ends s.workers, once_ends s.moves, once_ends s.objects, once_ends s.journal, once_ends s.explain, le-leb 0 s.offers_left (omega arith), positionals_end l.positionals s.positionals) (and-true _)
 
 -- ---- one more positional
 
@@ -78,14 +77,14 @@ module _ (l : Line) (s : Seen) (word : Text) (next : Option Seen) (waits : IfSom
   after_pair text name value setting waiting dashes parts known steps words =
       rw (waiting, dashes, parts, name_known name setting known) (step_items l s (option (name_of setting) value) next words steps waits)
 
-  pub after_journal : (text : Text) → s.waiting ≡ None → behind_dashes word ≡ Some text → name_and_value text ≡ None
-      → bytes_eq text (codes "journal") ≡ true → Steps l s (switch (codes "journal")) next → StepsTo l s word next
-  after_journal text waiting dashes whole journal steps words =
-      let is : text ≡ codes "journal" = (bytes_eq-Decides text (codes "journal")).0 journal in
-      rw (waiting, dashes, whole, journal, is) (step_items l s (switch (codes "journal")) next words steps waits)
+  pub after_switch : (text : Text) (used : Switch) → s.waiting ≡ None → behind_dashes word ≡ Some text → name_and_value text ≡ None
+      → text ≡ switch_name used → Steps l s (use_of used) next → StepsTo l s word next
+  after_switch text used waiting dashes whole is steps words =
+      let no_value : is_switch text ≡ true = ap is_switch is ∙ switch_named used in
+      rw (waiting, dashes, whole, no_value, is) (step_items l s (use_of used) next words steps waits)
 
 module _ (l : Line) (s : Seen) (word text : Text) (waiting : s.waiting ≡ None) (dashes : behind_dashes word ≡ Some text)
-    (whole : name_and_value text ≡ None) (other : bytes_eq text (codes "journal") ≡ false) where
+    (whole : name_and_value text ≡ None) (other : is_switch text ≡ false) where
   -- an option whose value is the next word
   pub after_name : (setting : Setting) → setting_of text ≡ Some setting → StepsTo l s word (Some (record s { waiting = Some setting }))
   after_name setting known words = rw (waiting, dashes, whole, other, name_known text setting known) refl

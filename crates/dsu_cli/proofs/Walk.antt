@@ -12,10 +12,11 @@ use Rattle.clap.specs.declared.builder.value_parser.ValueParser.TheVariants as v
 use Rattle.clap.specs.declared.parser.matches.ValueSource.TheVariants.{CommandLine}
 use Rattle.dsu_cli.specs.declared.setting.Setting.{Setting}
 use Rattle.dsu_cli.specs.declared.setting.Setting.TheVariants.{Offer, Workers, Moves, Objects}
+use Rattle.dsu_cli.specs.declared.setting.Switch.{Switch}
 use Rattle.dsu_cli.specs.Words.{Text, Item, is_value}
 use Rattle.dsu_cli.specs.Words as words
-use Rattle.dsu_cli.specs.Fit.{name_of}
-use Rattle.dsu_cli.proofs.App.{rules, shape, option_built, files_built, journal_built, by_long}
+use Rattle.dsu_cli.specs.Fit.{name_of, switch_name}
+use Rattle.dsu_cli.proofs.App.{rules, shape, option_built, files_built, switch_built, by_long, switch_by_long}
 
 -- one more value of an argument
 abbrev pub put : Text → Text → List Row → List Row
@@ -153,11 +154,13 @@ module _ (rows : List Row) (p : Option (Text × List Text)) (w : Waiting) (word 
         ∙ ap (λ o. after_flag rules w word (long_met rules o (Some v) held).0 (long_met rules o (Some v) held).1) (by_long s)) refl
         (passes_long w word held no_dashes (name_of s) (Some v) long ∙ ap (λ o. long_passes rules false o (Some v) held) (by_long s) ∙ and_from _ _ (settle_ok rows p pending) refl) refl
 
-    -- `--journal`
-    pub turn_journal : long_of word ≡ Some (codes "journal", None) → Turns (at rows p w) word (at (put (codes "journal") (codes "true") (base rows p)) None idle)
-    turn_journal long =
-        turn_from rows p w word _ (reacted rules journal_built [] held) (next idle) (met_long w word held no_dashes (codes "journal") None long) refl
-        (passes_long w word held no_dashes (codes "journal") None long ∙ and_from _ _ (settle_ok rows p pending) refl) refl
+    -- `--name` of an option without a value
+    pub turn_switch : (s : Switch) → long_of word ≡ Some (switch_name s, None) → Turns (at rows p w) word (at (put (switch_name s) (codes "true") (base rows p)) None idle)
+    turn_switch s long =
+        let a = switch_built (switch_name s) in
+        turn_from rows p w word _ (reacted rules a [] held) (next idle) (met_long w word held no_dashes (switch_name s) None long
+        ∙ ap (λ o. after_flag rules w word (long_met rules o None held).0 (long_met rules o None held).1) (switch_by_long s)) refl
+        (passes_long w word held no_dashes (switch_name s) None long ∙ ap (λ o. long_passes rules false o None held) (switch_by_long s) ∙ and_from _ _ (settle_ok rows p pending) refl) refl
 
     -- `--name`, whose value is the next word
     pub turn_name : (s : Setting) → long_of word ≡ Some (name_of s, None)

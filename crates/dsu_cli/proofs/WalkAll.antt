@@ -1,23 +1,22 @@
 -- What `clap` makes of all words that are known items.
-use Rattle.std.proofs.Common.{◌≡◌, ◌∙◌, ℕ, suc, arith, length, true, false, List, [], ◌∷◌, Option, Some, None, refl, sym, ap, subst, codes, cond, inl, inr}
+use Rattle.std.proofs.Common.{◌≡◌, ◌∙◌, ℕ, suc, arith, length, true, false, true≢false, List, [], ◌∷◌, Option, Some, None, refl, sym, ap, subst, codes, cond, inl, inr}
 use Rattle.std.specs.List.{fold, list_all}
 use Rattle.std.specs.Option.{option_map_or}
 use Rattle.std.specs.Str.{bytes_eq}
 use Rattle.std.proofs.lemmas.Bool.{and_from, and_parts, cases_Bool}
 use Rattle.std.proofs.lemmas.Option.{none-some, same_Some}
-use Rattle.std.proofs.lemmas.Slice.Eq.{bytes_eq-Decides}
 use Rattle.clap.specs.Lexer.{long_of}
 use Rattle.clap.specs.Walk.{Row, Walk, Waiting, idle, option as waits_for, positional as takes_more, walked}
 use Rattle.clap.specs.Takes.{walk_passes}
 use Rattle.dsu_cli.specs.declared.setting.Setting.{Setting}
 use Rattle.dsu_cli.specs.declared.setting.Setting.TheVariants.{Offer, Workers, Moves, Objects}
-use Rattle.dsu_cli.specs.Words.{Text, Item, positional, option, switch, behind_dashes, items, name_and_value, then_items}
-use Rattle.dsu_cli.specs.Fit.{name_of}
+use Rattle.dsu_cli.specs.Words.{Text, Item, positional, option, switch, behind_dashes, is_switch, items, name_and_value, then_items}
+use Rattle.dsu_cli.specs.Fit.{name_of, switch_name}
 use Rattle.dsu_cli.specs.Sorted.{is_known}
-use Rattle.dsu_cli.proofs.Names.{setting_is}
+use Rattle.dsu_cli.proofs.Names.{setting_is, switch_is}
 use Rattle.dsu_cli.proofs.App.{rules, shape}
 use Rattle.dsu_cli.proofs.Words.{behind_dashes_is, long_pair, long_whole}
-use Rattle.dsu_cli.proofs.Walk.{Pending, last, Resting, idle_rests, more_rests, file, nothing, Turns, at, base, put, put_item, turn_journal, turn_name, turn_pair, turn_positional, turn_value}
+use Rattle.dsu_cli.proofs.Walk.{Pending, last, Resting, idle_rests, more_rests, file, nothing, Turns, at, base, put, put_item, turn_name, turn_pair, turn_positional, turn_switch, turn_value}
 
 pub record Walked (words : List Text) (its : List Item) (start : List Row) (from : Walk) : Type 0 where
   pub rows : List Row
@@ -133,16 +132,16 @@ module _ (word : Text) (words : List Text) (its : List Item) (rows : List Row) (
       ))
 
   at_whole : (text : Text) → word ≡ 45 ∷ 45 ∷ text → name_and_value text ≡ None
-      → cond (bytes_eq text (codes "journal")) (then_items (switch text) (items None words)) (items (Some text) words) ≡ Some its
+      → cond (is_switch text) (then_items (switch text) (items None words)) (items (Some text) words) ≡ Some its
       → Walked (word ∷ words) its start (at rows p w)
-  at_whole text is whole e = elim (cases_Bool (bytes_eq text (codes "journal"))) [
-    | inl journal ↦
-        let name : text ≡ codes "journal" = (bytes_eq-Decides text (codes "journal")).0 journal in
-        let some : text ≡ [] → ⊥ = λ none. nil_cons _ _ (sym none ∙ name) in
-        let long : long_of word ≡ Some (codes "journal", None) = whole_long word text is some whole ∙ ap (λ (n : Text). Some (n, None)) name in
-        go_on word words its (switch text) start (at rows p w) (at (put text (codes "true") start) None idle) goes (rw journal at e) k (λ known. (
-          subst (λ (n : Text). Turns (at rows p w) word (at (put n (codes "true") start) None idle)) (sym name)
-              (turn_journal rows p w word pending rests (not_dashes word text is some) long),
+  at_whole text is whole e = elim (cases_Bool (is_switch text)) [
+    | inl no_value ↦
+        let s = switch_is text no_value in
+        let some : text ≡ [] → ⊥ = λ none. true≢false (sym no_value ∙ ap is_switch none) in
+        let long : long_of word ≡ Some (switch_name s.0, None) = whole_long word text is some whole ∙ ap (λ (n : Text). Some (n, None)) s.1 in
+        go_on word words its (switch text) start (at rows p w) (at (put text (codes "true") start) None idle) goes (rw no_value at e) k (λ known. (
+          subst (λ (n : Text). Turns (at rows p w) word (at (put n (codes "true") start) None idle)) (sym s.1)
+              (turn_switch rows p w word pending rests (not_dashes word text is some) s.0 long),
           resting (put text (codes "true") start) None idle nothing idle_rests,
         ))
     | inr isnt ↦
@@ -159,14 +158,14 @@ module _ (word : Text) (words : List Text) (its : List Item) (rows : List Row) (
   at_word e = go (behind_dashes word) refl e
     where
       parts_go : (text : Text) (parts : Option (Text × Text)) → word ≡ 45 ∷ 45 ∷ text → name_and_value text ≡ parts
-          → option_map_or (λ q. then_items (option q.0 q.1) (items None words)) parts (cond (bytes_eq text (codes "journal")) (then_items (switch text) (items None words)) (items (Some text) words)) ≡ Some its
+          → option_map_or (λ q. then_items (option q.0 q.1) (items None words)) parts (cond (is_switch text) (then_items (switch text) (items None words)) (items (Some text) words)) ≡ Some its
           → Walked (word ∷ words) its start (at rows p w)
       parts_go text (Some parts) is pair e = at_pair text parts is pair e
       parts_go text None is whole e = at_whole text is whole e
 
       go : (d : Option Text) → behind_dashes word ≡ d
           → option_map_or (λ text. option_map_or (λ q. then_items (option q.0 q.1) (items None words)) (name_and_value text)
-          (cond (bytes_eq text (codes "journal")) (then_items (switch text) (items None words)) (items (Some text) words))) d (then_items (positional word) (items None words)) ≡ Some its
+          (cond (is_switch text) (then_items (switch text) (items None words)) (items (Some text) words))) d (then_items (positional word) (items None words)) ≡ Some its
           → Walked (word ∷ words) its start (at rows p w)
       go (Some text) dashes e = parts_go text (name_and_value text) (behind_dashes_is word text dashes) refl e
       go None plain e = go_on word words its (positional word) start (at rows p w) (at start (Some (codes "files", word ∷ [])) takes_more) goes e k

@@ -5,13 +5,15 @@ use Rattle.std.specs.Option.{option_map_or}
 use Rattle.std.specs.Str.{bytes_eq}
 use Rattle.dsu_cli.specs.declared.setting.Setting.{Setting}
 use Rattle.dsu_cli.specs.declared.setting.Setting.TheVariants.{Offer, Workers, Moves, Objects}
+use Rattle.dsu_cli.specs.declared.setting.Switch.{Switch}
+use Rattle.dsu_cli.specs.declared.setting.Switch.TheVariants.{Journal, Explain}
 use Rattle.dsu_cli.specs.declared.command.Command.{Command}
 use Rattle.dsu_cli.specs.declared.job.Job.{Job}
 use Rattle.dsu_cli.specs.declared.command.Command.TheVariants as command
 use Rattle.dsu_cli.specs.declared.fit.Seen.{Seen}
-use Rattle.dsu_cli.specs.Words.{Text, Item, Line, item_fits, items, fits, is_offer, is_workers, is_moves, is_objects, job_if_fits, positionals, positionals_fit, uses}
+use Rattle.dsu_cli.specs.Words.{Text, Item, Line, item_fits, items, fits, is_offer, is_workers, is_moves, is_objects, job_if_fits, positionals, positionals_fit, switch, uses}
 
--- the option of a name
+-- the option with a value that has this name
 abbrev pub setting_of : Text → Option Setting
 setting_of name =
     if bytes_eq name (codes "offer") then Some Offer
@@ -33,7 +35,22 @@ name_of Workers = codes "workers"
 name_of Moves = codes "moves"
 name_of Objects = codes "objects"
 
--- the command has the option
+-- the option without a value that has this name
+abbrev pub switch_of : Text → Option Switch
+switch_of name =
+    if bytes_eq name (codes "journal") then Some Journal
+    else if bytes_eq name (codes "explain") then Some Explain
+    else None
+
+abbrev pub switch_name : Switch → Text
+switch_name Journal = codes "journal"
+switch_name Explain = codes "explain"
+
+-- the item that uses it
+abbrev pub use_of : Switch → Item
+use_of s = switch (switch_name s)
+
+-- the command has the option with a value
 abbrev pub has : Command → Setting → Bool
 has command.Run _ = true
 has command.Replay Offer = true
@@ -55,7 +72,7 @@ abbrev pub fits_after : Line → Seen → List Item → Bool
 fits_after l seen items = list_all (item_fits l) items && (positionals_fit (drop seen.positionals l.positionals) (positionals items)
     && (nat_le (uses (codes "offer") items) seen.offers_left && (nat_le (times seen.workers + uses (codes "workers") items) 1
     && (nat_le (times seen.moves + uses (codes "moves") items) 1 && (nat_le (times seen.objects + uses (codes "objects") items) 1
-    && nat_le (times seen.journal + uses (codes "journal") items) 1)))))
+    && (nat_le (times seen.journal + uses (codes "journal") items) 1 && nat_le (times seen.explain + uses (codes "explain") items) 1))))))
 
 -- the words fit after those that were seen
 abbrev pub fits_from : Line → Seen → List Text → Bool

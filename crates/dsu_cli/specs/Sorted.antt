@@ -1,16 +1,16 @@
 -- What the private functions say that read the words by `clap`. Nothing that `read_words` promises rests on these.
 use Rattle.std.specs.Prelude.{◌≡◌, ◌&&◌, Bool, true, List, [], ◌∷◌, length, Some, None, is_some, unwrap_or, codes}
 use Rattle.std.specs.List.{list_all}
-use Rattle.std.specs.Str.{bytes_eq}
 use Rattle.clap.specs.Words.{App, Rule, all_of, found_of, new_app, new_rule, rows_of, with_rule}
 use Rattle.clap.specs.Simple.{on_top}
 use Rattle.clap.specs.declared.parser.matches.ArgMatches.{ArgMatches}
 use Rattle.clap.specs.declared.builder.action.ArgAction.TheVariants.{Append}
 use Rattle.dsu_cli.specs.declared.command.Command.{Command}
 use Rattle.dsu_cli.specs.declared.job.Job.{Job}
-use Rattle.dsu_cli.specs.Words.{Text, Item, fits, items, is_value, job, line, option, positional, positionals, switch, uses, values}
+use Rattle.dsu_cli.specs.Words.{Text, Item, fits, is_switch, items, is_value, job, line, option, positional, positionals, switch, uses, values}
 use Rattle.dsu_cli.specs.declared.setting.Setting.{Setting}
-use Rattle.dsu_cli.specs.Fit.{name_of, setting_of}
+use Rattle.dsu_cli.specs.declared.setting.Switch.{Switch}
+use Rattle.dsu_cli.specs.Fit.{name_of, setting_of, switch_name}
 
 -- each positional is one more value of `files`
 abbrev pub files_rule : Rule
@@ -25,10 +25,10 @@ abbrev pub switch_rule : Text → Rule
 switch_rule name = record (option_rule name) { range = Some (record { start_inclusive = 0; end_inclusive = 0 }); missing = codes "true" ∷ [] }
 
 abbrev pub app : App
-app = with_rule (with_rule (with_rule (with_rule (with_rule (with_rule
+app = with_rule (with_rule (with_rule (with_rule (with_rule (with_rule (with_rule
     (on_top (λ s. record s { no_binary_name = true; disable_help_flag = true }) (new_app (codes "ginseng")))
     files_rule) (option_rule (codes "offer"))) (option_rule (codes "workers"))) (option_rule (codes "moves")))
-    (option_rule (codes "objects"))) (switch_rule (codes "journal"))
+    (option_rule (codes "objects"))) (switch_rule (codes "journal"))) (switch_rule (codes "explain"))
 
 -- the values of an argument, in their order
 abbrev pub given : Text → ArgMatches → List Text
@@ -38,7 +38,7 @@ given id m = unwrap_or (all_of id (rows_of (found_of m))) []
 abbrev pub is_known : Item → Bool
 is_known (positional word) = is_value word
 is_known (option name value) = is_some (setting_of name) && is_value value
-is_known (switch name) = bytes_eq name (codes "journal")
+is_known (switch name) = is_switch name
 
 -- the words are items that some command may have
 pub record AreKnown (words : List Text) (its : List Item) : Type 0 where
@@ -49,7 +49,7 @@ pub record AreKnown (words : List Text) (its : List Item) : Type 0 where
 pub record Sorts (its : List Item) (m : ArgMatches) : Type 0 where
   pub files : given (codes "files") m ≡ positionals its
   pub options : (s : Setting) → given (name_of s) m ≡ values (name_of s) its
-  pub journal : length (given (codes "journal") m) ≡ uses (codes "journal") its
+  pub switches : (s : Switch) → length (given (switch_name s) m) ≡ uses (switch_name s) its
 
 -- the matches are of words that fit the command
 pub record IsRead (c : Command) (m : ArgMatches) : Type 0 where

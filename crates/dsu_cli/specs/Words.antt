@@ -1,5 +1,5 @@
 -- The words of a command line: which of them fit, and the job that they name.
-use Rattle.std.specs.Prelude.{ℕ, ◌+◌, ◌-◌, ◌^◌, ◌&&◌, ◌==◌, Bool, true, false, not, List, [], ◌∷◌, length, take, drop, Option, Some, None, option_map, option_and_then, unwrap_or, slice_get, nat_le, nat_lt, if◌then◌else◌, codes}
+use Rattle.std.specs.Prelude.{ℕ, ◌+◌, ◌-◌, ◌^◌, ◌&&◌, ◌||◌, ◌==◌, Bool, true, false, not, List, [], ◌∷◌, length, take, drop, Option, Some, None, option_map, option_and_then, unwrap_or, slice_get, nat_le, nat_lt, if◌then◌else◌, codes}
 use Rattle.std.specs.List.{list_all, list_any, filter_map, position, before_last, after_last}
 use Rattle.std.specs.Option.{option_map_or}
 use Rattle.std.specs.Str.{bytes_eq, all_ascii_digits}
@@ -7,6 +7,8 @@ use Rattle.std.specs.Str.Parse.{digits_value}
 use Rattle.dsu_cli.specs.declared.job.Job.{Job}
 use Rattle.dsu_cli.specs.declared.job.Job.TheVariants.{Run, Replay, Check, Effects, Changes, Admits, Gen}
 use Rattle.dsu_cli.specs.declared.job.Offer.{Offer}
+use Rattle.dsu_cli.specs.declared.job.Detail.{Detail}
+use Rattle.dsu_cli.specs.declared.job.Detail.TheVariants.{Plain, Explained}
 use Rattle.dsu_cli.specs.declared.command.Command.{Command}
 use Rattle.dsu_cli.specs.declared.command.Command.TheVariants as command
 
@@ -60,7 +62,7 @@ pub data Item : Type 0 where
   positional : Text → Item
   -- the name of an option and its value: `--name value` or `--name=value`
   option : Text → Text → Item
-  -- the name of an option that has no value: `--journal`
+  -- the name of an option that has no value: `--journal` or `--explain`
   switch : Text → Item
 
 -- what comes after the `--` (45) of an option; none where the word is no option
@@ -71,6 +73,10 @@ behind_dashes _ = None
 -- the parts of name=value, cut at its first `=` (61)
 abbrev pub name_and_value : Text → Option (Text × Text)
 name_and_value text = option_map (λ at. (take at text, drop (at + 1) text)) (position (λ c. c == 61) text)
+
+-- the option of this name has no value
+abbrev pub is_switch : Text → Bool
+is_switch name = bytes_eq name (codes "journal") || bytes_eq name (codes "explain")
 
 -- one item and then these
 abbrev pub then_items : Item → Option (List Item) → Option (List Item)
@@ -83,7 +89,7 @@ items (Some name) [] = None
 items (Some name) (value ∷ words) = then_items (option name value) (items None words)
 items None (word ∷ words) = option_map_or (λ text. option_map_or
     (λ parts. then_items (option parts.0 parts.1) (items None words)) (name_and_value text)
-    (if bytes_eq text (codes "journal") then then_items (switch text) (items None words) else items (Some text) words))
+    (if is_switch text then then_items (switch text) (items None words) else items (Some text) words))
     (behind_dashes word) (then_items (positional word) (items None words))
 
 -- the positionals, in their order
@@ -118,28 +124,28 @@ pub record Line : Type 0 where
   pub switches : List Text
 
 abbrev pub line : Command → Line
--- run FILE [--offer FILE@LINES]... [--workers W] [--moves N] [--objects N] [--journal]
+-- run FILE [--offer FILE@LINES]... [--workers W] [--moves N] [--objects N] [--journal] [--explain]
 line command.Run = record {
   positionals = is_value ∷ [];
   options = (codes "offer", is_offer) ∷ (codes "workers", is_workers) ∷ (codes "moves", is_moves) ∷ (codes "objects", is_objects) ∷ [];
-  switches = codes "journal" ∷ [];
+  switches = codes "journal" ∷ codes "explain" ∷ [];
 }
--- replay FILE JOURNAL [--offer FILE@LINES]... [--objects N]
+-- replay FILE JOURNAL [--offer FILE@LINES]... [--objects N] [--explain]
 line command.Replay = record {
   positionals = is_value ∷ is_value ∷ [];
   options = (codes "offer", is_offer) ∷ (codes "objects", is_objects) ∷ [];
-  switches = [];
+  switches = codes "explain" ∷ [];
 }
--- check FILE
-line command.Check = record { positionals = is_value ∷ []; options = []; switches = [] }
--- effects FILE
-line command.Effects = record { positionals = is_value ∷ []; options = []; switches = [] }
--- changes OLD NEW
-line command.Changes = record { positionals = is_value ∷ is_value ∷ []; options = []; switches = [] }
--- admits OLD NEW
-line command.Admits = record { positionals = is_value ∷ is_value ∷ []; options = []; switches = [] }
--- gen SEED SIZE
-line command.Gen = record { positionals = is_seed ∷ is_size ∷ []; options = []; switches = [] }
+-- check FILE [--explain]
+line command.Check = record { positionals = is_value ∷ []; options = []; switches = codes "explain" ∷ [] }
+-- effects FILE [--explain]
+line command.Effects = record { positionals = is_value ∷ []; options = []; switches = codes "explain" ∷ [] }
+-- changes OLD NEW [--explain]
+line command.Changes = record { positionals = is_value ∷ is_value ∷ []; options = []; switches = codes "explain" ∷ [] }
+-- admits OLD NEW [--explain]
+line command.Admits = record { positionals = is_value ∷ is_value ∷ []; options = []; switches = codes "explain" ∷ [] }
+-- gen SEED SIZE [--explain]
+line command.Gen = record { positionals = is_seed ∷ is_size ∷ []; options = []; switches = codes "explain" ∷ [] }
 
 -- an item is one that the command has; a positional is tested by its place
 abbrev pub item_fits : Line → Item → Bool
@@ -160,7 +166,7 @@ is_once name items = nat_le (uses name items) 1
 abbrev pub fits : Line → List Item → Bool
 fits l items = list_all (item_fits l) items && (positionals_fit l.positionals (positionals items)
     && (nat_le (uses (codes "offer") items) 63 && (is_once (codes "workers") items
-    && (is_once (codes "moves") items && (is_once (codes "objects") items && is_once (codes "journal") items)))))
+    && (is_once (codes "moves") items && (is_once (codes "objects") items && (is_once (codes "journal") items && is_once (codes "explain") items))))))
 
 -- ---- the job of items that fit
 
@@ -213,7 +219,16 @@ command_of name =
 abbrev pub job_if_fits : Command → List Item → Option Job
 job_if_fits c items = if fits (line c) items then job c items (positionals items) else None
 
+-- explained where the items use `--explain`
+abbrev pub detail_of_items : List Item → Detail
+detail_of_items items = if nat_lt 0 (uses (codes "explain") items) then Explained else Plain
+
 -- the job of the words; none where they fit no line
 abbrev pub job_of : List Text → Option Job
 job_of [] = None
 job_of (name ∷ words) = option_and_then (λ c. option_and_then (job_if_fits c) (items None words)) (command_of name)
+
+-- explained where the words after the command use `--explain`; plain otherwise, also where they can't be cut into items
+abbrev pub detail_of : List Text → Detail
+detail_of [] = Plain
+detail_of (name ∷ words) = option_map_or detail_of_items (items None words) Plain

@@ -1,9 +1,9 @@
-ghost use Rattle.std.specs.Prelude.{◌≡◌, codes, drop, length};
-ghost use Rattle.dsu_cli.specs.Words.{command_of, item_fits, line, switch};
-ghost use Rattle.dsu_cli.specs.Fit.{has, next_fits};
+ghost use Rattle.std.specs.Prelude.{◌≡◌, drop, length};
+ghost use Rattle.dsu_cli.specs.Words.{command_of, item_fits, line};
+ghost use Rattle.dsu_cli.specs.Fit.{has, next_fits, use_of};
 
 use crate::number::{DIGITS, is_number};
-use crate::setting::{Setting, is_value};
+use crate::setting::{Setting, Switch, is_value};
 
 /// The most digits of a seed.
 pub const SEED_DIGITS: usize = 19;
@@ -43,7 +43,7 @@ impl Command {
         }
     }
 
-    /// Whether it has the option.
+    /// Whether it has this option with a value.
     pub fn has(self, setting: Setting) -> bool
         ensures { result ≡ has self setting }
     {
@@ -54,11 +54,14 @@ impl Command {
         }
     }
 
-    /// Whether it has `--journal`.
-    pub fn has_journal(self) -> bool
-        ensures { result ≡ item_fits (line self) (switch (codes "journal")) }
+    /// Whether it has this option without a value.
+    pub fn has_switch(self, switch: Switch) -> bool
+        ensures { result ≡ item_fits (line self) (use_of switch) }
     {
-        matches!(self, Command::Run)
+        match switch {
+            Switch::Journal => matches!(self, Command::Run),
+            Switch::Explain => true,
+        }
     }
 
     /// Whether the word can be the positional at this place, counted from 0.

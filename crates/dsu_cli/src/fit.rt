@@ -1,9 +1,9 @@
-ghost use Rattle.std.specs.Prelude.{◌≡◌, IfSome, List, [], None, codes, option_map};
-ghost use Rattle.dsu_cli.specs.Words.{Line, Text as Word, behind_dashes, items, line, name_and_value, option, positional, switch};
-ghost use Rattle.dsu_cli.specs.Fit.{Steps, StepsTo, fits_items, fits_from, name_of};
+ghost use Rattle.std.specs.Prelude.{◌≡◌, IfSome, List, [], None, option_map};
+ghost use Rattle.dsu_cli.specs.Words.{Line, Text as Word, behind_dashes, items, line, name_and_value, option, positional};
+ghost use Rattle.dsu_cli.specs.Fit.{Steps, StepsTo, fits_items, fits_from, name_of, use_of};
 
 use crate::command::Command;
-use crate::setting::Setting;
+use crate::setting::{Setting, Switch};
 use dsu_io::Text;
 
 /// What the words read so far come to.
@@ -18,6 +18,7 @@ pub struct Seen {
     pub moves: bool,
     pub objects: bool,
     pub journal: bool,
+    pub explain: bool,
 }
 
 /// The most offers.
@@ -49,6 +50,7 @@ impl Seen {
             moves: false,
             objects: false,
             journal: false,
+            explain: false,
         }
     }
 
@@ -65,8 +67,8 @@ impl Seen {
         if let Some((name, value)) = name_and_value(text) {
             return self.with_value(command, Setting::of(name)?, value);
         }
-        if text == "journal" {
-            return self.with_journal(command);
+        if let Some(switch) = Switch::of(text) {
+            return self.with_switch(command, switch);
         }
         Some(Seen {
             waiting: Some(Setting::of(text)?),
@@ -120,18 +122,28 @@ impl Seen {
         }
     }
 
-    fn with_journal(self, command: Command) -> Option<Seen>
-        ensures steps { Steps (line command) self (switch (codes "journal")) result }
+    fn with_switch(self, command: Command, switch: Switch) -> Option<Seen>
+        ensures steps { Steps (line command) self (use_of switch) result }
         ensures waits { IfSome result (λ next. next.waiting ≡ None) }
     {
-        if !command.has_journal() || self.journal {
+        if !command.has_switch(switch) {
             return None;
         }
-        Some(Seen {
+        let seen = Seen {
             waiting: None,
-            journal: true,
             ..self
-        })
+        };
+        match switch {
+            Switch::Journal if !self.journal => Some(Seen {
+                journal: true,
+                ..seen
+            }),
+            Switch::Explain if !self.explain => Some(Seen {
+                explain: true,
+                ..seen
+            }),
+            _ => None,
+        }
     }
 
     /// Whether the words may end here.

@@ -52,7 +52,22 @@ pub enum Job {
     Gen(u64, u32),
 }
 
-/// Why there is no job.
+/// Whether a command explains what it does.
+#[derive(Clone, Copy)]
+pub enum Detail {
+    Plain,
+    /// As `--explain` asks.
+    Explained,
+}
+
+/// A job, and whether it is explained.
+#[derive(Drop)]
+pub struct Request {
+    pub job: Job,
+    pub detail: Detail,
+}
+
+/// Why there is no request.
 #[derive(Debug, Clone, Copy, PartialEq, Eq, Error)]
 pub enum CliFault {
     /// The words fit no line of the definition.

@@ -1,8 +1,8 @@
 //! The words of a command line.
 //!
-//! `read_words` answers the job that the words name, or that they fit no line of the definition in
-//! `specs/Words.antt`. That definition is what a reader must believe: one line a command, and the rules
-//! by which a word is an option, a value or a positional.
+//! `read_words` answers the job that the words name, and whether it is explained, or that they fit no line of
+//! the definition in `specs/Words.antt`. That definition is what a reader must believe: one line a command,
+//! and the rules by which a word is an option, a value or a positional.
 //!
 //! The words are tested first, without memory; the values of words that fit are then found by `clap`.
 //!
@@ -19,5 +19,5 @@ mod read;
 mod setting;
 mod sorted;
 
-pub use job::{CliFault, Job, Offer, ReplayJob, RunJob};
+pub use job::{CliFault, Detail, Job, Offer, ReplayJob, Request, RunJob};
 pub use read::read_words;

@@ -1,13 +1,15 @@
-ghost use Rattle.std.specs.Prelude.{◌≡◌, ◌<◌, ◌≤◌, ◌^◌, IfOk, IsErrOf, ◌↔◌, None, Some, codes, length, map, nat_lt, option_map, slice_get, true};
+ghost use Rattle.std.specs.Prelude.{◌≡◌, ◌<◌, ◌≤◌, ◌^◌, IfOk, IsErrOf, ◌↔◌, List, None, Some, codes, length, map, nat_lt, option_map, slice_get, true};
 ghost use Rattle.std.specs.List.{filter_map, list_all};
+ghost use Rattle.std.specs.Option.{option_map_or};
 ghost use Rattle.std.specs.Str.Parse.{digits_value};
-ghost use Rattle.dsu_cli.specs.Words.{is_number, is_offer, items, job_of, line, offer_of};
+ghost use Rattle.dsu_cli.specs.Words.{Item, detail_of, detail_of_items, is_number, is_offer, items, job_of, line, offer_of};
+ghost use Rattle.dsu_cli.specs.declared.job.Detail.TheVariants.{Plain};
 ghost use Rattle.dsu_cli.specs.Fit.{fits_items, job_of_items};
-ghost use Rattle.dsu_cli.specs.Sorted.{IsJobOf, IsRead, given};
+ghost use Rattle.dsu_cli.specs.Sorted.{IsJobOf, IsRead, Sorts, given};
 
 use crate::command::{Command, MOST_SEED, MOST_SIZE, SEED_DIGITS};
 use crate::fit::fit;
-use crate::job::{CliFault, Job, Offer, ReplayJob, RunJob};
+use crate::job::{CliFault, Detail, Job, Offer, ReplayJob, Request, RunJob};
 use crate::number::{DIGITS, number};
 use crate::setting::{MOST_LINES, MOST_MOVES, MOST_OBJECTS, MOST_WORKERS, file_and_lines};
 use crate::sorted::sorted;
@@ -19,12 +21,13 @@ const DEFAULT_MOVES: u32 = 1_000_000;
 
 const DEFAULT_OBJECTS: u32 = 4096;
 
-/// The job that the words after the program's name ask for.
+/// The job that the words after the program's name ask for, and whether they ask for it to be explained.
 ///
 /// `Usage` comes where they fit no line of the definition, before any memory is taken; `Memory` where it is
 /// refused for words that fit.
-pub fn read_words(alloc: Global, words: &[Text]) -> Result<Job, CliFault>
-    ensures job { IfOk result (λ job. job_of words.now ≡ Some job) }
+pub fn read_words(alloc: Global, words: &[Text]) -> Result<Request, CliFault>
+    ensures job { IfOk result (λ request. job_of words.now ≡ Some request.job) }
+    ensures detail { IfOk result (λ request. detail_of words.now ≡ request.detail) }
     ensures usage { IsErrOf result CliFault.Usage ↔ (job_of words.now ≡ None) }
 {
     let Some((name, words)) = words.split_first() else {
@@ -37,22 +40,26 @@ pub fn read_words(alloc: Global, words: &[Text]) -> Result<Job, CliFault>
         return Err(CliFault::Usage);
     }
     match read(alloc, command, words) {
-        Ok(job) => Ok(job),
+        Ok(request) => Ok(request),
         Err(_) => Err(CliFault::Memory),
     }
 }
 
-/// The job of words that fit.
-fn read(alloc: Global, command: Command, words: &[Text]) -> Result<Job, AllocError>
+/// What words that fit ask for.
+fn read(alloc: Global, command: Command, words: &[Text]) -> Result<Request, AllocError>
     requires { fits_items (line command) (items None words.now) ≡ true }
-    ensures { IfOk result (λ job. job_of_items command (items None words.now) ≡ Some job) }
+    ensures job { IfOk result (λ request. job_of_items command (items None words.now) ≡ Some request.job) }
+    ensures detail { IfOk result (λ request. option_map_or detail_of_items (items None words.now) Plain ≡ request.detail) }
 {
     let mut texts = Vec::new(alloc);
     for word in words {
         texts.push(word.as_str())?;
     }
     let matches = sorted(alloc, texts.as_slice())?;
-    job(alloc, command, &matches)
+    Ok(Request {
+        job: job(alloc, command, &matches)?,
+        detail: detail(&matches),
+    })
 }
 
 fn job(alloc: Global, command: Command, matches: &ArgMatches<'_>) -> Result<Job, AllocError>
@@ -66,7 +73,7 @@ fn job(alloc: Global, command: Command, matches: &ArgMatches<'_>) -> Result<Job,
             workers: number_of(matches, "workers", MOST_WORKERS),
             moves: number_of(matches, "moves", MOST_MOVES).unwrap_or(DEFAULT_MOVES),
             objects: number_of(matches, "objects", MOST_OBJECTS).unwrap_or(DEFAULT_OBJECTS),
-            journal: has_journal(matches),
+            journal: is_used(matches, "journal"),
         })),
         Command::Replay => Ok(Job::Replay(ReplayJob {
             file: file(alloc, matches, 0)?,
@@ -83,6 +90,17 @@ fn job(alloc: Global, command: Command, matches: &ArgMatches<'_>) -> Result<Job,
             let size = known_number(positional(matches, 1), DIGITS, 1, MOST_SIZE);
             Ok(Job::Gen(seed, size as u32))
         }
+    }
+}
+
+/// Explained where the words use `--explain`.
+fn detail(matches: &ArgMatches<'_>) -> Detail
+    ensures { (its : List Item) → Sorts its matches.now → detail_of_items its ≡ result }
+{
+    if is_used(matches, "explain") {
+        Detail::Explained
+    } else {
+        Detail::Plain
     }
 }
 
@@ -122,10 +140,11 @@ fn number_of(matches: &ArgMatches<'_>, id: &str, most: u64) -> Option<u32>
     }
 }
 
-fn has_journal(matches: &ArgMatches<'_>) -> bool
-    ensures { result ≡ nat_lt 0 (length (given (codes "journal") matches.now)) }
+/// Whether the words use an option.
+fn is_used(matches: &ArgMatches<'_>, id: &str) -> bool
+    ensures { result ≡ nat_lt 0 (length (given id.now matches.now)) }
 {
-    matches.get_str("journal").is_some()
+    matches.get_str(id).is_some()
 }
 
 fn offers(alloc: Global, matches: &ArgMatches<'_>) -> Result<List<Offer>, AllocError>

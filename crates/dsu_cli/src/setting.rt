@@ -1,6 +1,6 @@
 ghost use Rattle.std.specs.Prelude.{◌≡◌, option_map};
 ghost use Rattle.dsu_cli.specs.Words.{file_and_lines, is_offer, is_value};
-ghost use Rattle.dsu_cli.specs.Fit.{setting_of, value_test};
+ghost use Rattle.dsu_cli.specs.Fit.{setting_of, switch_of, value_test};
 
 use crate::number::{DIGITS, is_number};
 
@@ -12,7 +12,7 @@ pub const MOST_OBJECTS: u64 = 65_536;
 /// The most printed lines after which an offer is made.
 pub const MOST_LINES: u64 = 1_000_000;
 
-/// The options that have a value.
+/// The options with a value.
 #[derive(Clone, Copy)]
 pub enum Setting {
     Offer,
@@ -44,6 +44,26 @@ impl Setting {
             Setting::Workers => is_number(word, DIGITS, 1, MOST_WORKERS),
             Setting::Moves => is_number(word, DIGITS, 1, MOST_MOVES),
             Setting::Objects => is_number(word, DIGITS, 1, MOST_OBJECTS),
+        }
+    }
+}
+
+/// The options without a value.
+#[derive(Clone, Copy)]
+pub enum Switch {
+    Journal,
+    Explain,
+}
+
+impl Switch {
+    /// The option of this name.
+    pub fn of(name: &str) -> Option<Switch>
+        ensures { result ≡ switch_of name.now }
+    {
+        match name {
+            "journal" => Some(Switch::Journal),
+            "explain" => Some(Switch::Explain),
+            _ => None,
         }
     }
 }

@@ -34,7 +34,8 @@ fn parser<'a>(alloc: Global) -> Result<Command<'a>, AllocError>
         .arg(option(alloc, "workers"))?
         .arg(option(alloc, "moves"))?
         .arg(option(alloc, "objects"))?
-        .arg(switch(alloc, "journal"))
+        .arg(switch(alloc, "journal"))?
+        .arg(switch(alloc, "explain"))
 }
 
 fn files<'a>(alloc: Global) -> Arg<'a>

@@ -13,13 +13,13 @@ use Rattle.dsu_report.specs.declared.fault.FaultLine.TheVariants.{Usage, Place, 
 -- the usage text
 unfoldable pub usage_text : List ℕ
 usage_text =
-    codes "usage: ginseng run FILE [--offer FILE@LINES]... [--workers W] [--moves N] [--objects N] [--journal]\n"
-    ++ codes "       ginseng replay FILE JOURNAL [--offer FILE@LINES]... [--objects N]\n"
-    ++ codes "       ginseng check FILE\n"
-    ++ codes "       ginseng effects FILE\n"
-    ++ codes "       ginseng changes OLD NEW\n"
-    ++ codes "       ginseng gen SEED SIZE\n"
-    ++ codes "       ginseng admits OLD NEW\n"
+    codes "usage: ginseng run FILE [--offer FILE@LINES]... [--workers W] [--moves N] [--objects N] [--journal] [--explain]\n"
+    ++ codes "       ginseng replay FILE JOURNAL [--offer FILE@LINES]... [--objects N] [--explain]\n"
+    ++ codes "       ginseng check FILE [--explain]\n"
+    ++ codes "       ginseng effects FILE [--explain]\n"
+    ++ codes "       ginseng changes OLD NEW [--explain]\n"
+    ++ codes "       ginseng gen SEED SIZE [--explain]\n"
+    ++ codes "       ginseng admits OLD NEW [--explain]\n"
 
 -- the words of a fault of the types
 abbrev pub kind_word : TypeKind → List ℕ

@@ -10,13 +10,13 @@ use itoa::Buffer;
 
 /// What standard error has where the words name no command.
 pub const USAGE: &str = "\
-usage: ginseng run FILE [--offer FILE@LINES]... [--workers W] [--moves N] [--objects N] [--journal]
-       ginseng replay FILE JOURNAL [--offer FILE@LINES]... [--objects N]
-       ginseng check FILE
-       ginseng effects FILE
-       ginseng changes OLD NEW
-       ginseng gen SEED SIZE
-       ginseng admits OLD NEW
+usage: ginseng run FILE [--offer FILE@LINES]... [--workers W] [--moves N] [--objects N] [--journal] [--explain]
+       ginseng replay FILE JOURNAL [--offer FILE@LINES]... [--objects N] [--explain]
+       ginseng check FILE [--explain]
+       ginseng effects FILE [--explain]
+       ginseng changes OLD NEW [--explain]
+       ginseng gen SEED SIZE [--explain]
+       ginseng admits OLD NEW [--explain]
 ";
 
 /// Writes the line of a fault at a place.

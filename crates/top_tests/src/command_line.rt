@@ -2,8 +2,9 @@
 //! and as many offers as there may be, with answers written by hand.
 //!
 //! A row is words that single blanks separate (two blanks make an empty word), and, of words that fit, ` => ` and the job that
-//! they name. `¶` separates rows. A table of as many texts as there are rows would be dear to prove.
-use dsu_cli::{CliFault, Job, Offer, ReplayJob, RunJob, read_words};
+//! they name, with ` explained` behind it where it is to be explained. `¶` separates rows. A table of as many texts as there
+//! are rows would be dear to prove.
+use dsu_cli::{CliFault, Detail, Job, Offer, ReplayJob, Request, RunJob, read_words};
 use dsu_io::Text;
 use std::alloc::{AllocError, Global};
 use std::process::Abort;
@@ -73,18 +74,27 @@ fn job_shown(alloc: Global, job: &Job) -> Option<String> {
     }
 }
 
-/// The job that some words name.
-fn job_of(alloc: Global, words: &[Text]) -> Result<Job, CliFault> {
+/// A request, printed: its job, and whether it is explained.
+fn request_shown(alloc: Global, request: &Request) -> Option<String> {
+    let mut shown = job_shown(alloc, &request.job)?;
+    if let Detail::Explained = request.detail {
+        shown.push_str(" explained").ok()?;
+    }
+    Some(shown)
+}
+
+/// What some words ask for.
+fn request_of(alloc: Global, words: &[Text]) -> Result<Request, CliFault> {
     read_words(alloc, words)
 }
 
-/// Whether a row's words name its job.
+/// Whether a row's words ask for what it says.
 fn is_named(alloc: Global, row: &str) -> Option<bool> {
     let (text, want) = row.split_once(" => ")?;
     let words = words_of(alloc, text).ok()?;
-    let job = job_of(alloc, &words).ok()?;
-    let shown = job_shown(alloc, &job);
-    drop(job);
+    let request = request_of(alloc, &words).ok()?;
+    let shown = request_shown(alloc, &request);
+    drop(request);
     Some(shown?.as_str() == want)
 }
 
@@ -127,7 +137,11 @@ static RUNS: &str = "\
     run offer --journal => run offer None 1000000 4096 true.¶\
     run journal => run journal None 1000000 4096 false.¶\
     run files --offer files@1 => run files None 1000000 4096 false, files after 1.¶\
-    run a.c --workers 1 --moves 1 --objects 1 => run a.c Some(1) 1 1 false.";
+    run a.c --workers 1 --moves 1 --objects 1 => run a.c Some(1) 1 1 false.¶\
+    run a.c --explain => run a.c None 1000000 4096 false. explained¶\
+    run --explain a.c --journal => run a.c None 1000000 4096 true. explained¶\
+    run --journal --explain --moves=5 a.c --offer b.c@1 => run a.c None 5 4096 true, b.c after 1. explained¶\
+    run explain => run explain None 1000000 4096 false.";
 
 #[test]
 fn words_name_their_runs(rt: HostRuntime) {
@@ -153,7 +167,15 @@ static OTHERS: &str = "\
     gen 0 1 => gen 0 1.¶\
     gen 9223372036854775807 2 => gen 9223372036854775807 2.¶\
     gen 0000000000000000007 0000003 => gen 7 3.¶\
-    gen 1 7 => gen 1 7.";
+    gen 1 7 => gen 1 7.¶\
+    replay --explain a.c a.j => replay a.c a.j 4096. explained¶\
+    replay a.c a.j --objects 9 --explain => replay a.c a.j 9. explained¶\
+    check a.c --explain => check a.c. explained¶\
+    check explain => check explain.¶\
+    effects --explain a.c => effects a.c. explained¶\
+    changes a.c --explain b.c => changes a.c b.c. explained¶\
+    admits --explain a.c b.c => admits a.c b.c. explained¶\
+    gen 7 --explain 200 => gen 7 200. explained";
 
 #[test]
 fn words_name_their_other_jobs(rt: HostRuntime) {
@@ -190,7 +212,17 @@ static WRONG: [&str; 5] = [
     run a.c --journal=x¶\
     run a.c --journal=¶\
     run a.c --journal x¶\
-    run a.c --journal --journal",
+    run a.c --journal --journal¶\
+    run --explain¶\
+    run a.c --explain=x¶\
+    run a.c --explain=¶\
+    run a.c --explain x¶\
+    run a.c --explain --explain¶\
+    run a.c --explain --journal --explain¶\
+    run a.c --explains¶\
+    run a.c --Explain¶\
+    run a.c -explain¶\
+    --explain run a.c",
     // Workers.
     "\
     run a.c --workers¶\
@@ -209,6 +241,7 @@ static WRONG: [&str; 5] = [
     run a.c --workers 0x1¶\
     run a.c --workers=1=1¶\
     run a.c --workers --journal¶\
+    run a.c --workers --explain¶\
     run a.c --workers --moves 1¶\
     run --workers a.c",
     // Moves and objects.
@@ -284,13 +317,25 @@ static WRONG: [&str; 5] = [
     gen 9223372036854775808 1¶\
     gen 00000000000000000007 1¶\
     gen -7 1¶\
-    gen 7 1 1",
+    gen 7 1 1¶\
+    replay a.c --explain¶\
+    replay a.c a.j --explain a.j¶\
+    check --explain¶\
+    check a.c --explain=¶\
+    check a.c --explain x¶\
+    check --explain a.c --explain¶\
+    effects a.c --explain=1¶\
+    changes a.c --explain¶\
+    changes a.c b.c --explain c.c¶\
+    admits a.c b.c --explain --explain¶\
+    gen 7 --explain¶\
+    gen 7 1 --explain=true",
 ];
 
 /// The fault of some words, where they have one.
 fn fault_of(alloc: Global, text: &str) -> Result<Option<CliFault>, AllocError> {
     let words = words_of(alloc, text)?;
-    Ok(job_of(alloc, &words).err())
+    Ok(request_of(alloc, &words).err())
 }
 
 /// Stops the test at the first row whose words fit a line.
@@ -306,7 +351,7 @@ fn other_words_fit_no_line(rt: HostRuntime) -> Result<(), AllocError> {
     for rows in WRONG.iter() {
         are_wrong(&rt, rt.alloc(), rows)?;
     }
-    assert!(rt; job_of(rt.alloc(), &[]).err() == Some(CliFault::Usage));
+    assert!(rt; request_of(rt.alloc(), &[]).err() == Some(CliFault::Usage));
     Ok(())
 }
 
@@ -322,15 +367,17 @@ fn words_with_offers(alloc: Global, count: usize) -> Result<Vec<Text>, AllocErro
 #[test]
 fn a_run_has_at_most_63_offers(rt: HostRuntime) -> Result<(), AllocError> {
     let words = words_with_offers(rt.alloc(), 63)?;
-    let most = job_of(rt.alloc(), &words);
-    assert!(rt; matches!(&most, Ok(Job::Run(job)) if job.offers.as_slice().len() == 63));
+    let most = request_of(rt.alloc(), &words);
+    assert!(rt;
+        matches!(&most, Ok(Request { job: Job::Run(job), .. }) if job.offers.as_slice().len() == 63)
+    );
     Ok(())
 }
 
 #[test]
 fn a_run_has_no_64_offers(rt: HostRuntime) -> Result<(), AllocError> {
     let words = words_with_offers(rt.alloc(), 64)?;
-    let more = job_of(rt.alloc(), &words).err();
+    let more = request_of(rt.alloc(), &words).err();
     assert!(rt; more == Some(CliFault::Usage));
     Ok(())
 }

@@ -12,13 +12,13 @@ use dsu_report::{
 use std::alloc::AllocError;
 
 const USAGE: &str = "\
-usage: ginseng run FILE [--offer FILE@LINES]... [--workers W] [--moves N] [--objects N] [--journal]
-       ginseng replay FILE JOURNAL [--offer FILE@LINES]... [--objects N]
-       ginseng check FILE
-       ginseng effects FILE
-       ginseng changes OLD NEW
-       ginseng gen SEED SIZE
-       ginseng admits OLD NEW
+usage: ginseng run FILE [--offer FILE@LINES]... [--workers W] [--moves N] [--objects N] [--journal] [--explain]
+       ginseng replay FILE JOURNAL [--offer FILE@LINES]... [--objects N] [--explain]
+       ginseng check FILE [--explain]
+       ginseng effects FILE [--explain]
+       ginseng changes OLD NEW [--explain]
+       ginseng gen SEED SIZE [--explain]
+       ginseng admits OLD NEW [--explain]
 ";
 
 /// Faults in the file `d/f.c`, and their lines.

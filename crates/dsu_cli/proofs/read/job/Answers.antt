@@ -30,7 +30,7 @@ returns-in_ok-offers-in-Run c its sorts fit =
     ap (λ k. job k its (positionals its)) c.in-Run.is
     ∙ run_is its c.args.matches.now sorts _ _ _ _ _ _ fit_run c.in_ok-file-in-Run.ensures c.in_ok-offers-in-Run.ensures c.number_of.ensures
     (c.unwrap_or.ensures ∙ ap (λ o. unwrap_or o 1000000) c.number_of-in-Run.ensures)
-    (c.unwrap_or-in-Run.ensures ∙ ap (λ o. unwrap_or o 4096) c.number_of-in-Run-2.ensures) c.has_journal.ensures
+    (c.unwrap_or-in-Run.ensures ∙ ap (λ o. unwrap_or o 4096) c.number_of-in-Run-2.ensures) c.is_used.ensures
 
 pub returns-in_ok-offers-in-Replay : goal.returns-in_ok-offers-in-Replay
 returns-in_ok-offers-in-Replay c its sorts fit =

@@ -1,6 +1,7 @@
-use Rattle.std.proofs.Common.{sym, subst, List}
-use Rattle.std.proofs.lemmas.Result.{IfOk-weaker}
-use Rattle.dsu_cli.specs.Words.{Text}
+use Rattle.std.proofs.Common.{◌∙◌, sym, ap, subst, List}
+use Rattle.std.specs.Option.{option_map_or}
+use Rattle.dsu_cli.specs.declared.job.Detail.TheVariants.{Plain}
+use Rattle.dsu_cli.specs.Words.{Text, detail_of_items}
 use Rattle.dsu_cli.specs.Sorted.{AreKnown}
 use Rattle.dsu_cli.proofs.Jobs.{all_words, fitting, job_read}
 use Rattle.dsu_cli.proofs.read.read.Goals as goal
@@ -17,9 +18,16 @@ job-requires c =
     let h = fitting c.args.command c.args.words.now c.requires in
     record { its = h.its; sorts = c.in_ok-matches.ensures h.its (subst (λ (ws : List Text). AreKnown ws h.its) (sym words) h.known); fit = h.fit }
 
-pub returns : goal.returns
-returns c =
+pub returns-clause-job : goal.returns-clause-job
+returns-clause-job c =
     let words = all_words c.as_slice.result.now c.loop-word.texts.items c.args.words.now c.loop-word.word-index c.as_slice.ensures.value c.loop-word.invariant c.loop-word-test.false in
     let h = fitting c.args.command c.args.words.now c.requires in
     let sorts = c.in_ok-matches.ensures h.its (subst (λ (ws : List Text). AreKnown ws h.its) (sym words) h.known) in
-    IfOk-weaker c.job.result _ _ (λ j is. job_read c.args.command c.args.words.now h.its j h.known.are h.fit (is h.its sorts h.fit)) c.job.ensures
+    job_read c.args.command c.args.words.now h.its _ h.known.are h.fit (c.in_ok-job.ensures h.its sorts h.fit)
+
+pub returns-clause-detail : goal.returns-clause-detail
+returns-clause-detail c =
+    let words = all_words c.as_slice.result.now c.loop-word.texts.items c.args.words.now c.loop-word.word-index c.as_slice.ensures.value c.loop-word.invariant c.loop-word-test.false in
+    let h = fitting c.args.command c.args.words.now c.requires in
+    let sorts = c.in_ok-matches.ensures h.its (subst (λ (ws : List Text). AreKnown ws h.its) (sym words) h.known) in
+    ap (λ o. option_map_or detail_of_items o Plain) h.known.are ∙ c.detail.ensures h.its sorts
