@@ -27,7 +27,11 @@ pub(crate) fn wrong_count(
     }
     draft.say(", and ")?;
     draft.number(given)?;
-    draft.say(if given == 1 { " is given" } else { " are given" })?;
+    draft.say(if given == 1 {
+        " is given"
+    } else {
+        " are given"
+    })?;
     Ok(draft)
 }
 
@@ -169,7 +173,10 @@ pub(crate) fn bad_format(
     let found = conversions(tokens, number);
     let given = counted(tokens, number).commas;
     if found.has_other {
-        return Draft::of(alloc, "a format has the conversions %d, %u, %ld, %lu and %%, and no others");
+        return Draft::of(
+            alloc,
+            "a format has the conversions %d, %u, %ld, %lu and %%, and no others",
+        );
     }
     if found.count == given {
         return Draft::of(

@@ -15,6 +15,7 @@ pub(crate) struct Excerpt<'a> {
 
 /// At most so many bytes of the line before the place are shown, and at most so many from it on.
 const MOST_BEFORE: usize = 80;
+
 const MOST_AFTER: usize = 60;
 
 /// Where the line of a place begins.

@@ -8,7 +8,10 @@ use std::alloc::{AllocError, Global};
 pub(crate) fn bad_byte(alloc: Global, rest: &[u8]) -> Result<Draft, AllocError> {
     match rest {
         [b'/', b'*', ..] => Draft::of(alloc, "this comment has no end"),
-        [b'#', ..] => Draft::of(alloc, "a '#' begins an include line, with blanks alone before it"),
+        [b'#', ..] => Draft::of(
+            alloc,
+            "a '#' begins an include line, with blanks alone before it",
+        ),
         [first, ..] => of_first(alloc, *first),
         [] => Draft::of(alloc, "no token begins here"),
     }
@@ -126,9 +129,11 @@ fn of_digits(word: &[u8], digits: Digits) -> &'static str {
         return "no type holds a number of this size";
     }
     match digits {
-        Digits::Decimal => "after the digits of a number comes at most one suffix of u, l, ul or lu",
+        Digits::Decimal =>
+            "after the digits of a number comes at most one suffix of u, l, ul or lu",
         Digits::Octal => "a number that begins with 0 is octal: its digits are 0 to 7",
-        Digits::Hexadecimal => "after 0x come hexadecimal digits, and at most one suffix of u, l, ul or lu",
+        Digits::Hexadecimal =>
+            "after 0x come hexadecimal digits, and at most one suffix of u, l, ul or lu",
     }
 }
 

@@ -4,7 +4,9 @@ use c_tree::{Array, DefKind, Function, Program};
 use std::alloc::{AllocError, Global};
 
 const MOST_TOKENS: usize = 4096;
+
 const MOST_PARAMETERS: usize = 8;
+
 const MOST_FIELDS: usize = 16;
 
 /// Which limit a definition at a place is over.
@@ -14,13 +16,20 @@ pub(crate) fn over_limit(alloc: Global, program: &Program, at: usize) -> Result<
             return of_definition(alloc, &one.kind);
         }
     }
-    Draft::of(alloc, "this is larger than a limit allows: see docs/language.md")
+    Draft::of(
+        alloc,
+        "this is larger than a limit allows: see docs/language.md",
+    )
 }
 
 fn of_definition(alloc: Global, kind: &DefKind) -> Result<Draft, AllocError> {
     match kind {
         DefKind::Function(function) => of_function(alloc, function),
-        DefKind::Struct(name, members) => of_struct(alloc, name.text.as_str(), members.as_slice().len()),
+        DefKind::Struct(name, members) => of_struct(
+            alloc,
+            name.text.as_str(),
+            members.as_slice().len(),
+        ),
         DefKind::Array(array) => of_array(alloc, array),
         DefKind::TransformStruct(_) | DefKind::TransformGlobal(_, _) => Draft::of(
             alloc,
@@ -47,7 +56,9 @@ fn of_function(alloc: Global, function: &Function) -> Result<Draft, AllocError> 
     }
     let mut draft = Draft::new(alloc);
     draft.word(name)?;
-    draft.say(" has more than 64 variables, or an expression that needs more than 64 operands at once")?;
+    draft.say(
+        " has more than 64 variables, or an expression that needs more than 64 operands at once",
+    )?;
     Ok(draft)
 }
 
@@ -61,7 +72,9 @@ fn of_struct(alloc: Global, tag: &str, fields: usize) -> Result<Draft, AllocErro
 fn of_array(alloc: Global, array: &Array) -> Result<Draft, AllocError> {
     let mut draft = Draft::new(alloc);
     draft.word(array.name.text.as_str())?;
-    draft.say(" has no elements or more than 65536, or the globals up to here have more than 65536 cells")?;
+    draft.say(
+        " has no elements or more than 65536, or the globals up to here have more than 65536 cells",
+    )?;
     Ok(draft)
 }
 

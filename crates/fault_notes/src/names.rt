@@ -28,7 +28,10 @@ pub(crate) fn unknown_name(
     }
     draft.say("nothing declares ")?;
     draft.word(word)?;
-    say_nearest(&mut draft, nearest(alloc, tokens, word, sort_at(tokens, number))?)?;
+    say_nearest(
+        &mut draft,
+        nearest(alloc, tokens, word, sort_at(tokens, number))?,
+    )?;
     Ok(draft)
 }
 
@@ -113,7 +116,11 @@ fn declares(tokens: &[Token], number: usize, word: &str) -> bool {
 
 /// How many edits a name may be away from a word to be its nearest: none from a word of one or two bytes.
 fn most_edits(word: &str) -> usize {
-    if word.len() < 3 { 0 } else { 1 + word.len() / 4 }
+    if word.len() < 3 {
+        0
+    } else {
+        1 + word.len() / 4
+    }
 }
 
 /// The name that the text declares that is nearest to a word and is written as it is.
@@ -129,7 +136,9 @@ fn nearest<'a>(
         return Ok(None);
     }
     for number in 0..tokens.len() {
-        if is_declared(tokens, number) && (sort_at(tokens, number) == Sort::Tag) == (sort == Sort::Tag) {
+        if is_declared(tokens, number)
+            && (sort_at(tokens, number) == Sort::Tag) == (sort == Sort::Tag)
+        {
             let name = tokens[number].text.as_str();
             let edits = edits_between(alloc, name, word)?;
             if edits < least {

@@ -26,7 +26,11 @@ pub fn notes_of(
     let excerpt = excerpt(text, at);
     let lead = lead(alloc, &excerpt)?;
     let mut notes = Vec::new(alloc);
-    let shown: [&[u8]; 3] = [excerpt.left.as_bytes(), excerpt.bytes, excerpt.right.as_bytes()];
+    let shown: [&[u8]; 3] = [
+        excerpt.left.as_bytes(),
+        excerpt.bytes,
+        excerpt.right.as_bytes(),
+    ];
     add_line(&mut notes, mark, &shown)?;
     add_line(&mut notes, mark, &[lead.as_slice(), b"^"])?;
     add_line(&mut notes, mark, &[message.as_slice()])?;

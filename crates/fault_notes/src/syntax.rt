@@ -6,28 +6,42 @@ use c_parser::parse;
 use std::alloc::{AllocError, Global};
 
 /// The tokens that are tried at the place of a fault: one of each sort.
-const CANDIDATES: &[u8] = b"; , ) ] } : = ( [ { -> & / * else while struct void sizeof mtx_plain \"\" x 1 int if";
+const CANDIDATES: &[u8] =
+    b"; , ) ] } : = ( [ { -> & / * else while struct void sizeof mtx_plain \"\" x 1 int if";
 
 /// The places among these of the ones that stand for a whole sort, or that another one implies.
 const SEMICOLON: usize = 0;
+
 const PARENTHESIS: usize = 7;
+
 const BRACE: usize = 9;
+
 const AMPERSAND: usize = 11;
+
 const OPERATOR: usize = 12;
+
 const STAR: usize = 13;
+
 const WHILE: usize = 15;
+
 const STRUCT: usize = 16;
+
 const VOID: usize = 17;
+
 const STRING: usize = 20;
+
 const NAME: usize = 21;
+
 const NUMBER: usize = 22;
+
 const TYPE: usize = 23;
+
 const STATEMENT: usize = 24;
 
 /// The keywords of C that the grammar uses.
 const USED: [&str; 18] = [
-    "break", "char", "continue", "do", "else", "for", "if", "int", "long", "return", "short", "signed",
-    "sizeof", "static", "struct", "unsigned", "void", "while",
+    "break", "char", "continue", "do", "else", "for", "if", "int", "long", "return", "short",
+    "signed", "sizeof", "static", "struct", "unsigned", "void", "while",
 ];
 
 /// What is wrong at the token of a number, or at the end of the text: which token is there, and what could be.

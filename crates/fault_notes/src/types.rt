@@ -68,7 +68,8 @@ fn of_word(alloc: Global, kind: TypeKind, found: Option<&Token>) -> Result<Draft
 /// The rule that is broken, said of the word at the place.
 fn rule_of(kind: TypeKind, word: &str) -> &'static str {
     match kind {
-        TypeKind::NotPlace => " begins no variable, element or field: only these can be assigned and stepped",
+        TypeKind::NotPlace =>
+            " begins no variable, element or field: only these can be assigned and stepped",
         TypeKind::OutsideLoop => " needs a loop around it",
         TypeKind::NoMain => " is to be a function without parameters that returns int",
         TypeKind::LeavesTransaction => " would leave the dsu_tx block",

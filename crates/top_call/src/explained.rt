@@ -1,16 +1,16 @@
 //! Calls that explain what they report.
-ghost use Rattle.std.specs.Prelude.{◌≡◌, ◌⊎◌, ℕ, List, []};
+ghost use Rattle.std.specs.Prelude.{◌≡◌, ◌⊎◌, ℕ, List, [], None, IfOk, IfSome};
 ghost use Rattle.dsu_report.specs.declared.fault.FaultLine.{FaultLine as Line};
 ghost use Rattle.dsu_commands.specs.Answers.{IsDone, IsExcused};
-ghost use Rattle.dsu_commands.specs.Calls.{Call, call_of, output_of};
+ghost use Rattle.dsu_commands.specs.Calls.{call_of, output_of};
 ghost use Rattle.dsu_commands.specs.Jobs.{IsKnownFault, IsReady};
 ghost use Rattle.fault_notes.specs.Notes.{AreNotes};
-ghost use Rattle.top_call.specs.Explained.{Explains, Reported, StoppedNoted, Unended, fault_mark, unwritten};
+ghost use Rattle.top_call.specs.Explained.{Explains, StoppedNoted, fault_mark, unwritten};
 ghost use Rattle.top_call.specs.Words.{IsInRange};
 
 use crate::job::done;
 use crate::report::Report;
-use c_front::{TextFault, read_text};
+use c_front::{FaultKind, TextFault, read_text};
 use dsu_cli::{Job, Offer};
 use dsu_commands::Outcome;
 use dsu_io::{Files, Sink, put_all};
@@ -56,7 +56,14 @@ pub(crate) fn explained<F: Files, O: Sink, E: Sink>(
 }
 
 /// What a call hands back whose report couldn't be written.
-fn unwritten<O>(alloc: Global, outcome: Outcome<O>) -> Outcome<O> {
+fn unwritten<O>(alloc: Global, outcome: Outcome<O>) -> Outcome<O>
+    ensures status { result.status ≡ unwritten outcome.status }
+    ensures out { result.out ≡ outcome.out }
+    ensures history { result.history ≡ outcome.history }
+    ensures ending { result.ending ≡ None }
+    ensures answers { result.answers.items ≡ [] }
+    ensures installed { result.installed ≡ None }
+{
     let status = if outcome.status <= 3 {
         FaultLine::Write.status()
     } else {
@@ -66,7 +73,14 @@ fn unwritten<O>(alloc: Global, outcome: Outcome<O>) -> Outcome<O> {
 }
 
 /// The same with another status, and without an ending.
-fn unended<O>(alloc: Global, outcome: Outcome<O>, status: u8) -> Outcome<O> {
+fn unended<O>(alloc: Global, outcome: Outcome<O>, status: u8) -> Outcome<O>
+    ensures status { result.status ≡ status }
+    ensures out { result.out ≡ outcome.out }
+    ensures history { result.history ≡ outcome.history }
+    ensures ending { result.ending ≡ None }
+    ensures answers { result.answers.items ≡ [] }
+    ensures installed { result.installed ≡ None }
+{
     Outcome {
         status,
         out: outcome.out,
@@ -168,7 +182,7 @@ fn line_of(
     alloc: Global,
     name: &str,
     text: &[u8],
-    wrong: c_front::FaultKind,
+    wrong: FaultKind,
     at: usize,
 ) -> Result<Report, AllocError> {
     let mut line = Report::new(alloc);

@@ -1,8 +1,5 @@
 //! A report that is kept in memory until it is written.
-ghost use Rattle.std.specs.Prelude.{◌≡◌, ◌<◌, ◌→◌, length, IfOk, Some};
-ghost use Rattle.std.specs.Io.{WritesAtMost};
-ghost use Rattle.std.specs.Io.KnownBytes.{WriteAppends};
-ghost use Rattle.dsu_io.specs.Causes.{HasCause};
+ghost use Rattle.std.specs.Prelude.{◌≡◌, [], Some, nat_lt};
 
 use dsu_io::{Failed, Sink};
 use std::alloc::Global;
