@@ -1,6 +1,6 @@
 -- Lines that explain another line. Each begins with a mark, by which a reader knows it.
-use Rattle.std.specs.Prelude.{◌≡◌, ◌≢◌, ℕ, ◌==◌, nat_lt, not, Bool, ◌&&◌, ◌||◌, List, [], ◌∷◌, ◌++◌, map, codes, All, if◌then◌else◌}
-use Rattle.std.specs.List.{flat_map}
+use Rattle.std.specs.Prelude.{◌≡◌, ℕ, ◌==◌, nat_lt, not, Bool, ◌&&◌, ◌||◌, List, ◌++◌, map, codes, false, if◌then◌else◌}
+use Rattle.std.specs.List.{flat_map, list_any}
 
 -- a byte that a line can't show: one that controls a terminal, but for the tab
 abbrev pub is_control : ℕ → Bool
@@ -21,4 +21,4 @@ pub record AreNotes (mark text : List ℕ) : Type 0 where
 
 -- a line of a note ends with the only newline that it has after its mark
 abbrev pub LinesEnd : Type 0
-LinesEnd = (bytes : List ℕ) → All (λ b. b ≢ 10) (map shown bytes)
+LinesEnd = (bytes : List ℕ) → list_any (λ b. b == 10) (map shown bytes) ≡ false

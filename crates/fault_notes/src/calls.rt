@@ -55,7 +55,7 @@ enum Bracket {
     Neither,
 }
 
-fn bracket(word: &str) -> Bracket {
+fn bracket_of(word: &str) -> Bracket {
     match word {
         "(" | "[" | "{" => Bracket::Opens,
         ")" | "]" | "}" => Bracket::Closes,
@@ -70,7 +70,7 @@ struct Counted {
     tokens: usize,
 }
 
-fn counted(tokens: &[Token], first: usize) -> Counted {
+fn count_from(tokens: &[Token], first: usize) -> Counted {
     let mut open: usize = 0;
     let mut found = Counted {
         commas: 0,
@@ -78,7 +78,7 @@ fn counted(tokens: &[Token], first: usize) -> Counted {
     };
     for number in first..tokens.len() {
         let word = tokens[number].text.as_str();
-        match bracket(word) {
+        match bracket_of(word) {
             Bracket::Opens => open = open.saturating_add(1),
             Bracket::Closes => {
                 if open == 0 {
@@ -99,7 +99,7 @@ fn counted(tokens: &[Token], first: usize) -> Counted {
 
 /// How many arguments come from a token on, up to the bracket that closes them.
 fn arguments_from(tokens: &[Token], first: usize) -> usize {
-    let found = counted(tokens, first);
+    let found = count_from(tokens, first);
     if found.tokens == 0 {
         0
     } else {
@@ -150,7 +150,7 @@ fn read_piece(found: &mut Conversions, piece: &str) {
 }
 
 /// The conversions of the strings from a token on.
-fn conversions(tokens: &[Token], first: usize) -> Conversions {
+fn conversions_from(tokens: &[Token], first: usize) -> Conversions {
     let mut found = Conversions {
         count: 0,
         has_other: false,
@@ -170,8 +170,8 @@ pub(crate) fn bad_format(
     tokens: &[Token],
     number: usize,
 ) -> Result<Draft, AllocError> {
-    let found = conversions(tokens, number);
-    let given = counted(tokens, number).commas;
+    let found = conversions_from(tokens, number);
+    let given = count_from(tokens, number).commas;
     if found.has_other {
         return Draft::of(
             alloc,

@@ -58,10 +58,8 @@ impl Draft {
     pub(crate) fn word(&mut self, word: &str) -> Result<(), AllocError> {
         let bytes = word.as_bytes();
         self.say("'")?;
-        if bytes.len() <= MOST_SHOWN {
-            self.text.extend_from_slice(bytes)?;
-        } else {
-            self.text.extend_from_slice(&bytes[..MOST_SHOWN])?;
+        self.text.extend_from_slice(first_bytes(bytes))?;
+        if bytes.len() > MOST_SHOWN {
             self.say("..")?;
         }
         self.say("'")
@@ -75,4 +73,10 @@ impl Draft {
     pub(crate) fn as_slice(&self) -> &[u8] {
         self.text.as_slice()
     }
+}
+
+/// The bytes of a word that a message shows.
+fn first_bytes(bytes: &[u8]) -> &[u8] {
+    let shown = bytes.len().min(MOST_SHOWN);
+    &bytes[..shown]
 }

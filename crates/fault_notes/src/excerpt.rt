@@ -6,12 +6,15 @@ use std::alloc::{AllocError, Global};
 /// The part of a line that is shown, and how many of its bytes come before the place.
 #[derive(Clone, Copy)]
 pub(crate) struct Excerpt<'a> {
-    pub bytes: &'a [u8],
-    pub before: usize,
-    /// What stands for bytes of the line that aren't shown, before the part and after it.
-    pub left: &'static str,
-    pub right: &'static str,
+    bytes: &'a [u8],
+    before: usize,
+    /// Whether bytes of the line aren't shown, before the part and after it.
+    is_cut_left: bool,
+    is_cut_right: bool,
 }
+
+/// What is shown for bytes that are left out.
+const CUT: &[u8] = b"..";
 
 /// At most so many bytes of the line before the place are shown, and at most so many from it on.
 const MOST_BEFORE: usize = 80;
@@ -23,13 +26,13 @@ fn line_start(text: &[u8], at: usize) -> usize
     requires { at ≤ length text.now }
     ensures { result ≤ at }
 {
-    let mut start = 0;
-    for place in 0..at {
-        if text[place] == b'\n' {
-            start = place + 1;
+    for back in 0..at {
+        let after = at - back;
+        if text[after - 1] == b'\n' {
+            return after;
         }
     }
-    start
+    0
 }
 
 /// Where it ends.
@@ -47,7 +50,7 @@ fn line_end(text: &[u8], at: usize) -> usize
 }
 
 /// The part of the line of a place that is shown.
-pub(crate) fn excerpt(text: &[u8], at: usize) -> Excerpt<'_> {
+pub(crate) fn excerpt_at(text: &[u8], at: usize) -> Excerpt<'_> {
     let at = at.min(text.len());
     let start = line_start(text, at);
     let end = line_end(text, at);
@@ -56,29 +59,43 @@ pub(crate) fn excerpt(text: &[u8], at: usize) -> Excerpt<'_> {
     Excerpt {
         bytes: &text[from..to],
         before: at - from,
-        left: if from > start { ".." } else { "" },
-        right: if to < end { ".." } else { "" },
+        is_cut_left: from > start,
+        is_cut_right: to < end,
     }
 }
 
-/// What leads to the caret: a blank for each character before it, and a tab for each tab.
-pub(crate) fn lead(alloc: Global, excerpt: &Excerpt) -> Result<Vec<u8>, AllocError> {
-    let mut lead = Vec::new(alloc);
-    for _ in 0..excerpt.left.len() {
-        lead.push(b' ')?;
+/// The line of the text as it is shown.
+pub(crate) fn line_of(alloc: Global, excerpt: Excerpt<'_>) -> Result<Vec<u8>, AllocError> {
+    let mut line = Vec::new(alloc);
+    if excerpt.is_cut_left {
+        line.extend_from_slice(CUT)?;
+    }
+    line.extend_from_slice(excerpt.bytes)?;
+    if excerpt.is_cut_right {
+        line.extend_from_slice(CUT)?;
+    }
+    Ok(line)
+}
+
+/// The line with the caret: a blank for each character before it, and a tab for each tab.
+pub(crate) fn caret_of(alloc: Global, excerpt: Excerpt<'_>) -> Result<Vec<u8>, AllocError> {
+    let mut line = Vec::new(alloc);
+    if excerpt.is_cut_left {
+        line.extend_from_slice(b"  ")?;
     }
     for place in 0..excerpt.before.min(excerpt.bytes.len()) {
-        add_blank(&mut lead, excerpt.bytes[place])?;
+        add_blank(&mut line, excerpt.bytes[place])?;
     }
-    Ok(lead)
+    line.push(b'^')?;
+    Ok(line)
 }
 
 /// Adds what is below a byte. The further bytes of a UTF-8 character take no column.
-fn add_blank(lead: &mut Vec<u8>, above: u8) -> Result<(), AllocError> {
+fn add_blank(line: &mut Vec<u8>, above: u8) -> Result<(), AllocError> {
     if above == b'\t' {
-        lead.push(b'\t')?;
+        line.push(b'\t')?;
     } else if above & 0xC0 != 0x80 {
-        lead.push(b' ')?;
+        line.push(b' ')?;
     }
     Ok(())
 }

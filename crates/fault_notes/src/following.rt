@@ -1,5 +1,5 @@
 //! The tokens that could come at a place.
-ghost use Rattle.std.specs.Prelude.{◌↔◌, ◌∷◌, ◌++◌, [], IfOk, IsTrue};
+ghost use Rattle.std.specs.Prelude.{◌≡◌, ◌↔◌, ◌∷◌, ◌++◌, [], IfOk, IsTrue};
 ghost use Rattle.fault_notes.specs.Expected.{AreTried, BeginsProgram};
 
 use c_expr_parser::SyntaxFault;
@@ -7,7 +7,7 @@ use c_lexer::Token;
 use c_parser::parse;
 use std::alloc::{AllocError, Global};
 
-/// Whether some tokens begin a program, none of them too deep.
+/// Whether none of some tokens has a fault.
 fn begins_program(alloc: Global, tokens: &[Token]) -> Result<bool, AllocError>
     ensures { IfOk result (λ begins. IsTrue begins ↔ BeginsProgram tokens.now) }
 {
@@ -19,8 +19,19 @@ fn begins_program(alloc: Global, tokens: &[Token]) -> Result<bool, AllocError>
     }
 }
 
-/// For each of the candidates in order, whether it could come after the tokens `before`: whether they begin a program
-/// together, none of them too deep.
+/// Whether a token could come after some others, which stay as they are.
+fn may_follow(alloc: Global, before: &mut Vec<Token>, candidate: Token) -> Result<bool, AllocError>
+    ensures fits { IfOk result (λ fits. IsTrue fits ↔ BeginsProgram (before.old.items ++ candidate ∷ [])) }
+    ensures same { IfOk result (λ fits. before.new.items ≡ before.old.items) }
+{
+    before.push(candidate)?;
+    let fits = begins_program(alloc, before)?;
+    before.pop();
+    Ok(fits)
+}
+
+/// For each of the candidates in order, whether it could come after the tokens `before`: whether none of them has a fault
+/// together.
 pub fn expected(
     alloc: Global,
     before: Vec<Token>,
@@ -31,9 +42,7 @@ pub fn expected(
     let mut tokens = before;
     let mut fits = Vec::new(alloc);
     for candidate in candidates {
-        tokens.push(candidate)?;
-        fits.push(begins_program(alloc, &tokens)?)?;
-        tokens.pop();
+        fits.push(may_follow(alloc, &mut tokens, candidate)?)?;
     }
     Ok(fits)
 }

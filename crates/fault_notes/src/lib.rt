@@ -27,5 +27,5 @@ mod syntax;
 mod types;
 
 pub use following::expected;
-pub use lines::add_line;
+pub use lines::{add_line, lines_end};
 pub use notes::notes_of;

@@ -1,36 +1,25 @@
 //! Lines after a mark.
-ghost use Rattle.std.specs.Prelude.{◌≡◌, ◌++◌, OnOk, codes, map};
-ghost use Rattle.dsu_io.specs.Sinks.{joined};
+ghost use Rattle.std.specs.Prelude.{◌≡◌, ◌++◌, OnOk, map};
 ghost use Rattle.fault_notes.specs.Notes.{AreNotes, LinesEnd, is_control, note_line, shown};
 
 use std::alloc::AllocError;
 
-/// Adds a line that has the pieces one after the other, after a mark. A byte that controls a terminal is shown as `?`.
-pub fn add_line(text: &mut Vec<u8>, mark: &[u8], pieces: &[&[u8]]) -> Result<(), AllocError>
-    ensures line { OnOk result (text.new.items ≡ text.old.items ++ note_line mark.now (joined pieces.now)) }
+/// Adds a line that has some bytes after a mark. A byte that controls a terminal is shown as `?`.
+pub fn add_line(text: &mut Vec<u8>, mark: &[u8], bytes: &[u8]) -> Result<(), AllocError>
+    ensures line { OnOk result (text.new.items ≡ text.old.items ++ note_line mark.now bytes.now) }
     ensures notes { AreNotes mark.now text.old.items → OnOk result (AreNotes mark.now text.new.items) }
 {
     text.extend_from_slice(mark)?;
-    add_shown(text, pieces)?;
+    add_shown(text, bytes)?;
     text.push(b'\n')?;
     Ok(())
 }
 
-/// Adds the bytes of the pieces as a line shows them.
-fn add_shown(text: &mut Vec<u8>, pieces: &[&[u8]]) -> Result<(), AllocError>
-    ensures { OnOk result (text.new.items ≡ text.old.items ++ map shown (joined pieces.now)) }
+/// Adds bytes as a line shows them.
+fn add_shown(text: &mut Vec<u8>, bytes: &[u8]) -> Result<(), AllocError>
+    ensures { OnOk result (text.new.items ≡ text.old.items ++ map shown bytes.now) }
 {
-    for piece in pieces {
-        add_piece(text, piece)?;
-    }
-    Ok(())
-}
-
-/// Adds the bytes of one piece.
-fn add_piece(text: &mut Vec<u8>, piece: &[u8]) -> Result<(), AllocError>
-    ensures { OnOk result (text.new.items ≡ text.old.items ++ map shown piece.now) }
-{
-    for byte in piece {
+    for byte in bytes {
         text.push(shown(*byte))?;
     }
     Ok(())

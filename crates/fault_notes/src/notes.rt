@@ -3,7 +3,7 @@ ghost use Rattle.std.specs.Prelude.{IfOk};
 ghost use Rattle.fault_notes.specs.Notes.{AreNotes};
 
 use crate::draft::Draft;
-use crate::excerpt::{excerpt, lead};
+use crate::excerpt::{caret_of, excerpt_at, line_of};
 use crate::lexical::{bad_byte, bad_literal, directive};
 use crate::lines::add_line;
 use crate::syntax::syntax;
@@ -23,17 +23,13 @@ pub fn notes_of(
     ensures { IfOk result (λ notes. AreNotes mark.now notes.items) }
 {
     let message = message(alloc, text, wrong, at)?;
-    let excerpt = excerpt(text, at);
-    let lead = lead(alloc, &excerpt)?;
+    let excerpt = excerpt_at(text, at);
+    let line = line_of(alloc, excerpt)?;
+    let caret = caret_of(alloc, excerpt)?;
     let mut notes = Vec::new(alloc);
-    let shown: [&[u8]; 3] = [
-        excerpt.left.as_bytes(),
-        excerpt.bytes,
-        excerpt.right.as_bytes(),
-    ];
-    add_line(&mut notes, mark, &shown)?;
-    add_line(&mut notes, mark, &[lead.as_slice(), b"^"])?;
-    add_line(&mut notes, mark, &[message.as_slice()])?;
+    add_line(&mut notes, mark, &line)?;
+    add_line(&mut notes, mark, &caret)?;
+    add_line(&mut notes, mark, message.as_slice())?;
     Ok(notes)
 }
 

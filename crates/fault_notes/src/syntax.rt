@@ -60,14 +60,12 @@ pub(crate) fn syntax(alloc: Global, text: &[u8], at: usize) -> Result<Draft, All
 
 /// The number of the token at a byte; how many there are if none is there.
 pub(crate) fn number_at(tokens: &[Token], at: usize) -> usize {
-    let mut number = 0;
-    for token in tokens {
-        if token.at >= at {
+    for number in 0..tokens.len() {
+        if tokens[number].at >= at {
             return number;
         }
-        number += 1;
     }
-    number
+    tokens.len()
 }
 
 /// Says which token is there; the answer is whether that is all, since it is a word of C that is left out.

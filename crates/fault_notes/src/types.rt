@@ -18,7 +18,7 @@ struct Read {
 }
 
 /// Reads the text once more.
-fn read(alloc: Global, text: &[u8]) -> Result<Read, AllocError> {
+fn read_again(alloc: Global, text: &[u8]) -> Result<Read, AllocError> {
     let Ok(tokens) = lex(alloc, text) else {
         return Err(AllocError);
     };
@@ -35,7 +35,7 @@ pub(crate) fn types(
     kind: TypeKind,
     at: usize,
 ) -> Result<Draft, AllocError> {
-    let read = read(alloc, text)?;
+    let read = read_again(alloc, text)?;
     let number = number_at(&read.tokens, at);
     match kind {
         TypeKind::UnknownName => unknown_name(alloc, &read.tokens, &read.program, number),

@@ -1,0 +1,4 @@
+mod Fronts
+mod NotesGrow
+mod ShownBytes
+mod Trying
