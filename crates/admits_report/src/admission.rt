@@ -1,18 +1,14 @@
 //! The rows of the older text, and the test of one.
-ghost use Rattle.std.specs.Prelude.{◌≡◌, ℕ, ◌<◌, List, length, false, Some, slice_get, IfOk};
-ghost use Rattle.std.proofs.Common.{rules};
+ghost use Rattle.std.specs.Prelude.{◌≡◌, List, false, Some, slice_get, IfOk};
 ghost use Rattle.std.proofs.Props.{props};
-ghost use Rattle.name_sets.specs.Texts.{IsTable, text_of};
 ghost use Rattle.c_tree.specs.BareExpr.{Bytes};
 ghost use Rattle.c_semantics.specs.Store.{Body, Start, CheckInOf};
 ghost use Rattle.con_freeness.specs.Decisions.{IsListOf};
 ghost use Rattle.con_freeness.specs.Obstacles.{IsObstacle};
 ghost use Rattle.con_freeness.specs.Rows.{Names as Texts};
 ghost use Rattle.code_store.specs.Stored.{IsStoreOf};
-ghost use Rattle.admits_report.specs.AdmitsText.{IsAnswer};
 ghost use Rattle.admits_report.specs.Answered.{AnswersFor, IsAdmissionOver};
 ghost use Rattle.admits_report.specs.Known.{AreKnown, IsKnownPart};
-ghost use Rattle.admits_report.specs.Shown.{answer_shown};
 
 use check_in_places::Spot;
 use checkin_rows::Rows;
@@ -52,12 +48,14 @@ impl<'a> Admission<'a> {
             → IsAdmissionOver bodies changed interface a) }
     {
         let rows = rows(alloc, versions.store)?;
+        let changed = within(versions.names, &patch.changed);
+        let interface = within(versions.names, &patch.interface);
         Ok(Admission {
             names: versions.names,
             bodies: versions.store.bodies(),
             rows,
-            changed: within(versions.names, &patch.changed),
-            interface: within(versions.names, &patch.interface),
+            changed,
+            interface,
         })
     }
 

@@ -1,5 +1,5 @@
 //! What the rows of functions and check-ins answer.
-ghost use Rattle.std.specs.Prelude.{◌≡◌, All, IfOk, map};
+ghost use Rattle.std.specs.Prelude.{◌≡◌, IfOk, map};
 ghost use Rattle.std.specs.List.{AllZip};
 ghost use Rattle.admits_report.specs.Answered.{AreAnswersOf, AreLinesFor, spot_of};
 
@@ -21,6 +21,7 @@ pub(crate) struct CheckInAnswer {
 pub(crate) struct FunctionAnswers {
     pub function: NameId,
     pub start: Option<Effect>,
+    /// In the order of the places of the check-ins.
     pub lines: Vec<CheckInAnswer>,
 }
 
@@ -34,7 +35,8 @@ pub(crate) fn answers(
 {
     let mut answers = Vec::new(alloc);
     for section in sections {
-        answers.push(answers_of(alloc, admission, section)?)?;
+        let function = answers_of(alloc, admission, section)?;
+        answers.push(function)?;
     }
     Ok(answers)
 }
@@ -66,9 +68,10 @@ fn lines_of(
 {
     let mut lines = Vec::new(alloc);
     for spot in &section.spots {
+        let answer = admission.check_in(section.function, *spot);
         lines.push(CheckInAnswer {
             spot: *spot,
-            answer: admission.check_in(section.function, *spot),
+            answer,
         })?;
     }
     Ok(lines)
