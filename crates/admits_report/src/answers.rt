@@ -4,6 +4,7 @@ ghost use Rattle.std.specs.List.{AllZip};
 ghost use Rattle.admits_report.specs.Answered.{AreAnswersOf, AreLinesFor, spot_of};
 
 use crate::admission::Admission;
+use crate::tested::{check_in_answer, start_answer};
 use check_in_places::{Section, Spot};
 use con_freeness::Effect;
 use name_sets::NameId;
@@ -49,10 +50,10 @@ fn answers_of(
 ) -> Result<FunctionAnswers, AllocError>
     ensures { IfOk result (AreAnswersOf admission.now section.now) }
 {
-    let lines = lines_of(alloc, admission, section)?;
+    let lines = lines_of(alloc, admission, section.function, section.spots.as_slice())?;
     Ok(FunctionAnswers {
         function: section.function,
-        start: admission.start(section.function),
+        start: start_answer(admission, section.function),
         lines,
     })
 }
@@ -61,14 +62,15 @@ fn answers_of(
 fn lines_of(
     alloc: Global,
     admission: &Admission<'_>,
-    section: &Section,
+    function: NameId,
+    spots: &[Spot],
 ) -> Result<Vec<CheckInAnswer>, AllocError>
-    ensures spots { IfOk result (λ lines. map spot_of lines.items ≡ section.now.spots.items) }
-    ensures answers { IfOk result (λ lines. AreLinesFor admission.now section.now.function lines.items) }
+    ensures spots { IfOk result (λ lines. map spot_of lines.items ≡ spots.now) }
+    ensures answers { IfOk result (λ lines. AreLinesFor admission.now function lines.items) }
 {
     let mut lines = Vec::new(alloc);
-    for spot in &section.spots {
-        let answer = admission.check_in(section.function, *spot);
+    for spot in spots {
+        let answer = check_in_answer(admission, function, *spot);
         lines.push(CheckInAnswer {
             spot: *spot,
             answer,

@@ -15,6 +15,7 @@ use crate::answers::answers;
 use crate::counts::counts_of;
 use crate::lines::{add_counts, add_functions};
 use crate::refused::text_of_cause;
+use crate::tested::admission_of;
 use c_tree::Program;
 use c_types::Typed;
 use check_in_places::{Lines, Section, bodies_of};
@@ -87,7 +88,7 @@ fn text_of_patch(
 {
     let _names = versions.names.len();
     let bodies = bodies_of(alloc, program, versions.names, text.len())?;
-    let admission = Admission::of(alloc, versions, patch)?;
+    let admission = admission_of(alloc, versions, patch)?;
     let lines = Lines::of(alloc, text)?;
     text_of_sections(alloc, &admission, &lines, bodies.sections.as_slice())
 }

@@ -18,13 +18,13 @@ pub loop-spot-preserved : goal.loop-spot-preserved
 loop-spot-preserved c = (
   ap (map spot_of) c.in_ok-push.ensures.items ∙ map_push spot_of c.loop-spot.lines.items _
       ∙ ap (λ spots. spots ++ _ ∷ []) c.loop-spot.invariant.0
-      ∙ sym (take_more c.args.section.now.spots.items c.loop-spot.spot-index _ c.loop-spot-test.true),
+      ∙ sym (take_more c.args.spots.now c.loop-spot.spot-index _ c.loop-spot-test.true),
   λ f at. subst {A = List CheckInAnswer} (All (λ line. AnswersFor c.args.admission.now (CheckInOf f 1 line.spot.before) line.answer))
       (sym c.in_ok-push.ensures.items)
       (All-push (λ line. AnswersFor c.args.admission.now (CheckInOf f 1 line.spot.before) line.answer) c.loop-spot.lines.items _
-      (c.loop-spot.invariant.1 f at) (c.check_in-answer.ensures f at)),
+      (c.loop-spot.invariant.1 f at) (c.check_in_answer-answer.ensures f at)),
 )
 
 pub returns-clause-spots : goal.returns-clause-spots
 returns-clause-spots c =
-    c.loop-spot.invariant.0 ∙ take_all c.loop-spot.spot-index c.args.section.now.spots.items c.loop-spot-test.false
+    c.loop-spot.invariant.0 ∙ take_all c.loop-spot.spot-index c.args.spots.now c.loop-spot-test.false

@@ -1,6 +1,6 @@
 use Rattle.std.proofs.Common.{ℕ, ◌<◌, ◌↔◌}
 use Rattle.name_sets.specs.IdSet.{Holds}
-use Rattle.admits_report.proofs.admission.within.Given as goal
+use Rattle.admits_report.proofs.tested.within.Given as goal
 
 -- the ids so far
 abbrev pub invariant-loop-index : goal.invariant-loop-index

@@ -2,7 +2,7 @@ use Rattle.std.proofs.Common.{sym, subst, List}
 use Rattle.code_store.specs.declared.body.StoredBody.{StoredBody}
 use Rattle.code_store.specs.Stored.{IsStoreOf}
 use Rattle.admits_report.proofs.Named.{list_of_part}
-use Rattle.admits_report.proofs.admission.Admission.of.Goals as goal
+use Rattle.admits_report.proofs.tested.admission_of.Goals as goal
 
 pub returns-clause-over : goal.returns-clause-over
 returns-clause-over c = λ bodies changed interface store in_c in_i.
