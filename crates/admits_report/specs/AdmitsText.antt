@@ -103,20 +103,20 @@ pub record IsBlockOf (bodies : List Body) (changed interface : Names) (text : Te
   pub start : IsAnswer bodies changed interface (Start f.name.text) block.start
   pub lines : AreLinesOf bodies changed interface (body_of text f) (places (definition text.definitions) f) block.lines
 
--- the text where q is a patch of p, for the bytes of p: a block for each function of p, in the order of its text, over the store
--- of p alone, and then the count
-pub record IsPatchText (p : Program) (text : Bytes) (q : Program) (output : Bytes) : Type 0 where
+-- the text where some names of p change, among these the interface of some, for the bytes of p: a block for each function of p,
+-- in the order of its text, over the store of p alone, and then the count
+pub record IsPatchText (p : Program) (text : Bytes) (changed interface : Names) (output : Bytes) : Type 0 where
   pub blocks : List Block
-  pub are : let old = text_of p in
-      let new = text_of q in
-      AllZip (IsBlockOf (store (old ∷ [])) (changed old.definitions new.definitions) (interface old.definitions new.definitions) old)
-      (functions p) blocks
+  pub are : AllZip (IsBlockOf (store (text_of p ∷ [])) changed interface (text_of p)) (functions p) blocks
   pub printed : output ≡ flat_map (block_text text) blocks ++ end_text blocks
 
 -- the text by the first cause for which q is no patch of p
 abbrev pub IsTextBy : Option NotPatch → Program → Bytes → Program → Bytes → Bytes → Type 0
 IsTextBy (Some cause) p text q newer output = output ≡ cause_text cause newer
-IsTextBy None p text q newer output = IsPatchText p text q output
+IsTextBy None p text q newer output =
+    let old = (text_of p).definitions in
+    let new = (text_of q).definitions in
+    IsPatchText p text (changed old new) (interface old new) output
 
 -- the text of two programs, for the bytes from which each was read
 abbrev pub IsAdmitsText : Program → Bytes → Program → Bytes → Bytes → Type 0

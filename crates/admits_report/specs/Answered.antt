@@ -1,5 +1,6 @@
 -- What the steps promise one another.
-use Rattle.std.specs.Prelude.{◌≡◌, ℕ, List, All, map, Some, Option, slice_get}
+use Rattle.std.specs.Prelude.{◌≡◌, ℕ, List, ◌++◌, All, map, Some, Option, slice_get}
+use Rattle.std.specs.List.{flat_map, AllZip}
 use Rattle.name_sets.specs.Texts.{IsTable}
 use Rattle.c_tree.specs.BareExpr.{Bytes}
 use Rattle.c_semantics.specs.Store.{Body, Mark, Start, CheckInOf}
@@ -8,13 +9,14 @@ use Rattle.con_freeness.specs.Decisions.{IsListOf}
 use Rattle.con_freeness.specs.Rows.{Names}
 use Rattle.code_store.specs.Stored.{IsStoreOf}
 use Rattle.checkin_rows.specs.Rows.{AreRowsOf}
+use Rattle.check_in_places.specs.Bodies.{IsWithin}
 use Rattle.check_in_places.specs.declared.section.Spot.{Spot}
 use Rattle.check_in_places.specs.declared.section.Section.{Section}
 use Rattle.admits_report.specs.declared.admission.Admission.{Admission}
 use Rattle.admits_report.specs.declared.answers.CheckInAnswer.{CheckInAnswer}
 use Rattle.admits_report.specs.declared.answers.FunctionAnswers.{FunctionAnswers}
-use Rattle.admits_report.specs.AdmitsText.{IsAnswer}
-use Rattle.admits_report.specs.Shown.{answer_shown}
+use Rattle.admits_report.specs.AdmitsText.{IsAnswer, block_text, end_text}
+use Rattle.admits_report.specs.Shown.{answer_shown, block_of}
 
 -- the rows are those of a store, and the sets have the names that change and those whose interface changes
 pub record IsAdmissionOver (bodies : List Body) (changed interface : Names) (a : Admission) : Type 0 where
@@ -40,9 +42,20 @@ AreLinesFor a function lines =
     (f : Bytes) → slice_get a.names.now function ≡ Some f
     → All (λ line. AnswersFor a (CheckInOf f 1 line.spot.before) line.answer) lines
 
+-- the check-ins of a function are in a text of so many bytes
+abbrev pub AreWithin : ℕ → Section → Type 0
+AreWithin size section = All (IsWithin size) section.spots.items
+
 -- what the rows of a function answer
 pub record AreAnswersOf (a : Admission) (section : Section) (f : FunctionAnswers) : Type 0 where
   pub function : f.function ≡ section.function
   pub spots : map spot_of f.lines.items ≡ section.spots.items
   pub start : (name : Bytes) → slice_get a.names.now section.function ≡ Some name → AnswersFor a (Start name) f.start
   pub lines : AreLinesFor a section.function f.lines.items
+
+-- a text has the blocks of what the rows of some functions answer, and then the count
+pub record IsSectionsText (a : Admission) (text : Bytes) (sections : List Section) (output : Bytes) : Type 0 where
+  pub functions : List FunctionAnswers
+  pub are : AllZip (AreAnswersOf a) sections functions
+  pub printed : let blocks = map (block_of a.names.now) functions in
+      output ≡ flat_map (block_text text) blocks ++ end_text blocks

@@ -1,9 +1,10 @@
 //! What the rows of functions and check-ins answer.
-ghost use Rattle.std.specs.Prelude.{◌≡◌, All, IfOk, map};
+ghost use Rattle.std.specs.Prelude.{◌≡◌, IfOk, map};
 ghost use Rattle.std.specs.List.{AllZip};
 ghost use Rattle.admits_report.specs.Answered.{AreAnswersOf, AreLinesFor, spot_of};
 
 use crate::admission::Admission;
+use crate::tested::{check_in_answer, start_answer};
 use check_in_places::{Section, Spot};
 use con_freeness::Effect;
 use name_sets::NameId;
@@ -21,6 +22,7 @@ pub(crate) struct CheckInAnswer {
 pub(crate) struct FunctionAnswers {
     pub function: NameId,
     pub start: Option<Effect>,
+    /// In the order of the places of the check-ins.
     pub lines: Vec<CheckInAnswer>,
 }
 
@@ -34,7 +36,8 @@ pub(crate) fn answers(
 {
     let mut answers = Vec::new(alloc);
     for section in sections {
-        answers.push(answers_of(alloc, admission, section)?)?;
+        let function = answers_of(alloc, admission, section)?;
+        answers.push(function)?;
     }
     Ok(answers)
 }
@@ -47,10 +50,10 @@ fn answers_of(
 ) -> Result<FunctionAnswers, AllocError>
     ensures { IfOk result (AreAnswersOf admission.now section.now) }
 {
-    let lines = lines_of(alloc, admission, section)?;
+    let lines = lines_of(alloc, admission, section.function, section.spots.as_slice())?;
     Ok(FunctionAnswers {
         function: section.function,
-        start: admission.start(section.function),
+        start: start_answer(admission, section.function),
         lines,
     })
 }
@@ -59,16 +62,18 @@ fn answers_of(
 fn lines_of(
     alloc: Global,
     admission: &Admission<'_>,
-    section: &Section,
+    function: NameId,
+    spots: &[Spot],
 ) -> Result<Vec<CheckInAnswer>, AllocError>
-    ensures spots { IfOk result (λ lines. map spot_of lines.items ≡ section.now.spots.items) }
-    ensures answers { IfOk result (λ lines. AreLinesFor admission.now section.now.function lines.items) }
+    ensures spots { IfOk result (λ lines. map spot_of lines.items ≡ spots.now) }
+    ensures answers { IfOk result (λ lines. AreLinesFor admission.now function lines.items) }
 {
     let mut lines = Vec::new(alloc);
-    for spot in &section.spots {
+    for spot in spots {
+        let answer = check_in_answer(admission, function, *spot);
         lines.push(CheckInAnswer {
             spot: *spot,
-            answer: admission.check_in(section.function, *spot),
+            answer,
         })?;
     }
     Ok(lines)

@@ -7,9 +7,9 @@
 //! definitions of effects give, and the cause is the first one that they have, so the text says what an offer would find. The
 //! text is put together in memory and handed to the sink at once.
 //!
-//! Read in this order: `admission` (the rows of the older text, and the test of one), `answers` (what the rows of functions and
-//! check-ins answer), `counts` (how many admit), `words` (names and effects), `lines` (the lines of functions), `refused` (why
-//! there is no patch), `output` (the whole).
+//! Read in this order: `admission` (the rows of the older text, and what the newer one changes), `tested` (the test of a row),
+//! `answers` (what the rows of functions and check-ins answer), `counts` (how many admit), `words` (names and effects), `lines`
+//! (the lines of functions), `refused` (why there is no patch), `output` (the whole).
 #![tactic(auto)]
 
 mod admission;
@@ -18,6 +18,7 @@ mod counts;
 mod lines;
 mod output;
 mod refused;
+mod tested;
 mod words;
 
 pub use output::write_admission;

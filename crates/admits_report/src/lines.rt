@@ -89,11 +89,7 @@ fn add_title(text: &mut Vec<u8>, names: &Names, function: NameId) -> Result<(), 
 }
 
 /// Adds the line of a function's start.
-fn add_start(
-    text: &mut Vec<u8>,
-    names: &Names,
-    answer: Option<Effect>,
-) -> Result<(), AllocError>
+fn add_start(text: &mut Vec<u8>, names: &Names, answer: Option<Effect>) -> Result<(), AllocError>
     ensures { OnOk result (text.new.items ≡ text.old.items ++ start_text (answer_shown names.now answer)) }
 {
     add(text, &[b"  start"])?;

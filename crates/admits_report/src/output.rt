@@ -1,18 +1,22 @@
 //! The whole text.
-ghost use Rattle.std.specs.Prelude.{◌≡◌, ◌≤◌, [], ◌∷◌, IfOk, IsErrOf};
+ghost use Rattle.std.specs.Prelude.{◌≡◌, ◌≤◌, [], ◌∷◌, All, length, IfOk, IsErrOf};
 ghost use Rattle.c_semantics.specs.SourceTexts.{text_of as text_of_program};
+ghost use Rattle.c_semantics.specs.Store.{store};
+ghost use Rattle.code_store.specs.Stored.{IsStoreOf};
 ghost use Rattle.con_freeness.specs.Rows.{Names as Texts};
 ghost use Rattle.con_freeness.specs.Decisions.{IsListOf};
 ghost use Rattle.dsu_io.specs.Causes.{Rose};
-ghost use Rattle.patch_build.specs.Versions.{AreVersions};
 ghost use Rattle.admits_report.specs.AdmitsText.{IsAdmitsText, IsPatchText};
+ghost use Rattle.admits_report.specs.Answered.{AreWithin, IsSectionsText};
 ghost use Rattle.admits_report.specs.Writing.{Writes};
 
 use crate::admission::Admission;
 use crate::answers::answers;
-use crate::counts::counts;
+use crate::counts::counts_of;
 use crate::lines::{add_counts, add_functions};
 use crate::refused::text_of_cause;
+use crate::tested::admission_of;
+use c_tree::Program;
 use c_types::Typed;
 use check_in_places::{Lines, Section, bodies_of};
 use dsu_io::{Sink, put};
@@ -62,24 +66,30 @@ fn text_of(
     let installed = Installed::first(alloc, old)?;
     let versions = installed.versions(old);
     match prepare(alloc, versions, new) {
-        Ok(patch) => text_of_patch(alloc, versions, &patch, old_text),
+        Ok(patch) => text_of_patch(alloc, old.program(), old_text, versions, &patch),
         Err(PatchFault::Not(cause)) => text_of_cause(alloc, &cause, new_text),
         Err(PatchFault::Memory) => Err(AllocError),
     }
 }
 
-/// The text of a patch.
+/// The text of a patch, where the program is the only version.
 fn text_of_patch(
     alloc: Global,
+    program: &Program,
+    text: &[u8],
     versions: Versions<'_>,
     patch: &Patch,
-    old_text: &[u8],
 ) -> Result<Vec<u8>, AllocError>
+    ensures { (changed interface : Texts)
+        → IsStoreOf versions.entry.names.now (store (text_of_program program.now ∷ [])) versions.entry.store.now
+        → IsListOf versions.entry.names.now patch.now.changed changed
+        → IsListOf versions.entry.names.now patch.now.interface interface
+        → IfOk result (λ output. IsPatchText program.now text.now changed interface output.items) }
 {
-    let program = versions.last.program();
-    let bodies = bodies_of(alloc, program, versions.names, old_text.len())?;
-    let admission = Admission::of(alloc, versions, patch)?;
-    let lines = Lines::of(alloc, old_text)?;
+    let _names = versions.names.len();
+    let bodies = bodies_of(alloc, program, versions.names, text.len())?;
+    let admission = admission_of(alloc, versions, patch)?;
+    let lines = Lines::of(alloc, text)?;
     text_of_sections(alloc, &admission, &lines, bodies.sections.as_slice())
 }
 
@@ -90,9 +100,11 @@ fn text_of_sections(
     lines: &Lines<'_>,
     sections: &[Section],
 ) -> Result<Vec<u8>, AllocError>
+    requires { All (AreWithin (length lines.now.text.now)) sections.now }
+    ensures { IfOk result (λ output. IsSectionsText admission.now lines.now.text.now sections.now output.items) }
 {
     let functions = answers(alloc, admission, sections)?;
-    let counts = counts(functions.as_slice())?;
+    let counts = counts_of(functions.as_slice())?;
     let mut text = Vec::new(alloc);
     add_functions(&mut text, lines, admission.names, functions.as_slice())?;
     add_counts(&mut text, counts)?;

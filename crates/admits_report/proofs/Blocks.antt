@@ -1,0 +1,135 @@
+-- What the functions of a text answer are the blocks of its report.
+use Rattle.std.proofs.Common.{◌≡◌, ℕ, ◌+◌, List, [], ◌∷◌, ◌++◌, length, map, Some, refl, sym, ap, subst, ◌∙◌}
+use Rattle.std.specs.Prelude.{All, slice_get}
+use Rattle.std.specs.List.{AllZip}
+use Rattle.std.proofs.lemmas.List.Elements.{All-nil, All-cons, All-head, All-tail, All-weaker}
+use Rattle.std.proofs.lemmas.Option.{get_or_from_slice_get}
+use Rattle.name_sets.specs.Texts.{text_of}
+use Rattle.bytecode.specs.Skeleton.{Skeleton}
+use Rattle.c_tree.specs.BareExpr.{Bytes}
+use Rattle.c_tree.specs.Bare.{bare_function}
+use Rattle.c_tree.specs.declared.def.Function.{Function}
+use Rattle.c_semantics.specs.Texts.{Definitions, definition}
+use Rattle.c_semantics.specs.SourceTexts.{Text}
+use Rattle.c_semantics.specs.Skeletons.{skeleton_of}
+use Rattle.c_semantics.specs.Places.{places}
+use Rattle.c_semantics.specs.Store.{Body, CheckInOf, check_in_number}
+use Rattle.con_freeness.specs.Rows.{Names}
+use Rattle.check_in_places.specs.declared.section.Spot.{Spot}
+use Rattle.check_in_places.specs.declared.section.Section.{Section}
+use Rattle.check_in_places.specs.CheckIns.{CheckIn}
+use Rattle.check_in_places.specs.Bodies.{shown, IsSpotOf, IsWithin, IsCounted, IsSectionFor, AreSections, body_of}
+use Rattle.check_in_places.proofs.CheckIns.{ascending_shown}
+use Rattle.admits_report.specs.declared.admission.Admission.{Admission}
+use Rattle.admits_report.specs.declared.answers.CheckInAnswer.{CheckInAnswer}
+use Rattle.admits_report.specs.declared.answers.FunctionAnswers.{FunctionAnswers}
+use Rattle.admits_report.specs.AdmitsText.{IsAnswer, IsLineOf, IsBlockOf}
+use Rattle.admits_report.specs.Answered.{IsAdmissionOver, AnswersFor, AreAnswersOf, AreWithin, spot_of}
+use Rattle.admits_report.specs.Shown.{answer_shown, line_of, block_of, IsReady, IsReadyLine}
+
+-- ---- lists side by side
+
+pub zip_push : {A B : Type 0} (R : A → B → Type 0) (xs : List A) (ys : List B) (x : A) (y : B) → AllZip R xs ys → R x y
+    → AllZip R (xs ++ x ∷ []) (ys ++ y ∷ [])
+zip_push R [] [] x y are is = (is, tt)
+zip_push R [] (b ∷ ys) x y are is = absurd are
+zip_push R (a ∷ xs) [] x y are is = absurd are
+zip_push R (a ∷ xs) (b ∷ ys) x y are is = (are.0, zip_push R xs ys x y are.1 is)
+
+-- ---- the lines of a body
+
+line_is : (a : Admission) (bodies : List Body) (changed interface : Names) (body : Body) (line : CheckInAnswer)
+    → IsAdmissionOver bodies changed interface a → AnswersFor a (CheckInOf body.function body.generation line.spot.before) line.answer
+    → IsCounted body.skeleton line.spot → IsLineOf bodies changed interface body (shown line.spot) (line_of a.names.now line)
+line_is a bodies changed interface body line over says counted = record {
+  place = refl;
+  kind = refl;
+  answer = subst {A = ℕ}
+      (λ n. IsAnswer bodies changed interface (CheckInOf body.function body.generation n) (answer_shown a.names.now line.answer))
+      counted (says bodies changed interface over);
+}
+
+lines_are : (a : Admission) (bodies : List Body) (changed interface : Names) (body : Body) (lines : List CheckInAnswer)
+    → IsAdmissionOver bodies changed interface a
+    → All (λ line. AnswersFor a (CheckInOf body.function body.generation line.spot.before) line.answer) lines
+    → All (IsCounted body.skeleton) (map spot_of lines)
+    → AllZip (IsLineOf bodies changed interface body) (map shown (map spot_of lines)) (map (line_of a.names.now) lines)
+lines_are a bodies changed interface body [] over say counted = tt
+lines_are a bodies changed interface body (line ∷ lines) over say counted =
+    let Says : CheckInAnswer → Type 0 = λ line. AnswersFor a (CheckInOf body.function body.generation line.spot.before) line.answer in (
+      line_is a bodies changed interface body line over (All-head Says line lines say)
+          (All-head (IsCounted body.skeleton) line.spot (map spot_of lines) counted),
+      lines_are a bodies changed interface body lines over (All-tail Says line lines say)
+          (All-tail (IsCounted body.skeleton) line.spot (map spot_of lines) counted),
+    )
+
+-- ---- the block of a function, and those of all
+
+block_is : (a : Admission) (bodies : List Body) (changed interface : Names) (q : Text) (size first : ℕ) (f : Function) (section : Section)
+    (g : FunctionAnswers)
+    → IsAdmissionOver bodies changed interface a
+    → IsSectionFor a.names.now (definition q.definitions) size first f section → AreAnswersOf a section g
+    → IsBlockOf bodies changed interface q f (block_of a.names.now g)
+block_is a bodies changed interface q size first f section g over is are =
+    let names = a.names.now in
+    let body = body_of q f in
+    let spots = section.spots.items in
+    let named : slice_get names section.function ≡ Some f.name.text = ap (slice_get names) is.section.function ∙ is.named in
+    record {
+      function = ap (text_of names) are.function ∙ get_or_from_slice_get names section.function f.name.text [] named;
+      start = are.start f.name.text named bodies changed interface over;
+      lines = record {
+        order = map shown spots;
+        all = is.section.all;
+        ascending = ascending_shown spots is.section.ascending;
+        lines = subst {A = List Spot}
+            (λ list. AllZip (IsLineOf bodies changed interface body) (map shown list) (map (line_of names) g.lines.items)) are.spots
+            (lines_are a bodies changed interface body g.lines.items over (are.lines f.name.text named)
+            (subst {A = List Spot} (All (IsCounted body.skeleton)) (sym are.spots) is.section.counted));
+      };
+    }
+
+pub blocks_are : (a : Admission) (bodies : List Body) (changed interface : Names) (q : Text) (size first : ℕ) (fs : List Function)
+    (sections : List Section) (gs : List FunctionAnswers)
+    → IsAdmissionOver bodies changed interface a
+    → AreSections a.names.now (definition q.definitions) size first fs sections → AllZip (AreAnswersOf a) sections gs
+    → AllZip (IsBlockOf bodies changed interface q) fs (map (block_of a.names.now) gs)
+blocks_are a bodies changed interface q size first [] [] [] over of are = tt
+blocks_are a bodies changed interface q size first [] [] (g ∷ gs) over of are = absurd are
+blocks_are a bodies changed interface q size first [] (section ∷ sections) gs over of are = absurd of
+blocks_are a bodies changed interface q size first (f ∷ fs) [] gs over of are = absurd of
+blocks_are a bodies changed interface q size first (f ∷ fs) (section ∷ sections) [] over of are = absurd are
+blocks_are a bodies changed interface q size first (f ∷ fs) (section ∷ sections) (g ∷ gs) over of are = (
+  block_is a bodies changed interface q size first f section g over of.0 are.0,
+  blocks_are a bodies changed interface q size (first + length (skeleton_of (definition q.definitions) (Some (bare_function f))).points) fs sections gs
+      over of.1 are.1,
+)
+
+-- ---- they can be written
+
+pub sections_within : (names : List Bytes) (look : Definitions) (size first : ℕ) (fs : List Function) (sections : List Section)
+    → AreSections names look size first fs sections → All (AreWithin size) sections
+sections_within names look size first [] [] of = All-nil (AreWithin size)
+sections_within names look size first [] (section ∷ sections) of = absurd of
+sections_within names look size first (f ∷ fs) [] of = absurd of
+sections_within names look size first (f ∷ fs) (section ∷ sections) of =
+    All-cons (AreWithin size) section sections
+    (All-weaker (IsSpotOf first size) (IsWithin size) (λ spot is. is.within) section.spots.items of.0.section.spots)
+    (sections_within names look size (first + length (skeleton_of look (Some (bare_function f))).points) fs sections of.1)
+
+lines_within : (size : ℕ) (lines : List CheckInAnswer) → All (IsWithin size) (map spot_of lines) → All (IsReadyLine size) lines
+lines_within size [] within = All-nil (IsReadyLine size)
+lines_within size (line ∷ lines) within =
+    All-cons (IsReadyLine size) line lines (All-head (IsWithin size) line.spot (map spot_of lines) within)
+    (lines_within size lines (All-tail (IsWithin size) line.spot (map spot_of lines) within))
+
+pub answers_ready : (a : Admission) (size : ℕ) (sections : List Section) (gs : List FunctionAnswers) → AllZip (AreAnswersOf a) sections gs
+    → All (AreWithin size) sections → All (IsReady size) gs
+answers_ready a size [] [] are within = All-nil (IsReady size)
+answers_ready a size [] (g ∷ gs) are within = absurd are
+answers_ready a size (section ∷ sections) [] are within = absurd are
+answers_ready a size (section ∷ sections) (g ∷ gs) are within =
+    All-cons (IsReady size) g gs
+    (lines_within size g.lines.items
+    (subst {A = List Spot} (All (IsWithin size)) (sym are.0.spots) (All-head (AreWithin size) section sections within)))
+    (answers_ready a size sections gs are.1 (All-tail (AreWithin size) section sections within))

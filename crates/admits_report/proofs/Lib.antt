@@ -1,0 +1,5 @@
+mod Adding
+mod Counted
+mod OneThread
+mod Named
+mod Blocks

@@ -1,0 +1,36 @@
+use Rattle.std.proofs.Common.{List, ◌++◌, length, map, ap, sym, subst, ◌∙◌}
+use Rattle.std.specs.Prelude.{All}
+use Rattle.std.specs.List.{flat_map}
+use Rattle.admits_report.specs.declared.answers.FunctionAnswers.{FunctionAnswers}
+use Rattle.admits_report.specs.AdmitsText.{block_text, end_text}
+use Rattle.admits_report.specs.Shown.{block_of, IsReady}
+use Rattle.admits_report.proofs.Adding.{two_added, from_nothing}
+use Rattle.admits_report.proofs.Blocks.{answers_ready}
+use Rattle.admits_report.proofs.Counted.{counted_of}
+use Rattle.admits_report.proofs.output.text_of_sections.Goals as goal
+
+pub add_functions-requires : goal.add_functions-requires
+add_functions-requires c =
+    let size = length c.args.lines.now.text.now in
+    subst {A = List FunctionAnswers} (All (IsReady size)) (sym c.as_slice-2.ensures.value)
+    (answers_ready c.args.admission.now size c.args.sections.now c.in_ok-functions.functions.items c.in_ok-functions.ensures c.requires)
+
+pub returns : goal.returns
+returns c =
+    let text = c.args.lines.now.text.now in
+    let names = c.args.admission.now.names.now in
+    let functions = c.in_ok-functions.functions.items in
+    let blocks = map (block_of names) functions in
+    let counts = c.in_ok-counts.counts in
+    record {
+      functions = functions;
+      are = c.in_ok-functions.ensures;
+      printed = from_nothing (flat_map (block_text text) blocks ++ end_text blocks) _ _ c.new-text.ensures.items
+          (two_added (flat_map (block_text text) blocks) (end_text blocks) _ c.add_functions.new.text.items _
+          (c.in_ok-add_functions.ensures
+          ∙ ap (λ fs. c.new-text.result.items ++ flat_map (block_text text) (map (block_of names) fs)) c.as_slice-2.ensures.value)
+          (c.in_ok-add_counts.ensures
+          ∙ ap (λ line. c.add_functions.new.text.items ++ line)
+          (counted_of names c.as_slice.result.now functions counts.admitted counts.all c.as_slice.ensures.value
+          c.in_ok-counts.ensures.admitted c.in_ok-counts.ensures.all)));
+    }
