@@ -1,7 +1,8 @@
 -- What the functions of a text answer are the blocks of its report.
-use Rattle.std.proofs.Common.{◌≡◌, ℕ, ◌+◌, List, [], ◌∷◌, ◌++◌, length, map, Some, refl, sym, ap, subst, ◌∙◌}
+use Rattle.std.proofs.Common.{◌≡◌, ℕ, ◌+◌, ◌<◌, List, [], ◌∷◌, ◌++◌, length, map, take, get_or, Option, Some, refl, sym, ap, subst, ◌∙◌}
 use Rattle.std.specs.Prelude.{All, slice_get}
 use Rattle.std.specs.List.{AllZip}
+use Rattle.std.proofs.lemmas.List.{map_push, take_more}
 use Rattle.std.proofs.lemmas.List.Elements.{All-nil, All-cons, All-head, All-tail, All-weaker}
 use Rattle.std.proofs.lemmas.Option.{get_or_from_slice_get}
 use Rattle.name_sets.specs.Texts.{text_of}
@@ -14,6 +15,7 @@ use Rattle.c_semantics.specs.SourceTexts.{Text}
 use Rattle.c_semantics.specs.Skeletons.{skeleton_of}
 use Rattle.c_semantics.specs.Places.{places}
 use Rattle.c_semantics.specs.Store.{Body, CheckInOf, check_in_number}
+use Rattle.con_freeness.specs.declared.refusal.Effect.{Effect as EffectOfIds}
 use Rattle.con_freeness.specs.Rows.{Names}
 use Rattle.check_in_places.specs.declared.section.Spot.{Spot}
 use Rattle.check_in_places.specs.declared.section.Section.{Section}
@@ -35,6 +37,15 @@ zip_push R [] [] x y are is = (is, tt)
 zip_push R [] (b ∷ ys) x y are is = absurd are
 zip_push R (a ∷ xs) [] x y are is = absurd are
 zip_push R (a ∷ xs) (b ∷ ys) x y are is = (are.0, zip_push R xs ys x y are.1 is)
+
+-- ---- the check-ins of lines, one more
+
+pub spots_more : (spots : List Spot) (lines new : List CheckInAnswer) (i : ℕ) (d : Spot) (answer : Option EffectOfIds) → i < length spots
+    → new ≡ lines ++ record { spot = get_or spots i d; answer = answer } ∷ [] → map spot_of lines ≡ take i spots
+    → map spot_of new ≡ take (i + 1) spots
+spots_more spots lines new i d answer within has had =
+    ap (map spot_of) has ∙ map_push spot_of lines (record { spot = get_or spots i d; answer = answer })
+    ∙ ap (λ list. list ++ get_or spots i d ∷ []) had ∙ sym (take_more spots i d within)
 
 -- ---- the lines of a body
 

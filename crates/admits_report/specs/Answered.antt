@@ -9,13 +9,15 @@ use Rattle.con_freeness.specs.Decisions.{IsListOf}
 use Rattle.con_freeness.specs.Rows.{Names}
 use Rattle.code_store.specs.Stored.{IsStoreOf}
 use Rattle.checkin_rows.specs.Rows.{AreRowsOf}
+use Rattle.patch_build.specs.declared.fault.PatchFault.{PatchFault}
+use Rattle.patch_build.specs.declared.fault.PatchFault.TheVariants.{Not, Memory}
 use Rattle.check_in_places.specs.Bodies.{IsWithin}
 use Rattle.check_in_places.specs.declared.section.Spot.{Spot}
 use Rattle.check_in_places.specs.declared.section.Section.{Section}
 use Rattle.admits_report.specs.declared.admission.Admission.{Admission}
 use Rattle.admits_report.specs.declared.answers.CheckInAnswer.{CheckInAnswer}
 use Rattle.admits_report.specs.declared.answers.FunctionAnswers.{FunctionAnswers}
-use Rattle.admits_report.specs.AdmitsText.{IsAnswer, block_text, end_text}
+use Rattle.admits_report.specs.AdmitsText.{IsAnswer, block_text, cause_text, end_text}
 use Rattle.admits_report.specs.Shown.{answer_shown, block_of}
 
 -- the rows are those of a store, and the sets have the names that change and those whose interface changes
@@ -59,3 +61,8 @@ pub record IsSectionsText (a : Admission) (text : Bytes) (sections : List Sectio
   pub are : AllZip (AreAnswersOf a) sections functions
   pub printed : let blocks = map (block_of a.names.now) functions in
       output ≡ flat_map (block_text text) blocks ++ end_text blocks
+
+-- the text of a fault; out of memory there is none
+abbrev pub IsFaultText : PatchFault → Bytes → Bytes → Type 0
+IsFaultText (Not cause) newer output = output ≡ cause_text cause newer
+IsFaultText Memory newer output = ⊥

@@ -14,7 +14,7 @@ use crate::admission::Admission;
 use crate::answers::answers;
 use crate::counts::counts_of;
 use crate::lines::{add_counts, add_functions};
-use crate::refused::text_of_cause;
+use crate::refused::text_of_fault;
 use crate::tested::admission_of;
 use c_tree::Program;
 use c_types::Typed;
@@ -22,7 +22,7 @@ use check_in_places::{Lines, Section, bodies_of};
 use dsu_io::{Sink, put};
 use dsu_report::ReportFault;
 use installed_versions::Installed;
-use patch_build::{Patch, PatchFault, Versions, prepare};
+use patch_build::{Patch, Versions, prepare};
 use std::alloc::{AllocError, Global};
 
 /// Writes where a run of an older typed text could take a newer one. `old_text` and `new_text` have the bytes of the texts.
@@ -67,8 +67,7 @@ fn text_of(
     let versions = installed.versions(old);
     match prepare(alloc, versions, new) {
         Ok(patch) => text_of_patch(alloc, old.program(), old_text, versions, &patch),
-        Err(PatchFault::Not(cause)) => text_of_cause(alloc, &cause, new_text),
-        Err(PatchFault::Memory) => Err(AllocError),
+        Err(fault) => text_of_fault(alloc, &fault, new_text),
     }
 }
 

@@ -4,20 +4,32 @@ ghost use Rattle.std.specs.Fmt.{decimal};
 ghost use Rattle.dsu_report.specs.Answers.{cause_words};
 ghost use Rattle.dsu_report.specs.Places.{line_at, column_at};
 ghost use Rattle.admits_report.specs.AdmitsText.{cause_text};
+ghost use Rattle.admits_report.specs.Answered.{IsFaultText};
 
 use crate::words::add;
 use dsu_report::{Place, place_of};
 use itoa::Buffer;
+use patch_build::PatchFault;
 use source_model::NotPatch;
 use std::alloc::{AllocError, Global};
 
-/// The text where there is no patch. `source` has the bytes of the newer text. A place that isn't in it, or is 2^32 - 1 or more,
-/// is answered as lack of memory.
-pub(crate) fn text_of_cause(
+/// The text of a fault, for the bytes of the newer text.
+pub(crate) fn text_of_fault(
     alloc: Global,
-    cause: &NotPatch,
+    fault: &PatchFault,
     source: &[u8],
 ) -> Result<Vec<u8>, AllocError>
+    ensures { IfOk result (λ text. IsFaultText fault.now source.now text.items) }
+{
+    match fault {
+        PatchFault::Not(cause) => text_of_cause(alloc, cause, source),
+        PatchFault::Memory => Err(AllocError),
+    }
+}
+
+/// The text where there is no patch. `source` has the bytes of the newer text. A place that isn't in it, or is 2^32 - 1 or more,
+/// is answered as lack of memory.
+fn text_of_cause(alloc: Global, cause: &NotPatch, source: &[u8]) -> Result<Vec<u8>, AllocError>
     ensures { IfOk result (λ text. text.items ≡ cause_text cause.now source.now) }
 {
     let mut text = Vec::new(alloc);

@@ -1,10 +1,11 @@
-use Rattle.std.proofs.Common.{List, [], ◌∷◌, ◌++◌, map, take, sym, ap, subst, ◌∙◌}
+use Rattle.std.proofs.Common.{List, map, sym, ap, subst, ◌∙◌}
 use Rattle.std.specs.Prelude.{All}
-use Rattle.std.proofs.lemmas.List.{map_push, take_more, take_all}
+use Rattle.std.proofs.lemmas.List.{take_all}
 use Rattle.std.proofs.lemmas.List.Elements.{All-nil, All-push}
 use Rattle.c_semantics.specs.Store.{CheckInOf}
 use Rattle.admits_report.specs.declared.answers.CheckInAnswer.{CheckInAnswer}
 use Rattle.admits_report.specs.Answered.{AnswersFor, spot_of}
+use Rattle.admits_report.proofs.Blocks.{spots_more}
 use Rattle.admits_report.proofs.answers.lines_of.Goals as goal
 
 pub loop-spot-init : goal.loop-spot-init
@@ -16,9 +17,8 @@ loop-spot-init c = (
 
 pub loop-spot-preserved : goal.loop-spot-preserved
 loop-spot-preserved c = (
-  ap (map spot_of) c.in_ok-push.ensures.items ∙ map_push spot_of c.loop-spot.lines.items _
-      ∙ ap (λ spots. spots ++ _ ∷ []) c.loop-spot.invariant.0
-      ∙ sym (take_more c.args.spots.now c.loop-spot.spot-index _ c.loop-spot-test.true),
+  spots_more c.args.spots.now c.loop-spot.lines.items _ c.loop-spot.spot-index _ c.check_in_answer-answer.result c.loop-spot-test.true
+      c.in_ok-push.ensures.items c.loop-spot.invariant.0,
   λ f at. subst {A = List CheckInAnswer} (All (λ line. AnswersFor c.args.admission.now (CheckInOf f 1 line.spot.before) line.answer))
       (sym c.in_ok-push.ensures.items)
       (All-push (λ line. AnswersFor c.args.admission.now (CheckInOf f 1 line.spot.before) line.answer) c.loop-spot.lines.items _

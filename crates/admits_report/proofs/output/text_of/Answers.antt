@@ -1,6 +1,6 @@
-use Rattle.std.proofs.Common.{◌≡◌, [], ◌∷◌, Option, Some, refl, sym, subst}
-use Rattle.std.specs.Prelude.{IfOk}
+use Rattle.std.proofs.Common.{[], ◌∷◌, Option, refl, sym, subst}
 use Rattle.std.proofs.lemmas.Result.{IfOk-weaker}
+use Rattle.c_tree.specs.BareExpr.{Bytes}
 use Rattle.c_tree.specs.declared.def.Program.{Program}
 use Rattle.c_semantics.specs.Changes.{changed, interface}
 use Rattle.c_semantics.specs.SourceTexts.{text_of}
@@ -8,8 +8,12 @@ use Rattle.c_semantics.specs.Store.{store}
 use Rattle.source_model.specs.declared.patch.NotPatch.{NotPatch}
 use Rattle.source_model.specs.Patches.{not_patch}
 use Rattle.code_store.specs.Stored.{IsStoreOf}
+use Rattle.patch_build.specs.declared.fault.PatchFault.{PatchFault}
+use Rattle.patch_build.specs.declared.fault.PatchFault.TheVariants.{Not, Memory}
+use Rattle.patch_build.specs.Faults.{IsCause}
 use Rattle.patch_build.specs.Versions.{AreVersions}
 use Rattle.admits_report.specs.AdmitsText.{IsTextBy, IsPatchText}
+use Rattle.admits_report.specs.Answered.{IsFaultText}
 use Rattle.admits_report.proofs.Named.{changed_is, interface_is}
 use Rattle.admits_report.proofs.output.text_of.Goals as goal
 
@@ -33,17 +37,19 @@ returns-in-Ok c =
     (changed_is old new.definitions v.names.now patch.names patch.changed are.names_are e.ids (e.changed (old ∷ []) are))
     (interface_is old new.definitions v.names.now patch.names patch.interface are.names_are e.ids (e.interface (old ∷ []) are)))
 
-pub returns-in-Err-Not : goal.returns-in-Err-Not
-returns-in-Err-Not c =
+by_fault : (p : Program) (text : Bytes) (q : Program) (newer : Bytes) (fault : PatchFault) (o : Option NotPatch) (output : Bytes) → IsCause o fault
+    → IsFaultText fault newer output → IsTextBy o p text q newer output
+by_fault p text q newer (Not cause) o output caused is = subst {A = Option NotPatch} (λ o. IsTextBy o p text q newer output) (sym caused) is
+by_fault p text q newer Memory o output caused is = absurd is
+
+pub returns : goal.returns
+returns c =
     let p = c.args.old.now in
     let old = text_of p in
     let new = text_of c.args.new.now in
     let are : AreVersions (old ∷ []) c.versions-versions.result =
     c.versions-versions.ensures.versions (old ∷ []) [] c.in_ok-installed.ensures refl in
-    let refused = c.in-Err-Not in
-    let caused : not_patch (store (old ∷ [])) (old ∷ []) new ≡ Some refused.cause =
-    (rw refused.field-0-is at refused.ensures.fault) (old ∷ []) are in
-    IfOk-weaker c.text_of_cause.result _ _
-    (λ text is. subst {A = Option NotPatch} (λ o. IsTextBy o p c.args.old_text.now c.args.new.now c.args.new_text.now text.items)
-    (sym caused) is)
-    c.text_of_cause.ensures
+    IfOk-weaker c.text_of_fault.result _ _
+    (λ text is. by_fault p c.args.old_text.now c.args.new.now c.args.new_text.now c.in-Err.fault (not_patch (store (old ∷ [])) (old ∷ []) new) text.items
+    (c.in-Err.ensures.fault (old ∷ []) are) is)
+    c.text_of_fault.ensures
