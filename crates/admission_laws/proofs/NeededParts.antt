@@ -119,7 +119,7 @@ giving_both n m =
 abbrev three : List (List BareDef)
 three = giving_both 1 1 ∷ giving_both 2 1 ∷ giving_both 2 2 ∷ []
 
--- the first install leaves the transaction wholly old
+-- after the first install all that the transaction uses still belongs to version 1
 pinned : shared three (moves 5 ++ Install 1 ∷ moves 4) ≡ versions 1 1
 pinned = refl
 
