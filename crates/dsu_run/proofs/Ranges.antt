@@ -11,7 +11,7 @@ use Rattle.dsu_cli.specs.declared.command.Command.TheVariants as command
 use Rattle.dsu_cli.specs.declared.job.Job.{Job}
 use Rattle.dsu_cli.specs.declared.job.Offer.{Offer}
 use Rattle.dsu_cli.specs.Words.{Text, Item, positional, option, switch, command_of, fits, items, job, job_if_fits, job_of, is_seed, line, offer_of, offers_of, positionals, positionals_fit, uses, values}
-use Rattle.top_call.specs.Words.{IsInRange}
+use Rattle.dsu_run.specs.Words.{IsInRange}
 
 -- an option has no more values than uses
 values_few : (name : Text) (its : List Item) → length (values name its) ≤ uses name its

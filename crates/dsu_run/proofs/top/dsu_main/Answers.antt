@@ -3,8 +3,8 @@ use Rattle.std.proofs.lemmas.Option.{same_Some}
 use Rattle.dsu_cli.specs.declared.job.Job.{Job as Asked}
 use Rattle.dsu_cli.specs.declared.job.Job.TheVariants.{Admits, Changes}
 use Rattle.dsu_commands.specs.Jobs.{IsKnownFault}
-use Rattle.top_call.proofs.Asking.{answers_asked, ready_as_asked}
-use Rattle.top_call.proofs.top.dsu_main.Goals as goal
+use Rattle.dsu_run.proofs.Asking.{answers_asked, ready_as_asked}
+use Rattle.dsu_run.proofs.top.dsu_main.Goals as goal
 
 pub returns-in-Ok-Replay-clause-first : goal.returns-in-Ok-Replay-clause-first
 returns-in-Ok-Replay-clause-first g c = λ asked line file is fault.

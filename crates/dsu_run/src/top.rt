@@ -1,19 +1,18 @@
-//! The call.
 ghost use Rattle.std.specs.Prelude.{◌≡◌, ◌⊎◌, ℕ, List, None, Some, []};
-ghost use Rattle.dsu_cli.specs.Words.{detail_of, job_of};
+ghost use Rattle.dsu_cli.specs.Words.{job_of};
 ghost use Rattle.dsu_cli.specs.declared.job.Job.{Job as Asked};
 ghost use Rattle.dsu_report.specs.declared.fault.FaultLine.{FaultLine as Line};
-ghost use Rattle.dsu_commands.specs.Answers.{IsDone, IsExcused};
+ghost use Rattle.dsu_commands.specs.Answers.{Answers, IsDone, IsExcused};
 ghost use Rattle.dsu_commands.specs.Calls.{Stopped, call_of, output_of};
 ghost use Rattle.dsu_commands.specs.Jobs.{IsKnownFault, IsReady};
-ghost use Rattle.top_call.specs.Explained.{Responds, StoppedAs};
-ghost use Rattle.top_call.specs.Words.{IsInRange, asked};
+ghost use Rattle.dsu_run.specs.Words.{asked};
 
-use crate::explained::explained;
-use crate::job::done;
-use crate::words::request_in;
-use dsu_cli::{Detail, Request};
-use dsu_commands::{Outcome, stop};
+use crate::words::job_in;
+use dsu_cli::Job;
+use dsu_commands::{
+    Outcome, admits_files, changes_files, check_file, effects_file, replay_file, run_file,
+    run_generated, stop,
+};
 use dsu_io::{Files, Sink, Text};
 use dsu_report::FaultLine;
 use std::alloc::Global;
@@ -22,10 +21,10 @@ use std::alloc::Global;
 /// the file, `replay FILE JOURNAL` makes the events of the journal, and both print on `out` and report on `err`;
 /// `check FILE` prints on `out` how many names the text has, `effects FILE` what its threads may use, `changes OLD NEW` what
 /// changes from one text to another, `admits OLD NEW` where a run of the one could take the other, and `gen SEED SIZE` a summary
-/// of the run of a program that it makes. With `--explain` the report has notes.
+/// of the run of a program that it makes.
 ///
 /// What `out` holds at the end is given back with it. `dsu_commands` has the words of the clauses, in
-/// `specs/Answers.antt`, and `specs/Explained.antt` what notes do.
+/// `specs/Answers.antt`.
 pub fn dsu_main<F: Files, O: Sink, E: Sink>(
     alloc: Global,
     words: &[Text],
@@ -40,9 +39,9 @@ pub fn dsu_main<F: Files, O: Sink, E: Sink>(
     ensures unbuilt { asked words.now ≡ None
         → Stopped FaultLine.Usage [] (call_of result (output_of O.told O.faults out result.out) (output_of E.told E.faults err.old err.new))
         ⊎ Stopped FaultLine.Memory [] (call_of result (output_of O.told O.faults out result.out) (output_of E.told E.faults err.old err.new)) }
-    // A job is done as far as its files, the outputs and memory let it, and explained where that is asked for.
+    // A job is done as far as its files, the outputs and memory let it.
     ensures answers { (job : Asked) → asked words.now ≡ Some job
-        → Responds (detail_of words.now) job (F.content files.old) (F.faults files.old) (F.faults files.new)
+        → Answers job (F.content files.old) (F.faults files.old) (F.faults files.new)
         (call_of result (output_of O.told O.faults out result.out) (output_of E.told E.faults err.old err.new)) }
     // A job whose files are known and have no fault is done to its end, unless a file, an output or memory fails.
     ensures complete { (job : Asked) → asked words.now ≡ Some job → IsReady job (F.content files.old)
@@ -50,33 +49,21 @@ pub fn dsu_main<F: Files, O: Sink, E: Sink>(
     // And the first fault of known files is reported.
     ensures first { (job : Asked) (line : Line) (file : List ℕ) → asked words.now ≡ Some job
         → IsKnownFault job (F.content files.old) line file
-        → IsExcused result.status ⊎ StoppedAs (detail_of words.now) line file
+        → IsExcused result.status ⊎ Stopped line file
         (call_of result (output_of O.told O.faults out result.out) (output_of E.told E.faults err.old err.new)) }
 {
-    match request_in(alloc, words) {
-        Ok(request) => responded(alloc, &request, files, out, err),
+    match job_in(alloc, words) {
+        Ok(Job::Run(job)) => run_file(alloc, &job, files, out, err),
+        Ok(Job::Replay(job)) => replay_file(alloc, &job, files, out, err),
+        Ok(Job::Check(file)) => check_file(alloc, file.as_str(), files, out, err),
+        Ok(Job::Effects(file)) => effects_file(alloc, file.as_str(), files, out, err),
+        Ok(Job::Changes(old, new)) => {
+            changes_files(alloc, old.as_str(), new.as_str(), files, out, err)
+        }
+        Ok(Job::Admits(old, new)) => {
+            admits_files(alloc, old.as_str(), new.as_str(), files, out, err)
+        }
+        Ok(Job::Gen(seed, size)) => run_generated(alloc, seed, size, out, err),
         Err(fault) => stop(alloc, fault, "", out, err),
-    }
-}
-
-/// Does the job of a request, as it is asked for.
-fn responded<F: Files, O: Sink, E: Sink>(
-    alloc: Global,
-    request: &Request,
-    files: &mut F,
-    out: O,
-    err: &mut E,
-) -> Outcome<O>
-    requires range { IsInRange request.now.job }
-    ensures answers { Responds request.now.detail request.now.job (F.content files.old) (F.faults files.old) (F.faults files.new)
-        (call_of result (output_of O.told O.faults out result.out) (output_of E.told E.faults err.old err.new)) }
-    ensures complete { IsReady request.now.job (F.content files.old) → IsDone result.status ⊎ IsExcused result.status }
-    ensures first { (line : Line) (file : List ℕ) → IsKnownFault request.now.job (F.content files.old) line file
-        → IsExcused result.status ⊎ StoppedAs request.now.detail line file
-        (call_of result (output_of O.told O.faults out result.out) (output_of E.told E.faults err.old err.new)) }
-{
-    match request.detail {
-        Detail::Plain => done(alloc, &request.job, files, out, err),
-        Detail::Explained => explained(alloc, &request.job, files, out, err),
     }
 }
