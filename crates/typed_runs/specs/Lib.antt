@@ -1,0 +1,3 @@
+pub mod TypedFrames
+pub mod TypedWorlds
+pub mod TypedRunLaws
