@@ -9,10 +9,10 @@ use Rattle.c_semantics.specs.Texts.{definition, global_type, int, members_of}
 use Rattle.c_semantics.specs.Values.{Value, Number, Reference, Started}
 use Rattle.c_semantics.specs.Pieces.{Variable, Scopes}
 use Rattle.c_semantics.specs.Threads.{Enter, Frame}
-use Rattle.source_model.specs.Worlds.{Cells, Object, Slot, Free, Live, Over}
+use Rattle.source_model.specs.Worlds.{World, Object, Slot, Free, Live, Over, cells_of}
 use Rattle.typed_trees.specs.ValueTypes.{Environment, HasType, HaveTypes, ScopeHas, ScopesHave}
 use Rattle.typed_runs.specs.TypedFrames.{Below, EnterTyped, FrameTyped, FrameWaits, FramesTyped, result_in}
-use Rattle.typed_runs.specs.TypedWorlds.{CellsTyped, ObjectTyped, SlotTyped}
+use Rattle.typed_runs.specs.TypedWorlds.{GlobalsTyped, ObjectTyped, SlotTyped}
 
 -- each object keeps its number and its tag
 abbrev pub Grows : List Bytes → List Bytes → Type 0
@@ -116,10 +116,7 @@ module _ (tags more : List Bytes) (grows : Grows tags more) where
     pub objects_still : (os : List Object) → All (ObjectTyped text tags) os → All (ObjectTyped text more) os
     objects_still = All-weaker (ObjectTyped text tags) (ObjectTyped text more) object_still
 
-    cells_still : (g : Cells) → CellsTyped text tags g → CellsTyped text more g
-    cells_still g =
-        let t = global_type (definition text g.name) in
-        All-weaker (HasType tags t) (HasType more t) (value_still t) g.cells
-
-    pub globals_still : (gs : List Cells) → All (CellsTyped text tags) gs → All (CellsTyped text more) gs
-    globals_still = All-weaker (CellsTyped text tags) (CellsTyped text more) cells_still
+    pub globals_still : (w : World) → GlobalsTyped text tags w → GlobalsTyped text more w
+    globals_still w h name d e has =
+        let t = global_type (Some d) in
+        All-weaker (HasType tags t) (HasType more t) (value_still t) (cells_of w name) (h name d e has)

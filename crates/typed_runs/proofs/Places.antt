@@ -2,7 +2,7 @@
 use Rattle.std.proofs.Common.{◌≡◌, ℕ, zero, suc, Bool, true, false, List, [], ◌∷◌, map, find, Option, Some, None, option_map, is_some, unwrap_or, All, cond, refl, sym, ap, subst, ◌∙◌, bytes_eq, if◌then◌else◌}
 use Rattle.std.specs.Prelude.{IsTrue, slice_get, slice_set}
 use Rattle.std.specs.Option.{option_map_or}
-use Rattle.std.proofs.lemmas.List.Elements.{All-cons, All-get_or, All-head, All-nil, All-tail}
+use Rattle.std.proofs.lemmas.List.Elements.{All-get_or}
 use Rattle.std.proofs.lemmas.Option.{get_or_from_slice_get, none-some, same_Some, slice_get-map, slice_get_within}
 use Rattle.c_tree.specs.BareExpr.{Bytes, BareType}
 use Rattle.c_tree.specs.BareDef.{BareBinding, BareDef}
@@ -11,41 +11,20 @@ use Rattle.c_semantics.specs.Values.{Value, int_of, zero_of}
 use Rattle.c_semantics.specs.Pieces.{Variable}
 use Rattle.c_semantics.specs.Evaluation.{in_scope, with_value}
 use Rattle.c_semantics.specs.Transformers.{zero_fields}
-use Rattle.source_model.specs.Worlds.{Cells, Object, with_cells_in}
-use Rattle.world_laws.proofs.Found.{cells_in, same_bytes}
+use Rattle.source_model.specs.Worlds.{World, Object, with_cells}
+use Rattle.world_laws.proofs.Found.{same_bytes, written}
 use Rattle.typed_trees.specs.ValueTypes.{HasType, ScopeHas}
 use Rattle.typed_trees.proofs.ValuesOfTypes.{never, zero_has}
-use Rattle.typed_runs.specs.TypedWorlds.{CellsTyped, ObjectTyped, tags_of}
+use Rattle.typed_runs.specs.TypedWorlds.{GlobalsTyped, ObjectTyped, tags_of}
 
 module _ (text : List BareDef) (tags : List Bytes) where
-  -- the cells of a name
-  abbrev pub AreOf : Bytes → List Value → Type 0
-  AreOf name cells = All (HasType tags (global_type (definition text name))) cells
-
-  pub cells_have : (name : Bytes) (gs : List Cells) → All (CellsTyped text tags) gs → AreOf name (cells_in gs name)
-  cells_have name [] h = All-nil (HasType tags (global_type (definition text name)))
-  cells_have name (g ∷ gs) h = by (bytes_eq name g.name) refl (cells_have name gs (All-tail (CellsTyped text tags) g gs h))
-    where
-      by : (b : Bool) → bytes_eq name g.name ≡ b → AreOf name (cells_in gs name)
-          → AreOf name (option_map_or (λ x. x.cells) (if b then Some g else find (λ x. bytes_eq name x.name) gs) [])
-      by true is rest =
-          subst (λ n. AreOf n g.cells) (sym (same_bytes name g.name is)) (All-head (CellsTyped text tags) g gs h)
-      by false is rest = rest
-
-  -- where they are written
-  pub cells_written : (name : Bytes) (cells : List Value) (gs : List Cells) → AreOf name cells → All (CellsTyped text tags) gs
-      → All (CellsTyped text tags) (with_cells_in name cells gs)
-  cells_written name cells [] new h = All-nil (CellsTyped text tags)
-  cells_written name cells (g ∷ gs) new h =
-      by (bytes_eq name g.name) refl (cells_written name cells gs new (All-tail (CellsTyped text tags) g gs h))
-    where
-      by : (b : Bool) → bytes_eq name g.name ≡ b → All (CellsTyped text tags) (with_cells_in name cells gs)
-          → All (CellsTyped text tags) (if b then record g { cells = cells } ∷ gs else g ∷ with_cells_in name cells gs)
-      by true is rest =
-          All-cons (CellsTyped text tags) (record g { cells = cells }) gs (subst (λ n. AreOf n cells) (same_bytes name g.name is) new)
-          (All-tail (CellsTyped text tags) g gs h)
-      by false is rest =
-          All-cons (CellsTyped text tags) g (with_cells_in name cells gs) (All-head (CellsTyped text tags) g gs h) rest
+  -- cells that are written under a name have its type
+  pub cells_written : (w : World) (name : Bytes) (cells : List Value) → All (HasType tags (global_type (definition text name))) cells
+      → GlobalsTyped text tags w → GlobalsTyped text tags (with_cells name cells w)
+  cells_written w name cells new h n d e has =
+      written (All (HasType tags (global_type (Some d)))) name cells w.globals n (h n d e has)
+      (λ same.
+      subst (λ o. All (HasType tags (global_type o)) cells) (ap (definition text) (sym (same_bytes n name same)) ∙ e) new)
 
   -- an object by its number
   pub object_at : (os : List Object) (n : ℕ) (o : Object) → slice_get os n ≡ Some o → All (ObjectTyped text tags) os → ObjectTyped text tags o

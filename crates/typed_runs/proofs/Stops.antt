@@ -36,11 +36,11 @@ use Rattle.typed_trees.specs.ValueTypes.{Environment, HasType, HaveTypes, ScopeH
 use Rattle.typed_trees.specs.ExpressionTypes.{IsArray, IsFunction, IsInteger, IsMutex, IsStruct, IsVariable, Runs, parameter_types}
 use Rattle.typed_trees.specs.PieceTypes.{HasField, Pops, PopsFormat, PopsPrinted, Stack, StopTyped, Top, field_type, going}
 use Rattle.typed_runs.specs.TypedFrames.{Below, FrameTyped, FramesTyped, ThreadTyped, result_in, version_in}
-use Rattle.typed_runs.specs.TypedWorlds.{CellsTyped, FinishTyped, ObjectTyped, SlotTyped, WorldTyped, tags_of}
+use Rattle.typed_runs.specs.TypedWorlds.{FinishTyped, GlobalsTyped, ObjectTyped, SlotTyped, WorldTyped, tags_of}
 use Rattle.typed_runs.proofs.Arguments.{Left, Taken, printed_left, reversed_have, taken_of}
 use Rattle.typed_runs.proofs.MoreObjects.{Grows, before_more, below_still, globals_still, next_number, no_more, objects_still, scopes_still, slots_still, values_still}
-use Rattle.typed_runs.proofs.Places.{cells_have, cells_written, field_has, field_written, object_at, tag_is, tags_kept, zeros_have}
-use Rattle.typed_runs.proofs.SameUses.{SameUse}
+use Rattle.typed_runs.proofs.Places.{cells_written, field_has, field_written, object_at, tag_is, tags_kept, zeros_have}
+use Rattle.typed_runs.proofs.SameUses.{HasCells, SameUse, array_cells, variable_cells}
 
 no : false ≡ true → ⊥
 no e = cc
@@ -92,7 +92,7 @@ module _ (texts : List (List BareDef)) (s : Standing) where
       grows : Grows tags (tags_of w.objects)
       slots : All (SlotTyped texts (tags_of w.objects)) w.slots
       objects : All (ObjectTyped text (tags_of w.objects)) w.objects
-      globals : All (CellsTyped text (tags_of w.objects)) w.globals
+      globals : GlobalsTyped text (tags_of w.objects) w
       finish : FinishTyped w.finish
 
     here : After s.world
@@ -175,9 +175,11 @@ module _ (texts : List (List BareDef)) (s : Standing) where
 
     -- ---- globals and arrays
 
-    cells_now : (name : Bytes) → SameUse (look name) (definition text name) → All (HasType tags (global_type (look name))) (cells_of s.world name)
-    cells_now name same =
-        subst (λ t. All (HasType tags t) (cells_of s.world name)) (sym same.global_is) (cells_have text tags name s.world.globals r.world.globals)
+    cells_now : (name : Bytes) → SameUse (look name) (definition text name) → HasCells (definition text name)
+        → All (HasType tags (global_type (look name))) (cells_of s.world name)
+    cells_now name same c =
+        subst (λ t. All (HasType tags t) (cells_of s.world name)) (sym (same.global_is ∙ ap global_type c.is))
+        (r.world.globals name c.one c.is c.has)
 
     -- a variable has one cell
     one_cell : (name : Bytes) (o : Option BareDef) → definition s.world.text name ≡ o → IsVariable o
@@ -197,7 +199,7 @@ module _ (texts : List (List BareDef)) (s : Standing) where
         (first_has (global_type (look name)) (cells_of s.world name)
         (one_cell name (definition s.world.text name) refl
         (subst (λ t. IsVariable (definition t name)) (sym r.of.last) (same.variable is)))
-        (cells_now name same), h)
+        (cells_now name same (variable_cells (definition text name) (same.variable is))), h)
 
     after_cells : (name : Bytes) (cells : List Value) → SameUse (look name) (definition text name)
         → All (HasType tags (global_type (look name))) cells → After (with_cells name cells s.world)
@@ -205,7 +207,7 @@ module _ (texts : List (List BareDef)) (s : Standing) where
       grows = no_more tags tags refl;
       slots = r.world.slots r.runs;
       objects = r.world.objects;
-      globals = cells_written text tags name cells s.world.globals (subst (λ t. All (HasType tags t) cells) same.global_is new) r.world.globals;
+      globals = cells_written text tags s.world name cells (subst (λ t. All (HasType tags t) cells) same.global_is new) r.world.globals;
       finish = r.world.finish;
     }
 
@@ -227,10 +229,10 @@ module _ (texts : List (List BareDef)) (s : Standing) where
     within (pos n) cells e = ltb-true n (length cells) (second _ _ e)
     within (negsuc n) cells e = absurd (no e)
 
-    read_element_kept : (name : Bytes) (values : List Value) (stack : Stack) → SameUse (look name) (definition text name)
+    read_element_kept : (name : Bytes) (values : List Value) (stack : Stack) → SameUse (look name) (definition text name) → IsArray (look name)
         → Top stack (λ i under. IsInteger i × On (global_type (look name) ∷ under)) → HaveTypes tags stack values
         → Kept (read_element s name values)
-    read_element_kept name values stack same =
+    read_element_kept name values stack same array =
         newest (read_element s name) _ stack values (λ t under v rest p h rest_have.
         a_number (λ x. read_element s name (x ∷ rest)) t v (λ n. found n under rest p.1 rest_have) p.0 h)
       where
@@ -251,10 +253,10 @@ module _ (texts : List (List BareDef)) (s : Standing) where
                 (All-get_or (HasType tags (global_type (look name))) cells at (int_of 0) (within (value_of n) cells is) (cells_now name same)), rest_have)
             by false is = trapped Index
 
-    write_element_kept : (name : Bytes) (values : List Value) (stack : Stack) → SameUse (look name) (definition text name)
+    write_element_kept : (name : Bytes) (values : List Value) (stack : Stack) → SameUse (look name) (definition text name) → IsArray (look name)
         → Top stack (λ t below. (t ≡ global_type (look name)) × Top below (λ i under. IsInteger i × On (global_type (look name) ∷ under)))
         → HaveTypes tags stack values → Kept (write_element s name values)
-    write_element_kept name values stack same =
+    write_element_kept name values stack same array =
         newest (write_element s name) _ stack values (λ t below v more p h more_have.
         newest (λ vs. write_element s name (v ∷ vs)) _ below more (λ u under w rest q g rest_have.
         a_number (λ x. write_element s name (v ∷ x ∷ rest)) u w
@@ -270,7 +272,7 @@ module _ (texts : List (List BareDef)) (s : Standing) where
             let at = unsigned_abs (value_of n) in
             either_way (WorldTyped texts) (in_bounds (value_of n) cells) (goes_on s (with_cells name (slice_set cells at v) s.world) (v ∷ rest)) (traps s Index)
             (goes (with_cells name (slice_set cells at v) s.world) (v ∷ rest) (type ∷ under)
-            (after_cells name (slice_set cells at v) same (All-set (HasType tags type) cells at v has (cells_now name same))) on (has, rest_have))
+            (after_cells name (slice_set cells at v) same (All-set (HasType tags type) cells at v has (cells_now name same (array_cells (definition text name) (same.array array))))) on (has, rest_have))
             (trapped Index)
 
     -- ---- objects
@@ -329,7 +331,7 @@ module _ (texts : List (List BareDef)) (s : Standing) where
           slots = slots_still tags more grows texts s.world.slots (r.world.slots r.runs);
           objects = objects_still tags more grows text (slice_set s.world.objects n y)
               (All-set (ObjectTyped text tags) s.world.objects n y h r.world.objects);
-          globals = globals_still tags more grows text s.world.globals r.world.globals;
+          globals = globals_still tags more grows text s.world r.world.globals;
           finish = r.world.finish;
         }
 
@@ -403,7 +405,7 @@ module _ (texts : List (List BareDef)) (s : Standing) where
             (λ is. subst (λ ms. ScopeHas (tags_of created) (members_of (definition text (struct_name tag))) (zero_fields ms)) (sym members_now)
             (zeros_have (tags_of created) (members_of (definition text (struct_name tag)))))
             (All-nil (ObjectTyped text (tags_of created))));
-        globals = globals_still tags (tags_of created) grown text s.world.globals r.world.globals;
+        globals = globals_still tags (tags_of created) grown text s.world r.world.globals;
         finish = r.world.finish;
       }
 
@@ -435,8 +437,9 @@ module _ (texts : List (List BareDef)) (s : Standing) where
           slots = subst (λ os. All (SlotTyped texts (tags_of os)) w.slots) (sym objects)
               (subst (All (SlotTyped texts tags)) (sym slots) (r.world.slots r.runs));
           objects = subst (λ os. All (ObjectTyped text (tags_of os)) os) (sym objects) r.world.objects;
-          globals = subst (λ os. All (CellsTyped text (tags_of os)) w.globals) (sym objects)
-              (subst (All (CellsTyped text tags)) (sym globals) r.world.globals);
+          globals = λ name d e has.
+              subst (λ os. All (HasType (tags_of os) (global_type (Some d))) (cells_of w name)) (sym objects)
+              (subst (λ gs. All (HasType tags (global_type (Some d))) (cells_in gs name)) (sym globals) (r.world.globals name d e has));
           finish = subst FinishTyped (sym finish) r.world.finish;
         }
 
@@ -614,8 +617,8 @@ module _ (texts : List (List BareDef)) (s : Standing) where
         → AllOf (WorldTyped texts) (perform x s values)
     perform_kept (ReadGlobal name) values stack t h same = read_global_kept name values stack (same name refl) t.0 t.1 h
     perform_kept (WriteGlobal name) values stack t h same = write_global_kept name values stack (same name refl) t.1 h
-    perform_kept (ReadElement name) values stack t h same = read_element_kept name values stack (same name refl) t.1 h
-    perform_kept (WriteElement name) values stack t h same = write_element_kept name values stack (same name refl) t.1 h
+    perform_kept (ReadElement name) values stack t h same = read_element_kept name values stack (same name refl) t.0 t.1 h
+    perform_kept (WriteElement name) values stack t h same = write_element_kept name values stack (same name refl) t.0 t.1 h
     perform_kept (ReadField tag name) values stack t h same = read_field_kept tag name values stack (same (struct_name tag) refl) t.0 t.1 h
     perform_kept (WriteField tag name) values stack t h same = write_field_kept tag name values stack (same (struct_name tag) refl) t.0 t.1 h
     perform_kept (New tag) values stack t h same = allocate_kept tag values stack t.1 h

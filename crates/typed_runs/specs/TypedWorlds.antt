@@ -1,5 +1,5 @@
 -- Worlds in which all values have the types of their places, by the texts of a run's versions.
-use Rattle.std.specs.Prelude.{◌≡◌, List, map, All, Option, Some, None}
+use Rattle.std.specs.Prelude.{◌≡◌, IsTrue, List, map, All, Option, Some, None}
 use Rattle.c_ints.specs.declared.kind.Kind.TheVariants.{I32}
 use Rattle.c_ints.specs.declared.int.Int.{Int}
 use Rattle.c_ints.specs.Number.{kind_of, value_of}
@@ -7,7 +7,8 @@ use Rattle.c_tree.specs.BareExpr.{Bytes}
 use Rattle.c_tree.specs.BareDef.{BareDef}
 use Rattle.c_semantics.specs.Names.{struct_name}
 use Rattle.c_semantics.specs.Texts.{definition, global_type, int, members_of}
-use Rattle.source_model.specs.Worlds.{World, Cells, Object, Slot, Free, Live, Over, Finish, Finished, Trapped}
+use Rattle.source_model.specs.Worlds.{World, Object, Slot, Free, Live, Over, Finish, Finished, Trapped, cells_of}
+use Rattle.source_model.specs.Installs.{has_cells}
 use Rattle.version_laws.specs.Histories.{last_text}
 use Rattle.typed_trees.specs.ValueTypes.{HasType, ScopeHas}
 use Rattle.typed_trees.specs.ExpressionTypes.{IsStruct}
@@ -29,9 +30,11 @@ abbrev pub ObjectTyped : List BareDef → List Bytes → Object → Type 0
 ObjectTyped text tags o =
     IsStruct (definition text (struct_name o.tag)) → ScopeHas tags (members_of (definition text (struct_name o.tag))) o.fields
 
--- the cells of a global variable or an array are of its type
-abbrev pub CellsTyped : List BareDef → List Bytes → Cells → Type 0
-CellsTyped text tags g = All (HasType tags (global_type (definition text g.name))) g.cells
+-- under the name of each global variable and array of a text a world has cells of its type
+abbrev pub GlobalsTyped : List BareDef → List Bytes → World → Type 0
+GlobalsTyped text tags w =
+    (name : Bytes) (d : BareDef)
+    → definition text name ≡ Some d → IsTrue (has_cells d) → All (HasType tags (global_type (Some d))) (cells_of w name)
 
 -- the number with which main ended a run is that of an int
 abbrev pub FinishTyped : Option Finish → Type 0
@@ -44,5 +47,5 @@ FinishTyped None = Unit {0}
 pub record WorldTyped (texts : List (List BareDef)) (w : World) : Type 0 where
   pub slots : w.finish ≡ None → All (SlotTyped texts (tags_of w.objects)) w.slots
   pub objects : All (ObjectTyped (last_text texts) (tags_of w.objects)) w.objects
-  pub globals : All (CellsTyped (last_text texts) (tags_of w.objects)) w.globals
+  pub globals : GlobalsTyped (last_text texts) (tags_of w.objects) w
   pub finish : FinishTyped w.finish
