@@ -250,7 +250,7 @@ module _ (texts : List (List BareDef)) (s : Standing) where
                 let at = unsigned_abs (value_of n) in
                 goes_here _ (global_type (look name) ∷ under) on
                 (subst (HasType tags (global_type (look name))) (sym (unwrap_or-slice_get cells at (int_of 0)))
-                (All-get_or (HasType tags (global_type (look name))) cells at (int_of 0) (within (value_of n) cells is) (cells_now name same)), rest_have)
+                (All-get_or (HasType tags (global_type (look name))) cells at (int_of 0) (within (value_of n) cells is) (cells_now name same (array_cells (definition text name) (same.array array)))), rest_have)
             by false is = trapped Index
 
     write_element_kept : (name : Bytes) (values : List Value) (stack : Stack) → SameUse (look name) (definition text name) → IsArray (look name)
