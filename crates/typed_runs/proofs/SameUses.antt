@@ -32,7 +32,7 @@ results r q n m ps qs body code e = ap (λ x. result_type (Some (Function x n ps
     same None = refl
     same (Some t) = refl
 
-equal_uses : (a b : BareDef) → HaveEqualInterfaces a b → SameUse (Some a) (Some b)
+pub equal_uses : (a b : BareDef) → HaveEqualInterfaces a b → SameUse (Some a) (Some b)
 equal_uses (Struct tag ms) (Struct other ns) h = record {
   global_is = refl; result_is = refl; parameters_are = refl; members_are = h;
   variable = λ x. x; array = λ x. x; function = λ x. x; struct = λ x. x;

@@ -1,8 +1,26 @@
-//! What moves and installs keep of a world's types, each as the contract of a call that does nothing.
+//! What the first world has of types, and what moves, installs and runs keep of them, each as the contract of a call that does
+//! nothing.
 
-ghost use Rattle.typed_runs.specs.TypedRunLaws.{MovesKeepTypes};
+ghost use Rattle.typed_runs.specs.TypedRunLaws.{FirstWorldTyped, InstallsKeepTypes, MovesKeepTypes, RunsAreTyped};
 
-/// Each move of a typed world of accepted texts leaves a typed world.
+/// The first world of an accepted text is typed.
+pub fn first_worlds_are_typed()
+    ensures { FirstWorldTyped }
+{}
+
+/// Each move of a typed world of accepted texts leaves a typed world: local evaluation and each stop keep the types of frames,
+/// globals, arrays and objects, and an enter has them.
 pub fn moves_keep_types()
     ensures { MovesKeepTypes }
+{}
+
+/// An install of an accepted text leaves a typed world, where the text's transformers have no fault. The frames that are there
+/// stay typed by their own versions.
+pub fn installs_keep_types()
+    ensures { InstallsKeepTypes }
+{}
+
+/// Each world that a run of accepted texts comes to is typed.
+pub fn runs_are_typed()
+    ensures { RunsAreTyped }
 {}

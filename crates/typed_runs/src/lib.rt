@@ -3,4 +3,4 @@
 
 mod laws;
 
-pub use laws::moves_keep_types;
+pub use laws::{first_worlds_are_typed, installs_keep_types, moves_keep_types, runs_are_typed};

@@ -1,5 +1,5 @@
-use Rattle.typed_runs.proofs.Laws as laws
+use Rattle.typed_runs.proofs.Laws as proofs
 use Rattle.typed_runs.proofs.laws.moves_keep_types.Goals as goal
 
 pub returns : goal.returns
-returns c = laws.moves_keep_types
+returns c = proofs.moves_keep_types
