@@ -1,6 +1,6 @@
 -- The first world of an accepted text is typed.
 use Rattle.std.proofs.Common.{◌≡◌, ℕ, Bool, true, false, List, [], ◌∷◌, map, replicate, Option, Some, None, unwrap_or, option_and_then, codes, All, refl, sym, ap, subst, ◌∙◌, le_refl, ◌-◌}
-use Rattle.std.specs.Prelude.{IsTrue, slice_index_or}
+use Rattle.std.specs.Prelude.{filter_map, slice_index_or}
 use Rattle.std.specs.Option.{option_map_or}
 use Rattle.std.proofs.lemmas.List.Elements.{All-cons, All-map, All-nil, All-replicate}
 use Rattle.c_ints.specs.declared.kind.Kind.{Kind}
@@ -31,20 +31,17 @@ use Rattle.c_semantics.specs.Constants.{chosen, constant, elements, initial, ini
 use Rattle.c_semantics.specs.SourceTexts.{Text}
 use Rattle.c_semantics.specs.Threads.{started}
 use Rattle.source_model.specs.Worlds.{Limits, Free, Live, cells_at_first, first_world, main_enter}
-use Rattle.source_model.specs.Installs.{has_cells}
+use Rattle.typed_transformers.specs.TransformerTypes.{HasCells}
 use Rattle.typed_uses.proofs.Faultless.{none_hidden, passes}
 use Rattle.frame_bodies.specs.AcceptedTexts.{IsAccepted}
 use Rattle.frame_bodies.proofs.AcceptedFacts.{bare_of, facts_in}
 use Rattle.typed_texts.proofs.Meanings.{function_named}
-use Rattle.world_laws.proofs.Found.{cells_found, entry_of}
+use Rattle.world_laws.proofs.Found.{cells_found, cells_in, entry_of}
 use Rattle.typed_trees.specs.ValueTypes.{HasType, HaveTypes}
 use Rattle.typed_trees.specs.ExpressionTypes.{IsFunction, parameter_types}
 use Rattle.typed_trees.proofs.ValuesOfTypes.{zero_has}
 use Rattle.typed_runs.specs.TypedWorlds.{ObjectTyped, SlotTyped, WorldTyped}
-use Rattle.typed_runs.proofs.Transformed.{filled_typed}
-
-no : false ≡ true → ⊥
-no e = cc
+use Rattle.typed_transformers.proofs.Transformed.{filled_typed}
 
 -- ---- main
 
@@ -185,14 +182,14 @@ module _ (tags : List Bytes) where
   initial_typed t None = zero_has tags t
   initial_typed t (Some x) = converted_typed t (constant no_old x) (constant_none x)
 
-  pub initial_cells_typed : (d : BareDef) → IsTrue (has_cells d) → All (HasType tags (global_type (Some d))) (initial_cells d)
+  pub initial_cells_typed : (d : BareDef) → HasCells (Some d) → All (HasType tags (global_type (Some d))) (initial_cells d)
   initial_cells_typed (Global d) has =
       All-cons (HasType tags d.declared) (initial d.declared d.initial) [] (initial_typed d.declared d.initial) (All-nil (HasType tags d.declared))
   initial_cells_typed (Array type name n values) has =
       filled_typed tags type (elements n) (map (λ v. initial type (Some v)) (unwrap_or values []))
       (All-map (HasType tags type) (λ v. initial type (Some v)) (unwrap_or values [])
       (λ k d within. initial_typed type (Some (slice_index_or (unwrap_or values []) k d))))
-  initial_cells_typed _ has = absurd (no has)
+  initial_cells_typed _ has = absurd has
 
 -- ---- the first world
 
@@ -207,6 +204,16 @@ makes_first (Prototype r name ps) = refl
 makes_first (TransformStruct tag values) = refl
 makes_first (TransformGlobal name value) = refl
 
+first_cells : (text : List BareDef) (name : Bytes) (o : Option BareDef) → definition text name ≡ o → HasCells o
+    → All (HasType [] (global_type o)) (cells_in (filter_map cells_at_first text) name)
+first_cells text name (Some (Global d)) e has =
+    subst (All (HasType [] d.declared)) (sym (cells_found cells_at_first initial_cells makes_first text name (Global d) refl e))
+    (initial_cells_typed [] (Global d) tt)
+first_cells text name (Some (Array type own n values)) e has =
+    subst (All (HasType [] type)) (sym (cells_found cells_at_first initial_cells makes_first text name (Array type own n values) refl e))
+    (initial_cells_typed [] (Array type own n values) tt)
+first_cells text name _ e has = absurd has
+
 pub first_typed : (text : List BareDef) (limits : Limits) → MainTyped text → WorldTyped (text ∷ []) (first_world text limits)
 first_typed text limits main = record {
   slots = λ e.
@@ -219,8 +226,6 @@ first_typed text limits main = record {
       main.returns)
       (All-replicate (SlotTyped (text ∷ []) []) (limits.slots - 1) Free tt);
   objects = All-nil (ObjectTyped text []);
-  globals = λ name d e has.
-      subst (All (HasType [] (global_type (Some d)))) (sym (cells_found cells_at_first initial_cells makes_first text name d has e))
-      (initial_cells_typed [] d has);
+  globals = λ name. first_cells text name (definition text name) refl;
   finish = tt;
 }

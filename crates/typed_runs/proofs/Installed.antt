@@ -1,29 +1,26 @@
 -- An install of an accepted text whose transformers have no fault leaves a typed world.
 use Rattle.std.proofs.Common.{◌≡◌, ℕ, ◌≤◌, Bool, true, false, List, [], ◌∷◌, ◌++◌, map, length, Option, Some, None, All, refl, sym, ap, subst, ◌∙◌, arith, if◌then◌else◌}
-use Rattle.std.specs.Prelude.{IsTrue, filter_map}
+use Rattle.std.specs.Prelude.{filter_map}
 use Rattle.std.proofs.lemmas.List.Elements.{All-map, All-weaker}
 use Rattle.c_tree.specs.BareExpr.{Bytes, BareType}
 use Rattle.c_tree.specs.BareDef.{BareDef, Struct, Forward, Mutex, Function, Prototype, Global, Array, TransformStruct, TransformGlobal}
-use Rattle.c_tree.specs.Bare.{bare_def}
-use Rattle.c_tree.specs.declared.def.Def.{Def}
 use Rattle.c_semantics.specs.Names.{struct_name}
 use Rattle.c_semantics.specs.Texts.{definition, global_type, members_of, result_type}
 use Rattle.c_semantics.specs.Changes.{same_interface}
 use Rattle.c_semantics.specs.Values.{Value}
 use Rattle.c_semantics.specs.Constants.{initial_cells}
 use Rattle.c_semantics.specs.Transformers.{transformed, transformed_global}
+use Rattle.c_semantics.specs.SourceTexts.{Text}
 use Rattle.c_semantics.specs.Threads.{Enter, Frame}
 use Rattle.source_model.specs.Worlds.{World, Object, Slot, Free, Live, Over, cells_of}
-use Rattle.source_model.specs.Installs.{brought, brought_by, carried, global_after, has_cells, installed}
-use Rattle.patch_faults.specs.TransformFaults.{transform_faults}
+use Rattle.source_model.specs.Installs.{brought, brought_by, carried, global_after, installed}
 use Rattle.definition_laws.specs.EqualParts.{HaveEqualInterfaces}
 use Rattle.definition_laws.proofs.SameDefinitions.{interface_equal_if_same}
 use Rattle.version_laws.specs.Histories.{last_text, text_in}
 use Rattle.version_laws.proofs.TableHistories.{last_is_next, one_longer, text_as_before}
 use Rattle.world_laws.specs.Holdings.{HoldsGlobals}
 use Rattle.world_laws.proofs.Found.{cells_found, cells_in, entry_of, found_defines, same_bytes}
-use Rattle.typed_uses.proofs.SoundTexts.{Facts}
-use Rattle.typed_uses.proofs.Lookups.{look}
+use Rattle.frame_bodies.specs.AcceptedTexts.{looked_up}
 use Rattle.typed_trees.specs.ValueTypes.{HasType, HaveTypes, ScopeHas}
 use Rattle.typed_trees.specs.ExpressionTypes.{IsFunction, IsStruct, parameter_types}
 use Rattle.typed_trees.specs.PieceTypes.{GoesOn, going}
@@ -33,10 +30,12 @@ use Rattle.typed_runs.proofs.FirstWorld.{initial_cells_typed}
 use Rattle.typed_runs.proofs.MoreObjects.{Grows, globals_still, no_more, objects_still, slots_still}
 use Rattle.typed_runs.proofs.Places.{zeros_have}
 use Rattle.typed_runs.proofs.SameUses.{equal_uses}
-use Rattle.typed_runs.proofs.Transformed.{OldCells, cells_typed, fields_typed}
+use Rattle.typed_transformers.specs.TransformerTypes.{CellsAreTyped, CellsTyped, FieldsAreTyped, Follows, HasCells}
 
-no : false ≡ true → ⊥
-no e = cc
+-- what transformers give, as `typed_transformers` has it
+pub record Transforms : Type 0 where
+  pub fields : FieldsAreTyped
+  pub cells : CellsAreTyped
 
 -- ---- frames of the versions so far
 
@@ -110,22 +109,22 @@ struct_before (Struct tag ms) b e h = tt
 struct_before _ (Struct tag ms) e h = absurd e
 struct_before _ _ e h = absurd h
 
-cells_before : (a b : BareDef) → HaveEqualInterfaces a b → has_cells b ≡ true → has_cells a ≡ true
-cells_before (Global d) b e h = refl
-cells_before (Array t n k values) b e h = refl
+cells_before : (a b : BareDef) → HaveEqualInterfaces a b → HasCells (Some b) → HasCells (Some a)
+cells_before (Global d) b e h = tt
+cells_before (Array t n k values) b e h = tt
 cells_before _ (Global d) e h = absurd e
 cells_before _ (Array t n k values) e h = absurd e
-cells_before _ _ e h = absurd (no h)
+cells_before _ _ e h = absurd h
 
-module _ (p q : List Def) (old_facts : Facts p) (new_facts : Facts q) (faultless : transform_faults p q ≡ []) (tags : List Bytes) where
+module _ (transforms : Transforms) (p q : Text) (follows : Follows p q) (tags : List Bytes) where
   abbrev old : List BareDef
-  old = map bare_def p
+  old = p.definitions
 
   abbrev new : List BareDef
-  new = map bare_def q
+  new = q.definitions
 
   brought_tag : (o : Object) → (brought old new o).tag ≡ o.tag
-  brought_tag o = by (look p (struct_name o.tag)) (look q (struct_name o.tag))
+  brought_tag o = by (looked_up p (struct_name o.tag)) (looked_up q (struct_name o.tag))
     where
       by : (a b : Option BareDef) → (brought_by old new o a b).tag ≡ o.tag
       by a None = refl
@@ -138,10 +137,10 @@ module _ (p q : List Def) (old_facts : Facts p) (new_facts : Facts q) (faultless
 
   object_brought : (o : Object) → ObjectTyped old tags o → ObjectTyped new tags (brought old new o)
   object_brought o h =
-      subst (λ t. IsStruct (look q (struct_name t)) → ScopeHas tags (members_of (look q (struct_name t))) (brought old new o).fields)
-      (sym (brought_tag o)) (by (look p (struct_name o.tag)) (look q (struct_name o.tag)) refl refl)
+      subst (λ t. IsStruct (looked_up q (struct_name t)) → ScopeHas tags (members_of (looked_up q (struct_name t))) (brought old new o).fields)
+      (sym (brought_tag o)) (by (looked_up p (struct_name o.tag)) (looked_up q (struct_name o.tag)) refl refl)
     where
-      by : (a b : Option BareDef) → look p (struct_name o.tag) ≡ a → look q (struct_name o.tag) ≡ b → IsStruct b
+      by : (a b : Option BareDef) → looked_up p (struct_name o.tag) ≡ a → looked_up q (struct_name o.tag) ≡ b → IsStruct b
           → ScopeHas tags (members_of b) (brought_by old new o a b).fields
       by a None was now struct = absurd struct
       by None (Some d) was now struct = zeros_have tags (members_of (Some d))
@@ -155,7 +154,7 @@ module _ (p q : List Def) (old_facts : Facts p) (new_facts : Facts q) (faultless
               (subst (λ u. IsStruct u → ScopeHas tags (members_of u) o.fields) was h (struct_before a b equal struct))
           each false same =
               subst (λ u. ScopeHas tags (members_of u) (transformed old new o.tag o.fields)) now
-              (fields_typed tags p q old_facts o.tag o.fields h new_facts faultless (subst IsStruct (sym now) struct))
+              (transforms.fields p q tags o.tag o.fields follows (subst IsStruct (sym now) struct) h)
 
   pub objects_brought : (os : List Object) → All (ObjectTyped old tags) os → All (ObjectTyped new tags) (map (brought old new) os)
   objects_brought os h =
@@ -168,14 +167,14 @@ module _ (p q : List Def) (old_facts : Facts p) (new_facts : Facts q) (faultless
 
   module _ (w : World) (text_is : w.text ≡ old) (typed : GlobalsTyped old tags w) (holds : HoldsGlobals w) where
     -- the cells of a name before
-    old_cells : (name : Bytes) → OldCells tags (look p name) (cells_of w name)
+    old_cells : (name : Bytes) → CellsTyped tags (looked_up p name) (cells_of w name)
     old_cells name = record {
-      typed = λ d e has. typed name d e has;
+      typed = typed name;
       one = λ d e.
           let one = holds.variables name d (subst (λ t. definition t name ≡ Some (Global d)) (sym text_is) e) in (one.value, one.is);
     }
 
-    carried_typed : (name : Bytes) (d : BareDef) → look q name ≡ Some d → IsTrue (has_cells d) → (o : Option BareDef) → look p name ≡ o
+    carried_typed : (name : Bytes) (d : BareDef) → looked_up q name ≡ Some d → HasCells (Some d) → (o : Option BareDef) → looked_up p name ≡ o
         → All (HasType tags (global_type (Some d))) (carried w old new d name o)
     carried_typed name d now has None was = initial_cells_typed tags d has
     carried_typed name d now has (Some before) was = by (same_interface before d) refl
@@ -185,14 +184,15 @@ module _ (p q : List Def) (old_facts : Facts p) (new_facts : Facts q) (faultless
         by true same =
             let equal = interface_equal_if_same before d same in
             subst (λ t. All (HasType tags t) (cells_of w name)) (equal_uses before d equal).global_is
-            (typed name before was (cells_before before d equal has))
+            (subst (λ o. HasCells o → All (HasType tags (global_type o)) (cells_of w name)) was (typed name) (cells_before before d equal has))
         by false same =
-            cells_typed tags p q name d (cells_of w name) old_facts new_facts faultless now has (old_cells name)
+            subst (λ o. All (HasType tags (global_type o)) (transformed_global old new name (cells_of w name))) now
+            (transforms.cells p q tags name (cells_of w name) follows (old_cells name))
 
     -- the cells of each definition after the install
     abbrev cells_after : BareDef → List Value
-    cells_after (Global d) = carried w old new (Global d) d.name (look p d.name)
-    cells_after (Array type name n values) = carried w old new (Array type name n values) name (look p name)
+    cells_after (Global d) = carried w old new (Global d) d.name (looked_up p d.name)
+    cells_after (Array type name n values) = carried w old new (Array type name n values) name (looked_up p name)
     cells_after _ = []
 
     makes_after : (d : BareDef) → global_after w old new d ≡ entry_of cells_after d
@@ -207,67 +207,71 @@ module _ (p q : List Def) (old_facts : Facts p) (new_facts : Facts q) (faultless
     makes_after (TransformGlobal name value) = refl
 
     -- under its name, which is its own
-    own_cells : (name : Bytes) (d : BareDef) → look q name ≡ Some d → IsTrue (has_cells d) → cells_after d ≡ carried w old new d name (look p name)
-    own_cells name (Global d) e has =
-        ap (λ n. carried w old new (Global d) n (look p n)) (sym (same_bytes name d.name (found_defines new name (Global d) e)))
-    own_cells name (Array type own n values) e has =
-        ap (λ x. carried w old new (Array type own n values) x (look p x))
-        (sym (same_bytes name own (found_defines new name (Array type own n values) e)))
-    own_cells name _ e has = absurd (no has)
+    found_cells : (name : Bytes) (o : Option BareDef) → looked_up q name ≡ o → HasCells o
+        → All (HasType tags (global_type o)) (cells_in (filter_map (global_after w old new) new) name)
+    found_cells name (Some (Global d)) e has =
+        let own : name ≡ d.name = same_bytes name d.name (found_defines new name (Global d) e) in
+        subst (All (HasType tags d.declared)) (sym (cells_found (global_after w old new) cells_after makes_after new name (Global d) refl e))
+        (subst (λ n. All (HasType tags d.declared) (carried w old new (Global d) n (looked_up p n))) own
+        (carried_typed name (Global d) e tt (looked_up p name) refl))
+    found_cells name (Some (Array type own n values)) e has =
+        let is : name ≡ own = same_bytes name own (found_defines new name (Array type own n values) e) in
+        subst (All (HasType tags type)) (sym (cells_found (global_after w old new) cells_after makes_after new name (Array type own n values) refl e))
+        (subst (λ x. All (HasType tags type) (carried w old new (Array type own n values) x (looked_up p x))) is
+        (carried_typed name (Array type own n values) e tt (looked_up p name) refl))
+    found_cells name _ e has = absurd has
 
     pub globals_carried : GlobalsTyped new tags (installed new w)
-    globals_carried name d e has =
-        subst (λ text. All (HasType tags (global_type (Some d))) (cells_in (filter_map (global_after w text new) new) name)) (sym text_is)
-        (subst (All (HasType tags (global_type (Some d))))
-        (sym (cells_found (global_after w old new) cells_after makes_after new name d has e ∙ own_cells name d e has))
-        (carried_typed name d e has (look p name) refl))
+    globals_carried name has =
+        subst (λ text. All (HasType tags (global_type (looked_up q name))) (cells_in (filter_map (global_after w text new) new) name)) (sym text_is)
+        (found_cells name (looked_up q name) refl has)
 
 -- ---- the world
 
-pub installed_typed : (texts : List (List BareDef)) (p q : List Def) (w : World) → last_text texts ≡ map bare_def p → w.text ≡ last_text texts
-    → Facts p → Facts q → transform_faults p q ≡ [] → HoldsGlobals w → WorldTyped texts w
-    → WorldTyped (texts ++ map bare_def q ∷ []) (installed (map bare_def q) w)
-installed_typed texts p q w last text old_facts new_facts faultless holds typed = record {
-  slots = λ e.
-      All-weaker (SlotTyped texts more) (SlotTyped (texts ++ new ∷ []) more) (slot_longer texts new more) w.slots
-      (slots_still tags more grows texts w.slots (typed.slots e));
+module _ (transforms : Transforms) (texts : List (List BareDef)) (p q : Text) (w : World) (last : last_text texts ≡ p.definitions)
+    (text : w.text ≡ last_text texts) (follows : Follows p q) (holds : HoldsGlobals w) (typed : WorldTyped texts w) where
+  abbrev before : List BareDef
+  before = p.definitions
+
+  abbrev after : List BareDef
+  after = q.definitions
+
+  abbrev tags : List Bytes
+  tags = tags_of w.objects
+
+  abbrev more : List Bytes
+  more = tags_of (map (brought w.text after) w.objects)
+
+  text_is : w.text ≡ before
+  text_is = text ∙ last
+
+  same_tags : more ≡ tags
+  same_tags =
+      subst (λ t. tags_of (map (brought t after) w.objects) ≡ tags) (sym text_is)
+      (brought_tags transforms p q follows tags w.objects)
+
+  grows : Grows tags more
+  grows = no_more tags more same_tags
+
+  objects : All (ObjectTyped after tags) (installed after w).objects
   objects =
-      subst (λ t. All (ObjectTyped t more) (installed new w).objects) (sym (last_is_next texts new))
-      (objects_still tags more grows new (installed new w).objects objects);
+      subst (λ t. All (ObjectTyped after tags) (map (brought t after) w.objects)) (sym text_is)
+      (objects_brought transforms p q follows tags w.objects (subst (λ t. All (ObjectTyped t tags) w.objects) last typed.objects))
+
+  globals : GlobalsTyped after tags (installed after w)
   globals =
-      subst (λ t. GlobalsTyped t more (installed new w)) (sym (last_is_next texts new))
-      (globals_still tags more grows new (installed new w) globals);
-  finish = typed.finish;
-}
-  where
-    abbrev old : List BareDef
-    old = map bare_def p
+      globals_carried transforms p q follows tags w text_is (subst (λ t. GlobalsTyped t tags w) last typed.globals) holds
 
-    abbrev new : List BareDef
-    new = map bare_def q
-
-    abbrev tags : List Bytes
-    tags = tags_of w.objects
-
-    abbrev more : List Bytes
-    more = tags_of (map (brought w.text new) w.objects)
-
-    text_is : w.text ≡ old
-    text_is = text ∙ last
-
-    same_tags : more ≡ tags
-    same_tags =
-        subst (λ t. tags_of (map (brought t new) w.objects) ≡ tags) (sym text_is)
-        (brought_tags p q old_facts new_facts faultless tags w.objects)
-
-    grows : Grows tags more
-    grows = no_more tags more same_tags
-
-    objects : All (ObjectTyped new tags) (installed new w).objects
+  pub installed_typed : WorldTyped (texts ++ after ∷ []) (installed after w)
+  installed_typed = record {
+    slots = λ e.
+        All-weaker (SlotTyped texts more) (SlotTyped (texts ++ after ∷ []) more) (slot_longer texts after more) w.slots
+        (slots_still tags more grows texts w.slots (typed.slots e));
     objects =
-        subst (λ t. All (ObjectTyped new tags) (map (brought t new) w.objects)) (sym text_is)
-        (objects_brought p q old_facts new_facts faultless tags w.objects (subst (λ t. All (ObjectTyped t tags) w.objects) last typed.objects))
-
-    globals : GlobalsTyped new tags (installed new w)
+        subst (λ t. All (ObjectTyped t more) (installed after w).objects) (sym (last_is_next texts after))
+        (objects_still tags more grows after (installed after w).objects objects);
     globals =
-        globals_carried p q old_facts new_facts faultless tags w text_is (subst (λ t. GlobalsTyped t tags w) last typed.globals) holds
+        subst (λ t. GlobalsTyped t more (installed after w)) (sym (last_is_next texts after))
+        (globals_still tags more grows after (installed after w) globals);
+    finish = typed.finish;
+  }

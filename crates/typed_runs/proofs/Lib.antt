@@ -4,8 +4,6 @@ pub mod Places
 pub mod Arguments
 pub mod Stops
 pub mod Moves
-pub mod TransformedHandles
-pub mod Transformed
 pub mod FirstWorld
 pub mod Installed
 pub mod Laws

@@ -117,6 +117,6 @@ module _ (tags more : List Bytes) (grows : Grows tags more) where
     objects_still = All-weaker (ObjectTyped text tags) (ObjectTyped text more) object_still
 
     pub globals_still : (w : World) → GlobalsTyped text tags w → GlobalsTyped text more w
-    globals_still w h name d e has =
-        let t = global_type (Some d) in
-        All-weaker (HasType tags t) (HasType more t) (value_still t) (cells_of w name) (h name d e has)
+    globals_still w h name has =
+        let t = global_type (definition text name) in
+        All-weaker (HasType tags t) (HasType more t) (value_still t) (cells_of w name) (h name has)

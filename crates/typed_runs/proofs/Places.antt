@@ -21,10 +21,9 @@ module _ (text : List BareDef) (tags : List Bytes) where
   -- cells that are written under a name have its type
   pub cells_written : (w : World) (name : Bytes) (cells : List Value) → All (HasType tags (global_type (definition text name))) cells
       → GlobalsTyped text tags w → GlobalsTyped text tags (with_cells name cells w)
-  cells_written w name cells new h n d e has =
-      written (All (HasType tags (global_type (Some d)))) name cells w.globals n (h n d e has)
-      (λ same.
-      subst (λ o. All (HasType tags (global_type o)) cells) (ap (definition text) (sym (same_bytes n name same)) ∙ e) new)
+  cells_written w name cells new h n has =
+      written (All (HasType tags (global_type (definition text n)))) name cells w.globals n (h n has)
+      (λ same. subst (λ m. All (HasType tags (global_type (definition text m))) cells) (sym (same_bytes n name same)) new)
 
   -- an object by its number
   pub object_at : (os : List Object) (n : ℕ) (o : Object) → slice_get os n ≡ Some o → All (ObjectTyped text tags) os → ObjectTyped text tags o

@@ -1,7 +1,7 @@
 -- Each world that a run of accepted texts comes to is typed.
 use Rattle.std.proofs.Common.{◌≡◌, ℕ, Bool, true, false, List, [], ◌∷◌, ◌++◌, append_assoc, append-nil, map, Option, Some, None, option_map, option_and_then, slice_get, slice_index_or, All, refl, sym, ap, subst, ◌∙◌, if◌then◌else◌}
 use Rattle.std.proofs.lemmas.List.{map-append}
-use Rattle.std.proofs.lemmas.List.Elements.{All-append, All-cons, All-get_or, All-head, All-nil}
+use Rattle.std.proofs.lemmas.List.Elements.{All-append, All-cons, All-get_or, All-head, All-nil, All-tail}
 use Rattle.std.proofs.lemmas.Option.{get_or_from_slice_get, none-some, same_Some, slice_get-map, slice_get_within}
 use Rattle.std.specs.Option.{option_map_or}
 use Rattle.c_tree.specs.BareDef.{BareDef}
@@ -11,9 +11,7 @@ use Rattle.patch_faults.specs.TransformFaults.{first_transform_fault}
 use Rattle.source_model.specs.Worlds.{World, Limits, first_world, is_over}
 use Rattle.source_model.specs.Moves.{move}
 use Rattle.source_model.specs.Installs.{installed}
-use Rattle.source_model.specs.Patches.{last_tree}
 use Rattle.source_model.specs.Runs.{SourceMove, Move, Install, install, run, start, step}
-use Rattle.source_model.proofs.Lawful.{two_parts}
 use Rattle.version_laws.specs.Histories.{IsHistory, last_text, texts_installed, versions_by}
 use Rattle.version_laws.proofs.RunHistories.{runs_are_of}
 use Rattle.frame_bodies.specs.AcceptedTexts.{AreAccepted, IsAccepted, definitions_of}
@@ -21,14 +19,19 @@ use Rattle.world_laws.proofs.Accepted.{main_in}
 use Rattle.world_laws.proofs.Runs.{worlds_hold}
 use Rattle.typed_runs.specs.TypedWorlds.{WorldTyped}
 use Rattle.typed_runs.specs.TypedRunLaws.{FitAfter, IsWorldOf, RunsAreTyped, tree_at}
+use Rattle.typed_runs.proofs.Installed.{Transforms}
 use Rattle.typed_runs.proofs.Laws.{each_has, first_world_typed, installs_keep_types, moves_keep_types}
 use Rattle.source_model.specs.JournalLaws.{HasMain}
 
--- the text that is last is the last
-last_tree_is : (texts : List Text) (q : Text) → last_tree (texts ++ q ∷ []) ≡ q.tree.definitions
-last_tree_is [] q = refl
-last_tree_is (t ∷ []) q = refl
-last_tree_is (t ∷ u ∷ texts) q = last_tree_is (u ∷ texts) q
+-- moves made in two parts
+two_parts : (texts : List (List BareDef)) (ms ns : List SourceMove) (w : World)
+    → run texts (ms ++ ns) w ≡ option_and_then (run texts ns) (run texts ms w)
+two_parts texts [] ns w = refl
+two_parts texts (m ∷ ms) ns w = by (step texts m w)
+  where
+    by : (o : Option World) → option_and_then (run texts (ms ++ ns)) o ≡ option_and_then (run texts ns) (option_and_then (run texts ms) o)
+    by None = refl
+    by (Some mid) = two_parts texts ms ns mid
 
 -- the texts that some moves install, and one more
 installed_more : (texts : List (List BareDef)) (ms : List SourceMove) (m : SourceMove)
@@ -37,19 +40,28 @@ installed_more texts [] m = refl
 installed_more texts (Move t ∷ ms) m = installed_more texts ms m
 installed_more texts (Install k ∷ ms) m = ap (λ ts. slice_index_or texts k [] ∷ ts) (installed_more texts ms m)
 
-module _ (texts : List Text) (limits : Limits) (accepted : AreAccepted texts) where
+last_accepted : (texts : List Text) (q : Text) → AreAccepted (texts ++ q ∷ []) → IsAccepted q
+last_accepted [] q h = All-head IsAccepted q [] h
+last_accepted (t ∷ texts) q h = last_accepted texts q (All-tail IsAccepted t (texts ++ q ∷ []) h)
+
+module _ (transforms : Transforms) (texts : List Text) (limits : Limits) (accepted : AreAccepted texts) where
   abbrev defs : List (List BareDef)
   defs = definitions_of texts
 
   -- a typed world that the run came to by some moves, with the texts of its versions
   record Reached (done : List SourceMove) (w : World) : Type 0 where
-    versions : List Text
-    are : definitions_of versions ≡ versions_by defs done
-    all : AreAccepted versions
+    earlier : List Text
+    last : Text
+    are : definitions_of (earlier ++ last ∷ []) ≡ versions_by defs done
+    all : AreAccepted (earlier ++ last ∷ [])
     there : option_and_then (run defs done) (start defs limits) ≡ Some w
-    typed : WorldTyped (definitions_of versions) w
+    typed : WorldTyped (definitions_of (earlier ++ last ∷ [])) w
 
-  world_of : (done : List SourceMove) (w : World) (r : Reached done w) → IsWorldOf r.versions w
+  -- the texts of its versions
+  abbrev versions_of : (done : List SourceMove) (w : World) → Reached done w → List Text
+  versions_of done w r = r.earlier ++ r.last ∷ []
+
+  world_of : (done : List SourceMove) (w : World) (r : Reached done w) → IsWorldOf (versions_of done w r) w
   world_of done w r =
       let of = runs_are_of defs limits done w (each_has HasMain main_in texts accepted) r.there in
       let holds = worlds_hold texts limits done w accepted r.there in
@@ -72,26 +84,29 @@ module _ (texts : List Text) (limits : Limits) (accepted : AreAccepted texts) wh
 
   after_move : (done : List SourceMove) (t : ℕ) (w mid : World) → Reached done w → move w t ≡ Some mid → Reached (done ++ Move t ∷ []) mid
   after_move done t w mid r e = record {
-    versions = r.versions;
+    earlier = r.earlier;
+    last = r.last;
     are = r.are ∙ ap (λ ts. slice_index_or defs 0 [] ∷ ts)
         (sym (append-nil (texts_installed defs done)) ∙ sym (installed_more defs done (Move t)));
     all = r.all;
     there = one_more done (Move t) w mid r.there e;
-    typed = moves_keep_types r.versions w mid t r.all (world_of done w r) r.typed e;
+    typed = moves_keep_types (versions_of done w r) w mid t r.all (world_of done w r) r.typed e;
   }
 
   after_install : (done : List SourceMove) (k : ℕ) (q : Text) (w : World) (r : Reached done w) → slice_get texts k ≡ Some q → is_over w ≡ false
-      → first_transform_fault (last_tree r.versions) q.tree.definitions ≡ None
+      → first_transform_fault r.last.tree.definitions q.tree.definitions ≡ None
       → Reached (done ++ Install k ∷ []) (installed q.definitions w)
   after_install done k q w r is going fits = record {
-    versions = r.versions ++ q ∷ [];
+    earlier = versions_of done w r;
+    last = q;
     are =
-        map-append (λ (t : Text). t.definitions) r.versions (q ∷ []) ∙ ap (λ ts. ts ++ q.definitions ∷ []) r.are
+        map-append (λ (t : Text). t.definitions) (versions_of done w r) (q ∷ []) ∙ ap (λ ts. ts ++ q.definitions ∷ []) r.are
         ∙ ap (λ ts. slice_index_or defs 0 [] ∷ ts)
         (ap (λ d. texts_installed defs done ++ d ∷ []) (sym text_at) ∙ sym (installed_more defs done (Install k)));
-    all = All-append IsAccepted r.versions (q ∷ []) r.all (All-cons IsAccepted q [] own (All-nil IsAccepted));
+    all = All-append IsAccepted (versions_of done w r) (q ∷ []) r.all (All-cons IsAccepted q [] own (All-nil IsAccepted));
     there = one_more done (Install k) w (installed q.definitions w) r.there made;
-    typed = installs_keep_types r.versions q w r.all own fits (world_of done w r) r.typed;
+    typed = installs_keep_types transforms r.earlier r.last q w
+        (record { older = last_accepted r.earlier r.last r.all; newer = own; faultless = fits }) (world_of done w r) r.typed;
   }
     where
       own : IsAccepted q
@@ -109,7 +124,7 @@ module _ (texts : List Text) (limits : Limits) (accepted : AreAccepted texts) wh
           ap (install w) found ∙ ap (λ b. if b then None else Some (installed q.definitions w)) going
 
   -- the rest of a run
-  along : (ms done : List SourceMove) (w after : World) → (r : Reached done w) → FitAfter texts (last_tree r.versions) ms → run defs ms w ≡ Some after
+  along : (ms done : List SourceMove) (w after : World) → (r : Reached done w) → FitAfter texts r.last.tree.definitions ms → run defs ms w ≡ Some after
       → WorldTyped (versions_by defs (done ++ ms)) after
   along [] done w after r fits e =
       subst (λ ns. WorldTyped (versions_by defs ns) after) (sym (append-nil done))
@@ -134,22 +149,23 @@ module _ (texts : List Text) (limits : Limits) (accepted : AreAccepted texts) wh
           tree_is : tree_at texts k ≡ q.tree.definitions
           tree_is = ap (λ o. option_map_or (λ t. t.tree.definitions) o []) is
 
-          fit : first_transform_fault (last_tree r.versions) q.tree.definitions ≡ None
-          fit = subst (λ d. first_transform_fault (last_tree r.versions) d ≡ None) tree_is fits.0
+          fit : first_transform_fault r.last.tree.definitions q.tree.definitions ≡ None
+          fit = subst (λ d. first_transform_fault r.last.tree.definitions d ≡ None) tree_is fits.0
 
           over : (b : Bool) → is_over w ≡ b → option_and_then (run defs ms) (if b then None else Some (installed q.definitions w)) ≡ Some after
               → WorldTyped (versions_by defs ((done ++ Install k ∷ []) ++ ms)) after
           over true going e = absurd (none-some after e)
           over false going e =
               along ms (done ++ Install k ∷ []) (installed q.definitions w) after (after_install done k q w r is going fit)
-              (subst (λ d. FitAfter texts d ms) (tree_is ∙ sym (last_tree_is r.versions q)) fits.1) e
+              (subst (λ d. FitAfter texts d ms) tree_is fits.1) e
 
-pub runs_are_typed : RunsAreTyped
-runs_are_typed [] limits ms w accepted fits e = absurd (none-some w e)
-runs_are_typed (t ∷ texts) limits ms w accepted fits e =
-    along (t ∷ texts) limits accepted ms [] (first_world t.definitions limits) w
+pub runs_are_typed : Transforms → RunsAreTyped
+runs_are_typed transforms [] limits ms w accepted fits e = absurd (none-some w e)
+runs_are_typed transforms (t ∷ texts) limits ms w accepted fits e =
+    along transforms (t ∷ texts) limits accepted ms [] (first_world t.definitions limits) w
     (record {
-      versions = t ∷ [];
+      earlier = [];
+      last = t;
       are = refl;
       all = All-cons IsAccepted t [] (All-head IsAccepted t texts accepted) (All-nil IsAccepted);
       there = refl;

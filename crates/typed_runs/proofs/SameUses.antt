@@ -5,9 +5,9 @@ use Rattle.c_tree.specs.BareStmt.{BareStmts}
 use Rattle.c_tree.specs.BareDef.{BareBinding, BareDef, Struct, Mutex, Function, Global, Array}
 use Rattle.c_semantics.specs.Texts.{global_type, members_of, result_type}
 use Rattle.c_semantics.specs.Changes.{agree, same_interface}
-use Rattle.source_model.specs.Installs.{has_cells}
 use Rattle.definition_laws.specs.EqualParts.{HaveEqualInterfaces}
 use Rattle.definition_laws.proofs.SameDefinitions.{interface_equal_if_same}
+use Rattle.typed_transformers.specs.TransformerTypes.{HasCells}
 use Rattle.typed_trees.specs.ExpressionTypes.{IsArray, IsFunction, IsStruct, IsVariable, parameter_types}
 
 no : false ≡ true → ⊥
@@ -60,16 +60,11 @@ same_use (Some a) (Some b) h = equal_uses a b (interface_equal_if_same a b h)
 same_use (Some a) None h = absurd (no h)
 same_use None u h = absurd (no h)
 
--- a variable or an array, which has cells
-pub record HasCells (o : Option BareDef) : Type 0 where
-  pub one : BareDef
-  pub is : o ≡ Some one
-  pub has : has_cells one ≡ true
-
+-- a variable and an array have cells
 pub variable_cells : (o : Option BareDef) → IsVariable o → HasCells o
-variable_cells (Some (Global d)) h = record { one = Global d; is = refl; has = refl }
+variable_cells (Some (Global d)) h = tt
 variable_cells _ h = absurd h
 
 pub array_cells : (o : Option BareDef) → IsArray o → HasCells o
-array_cells (Some (Array t n k values)) h = record { one = Array t n k values; is = refl; has = refl }
+array_cells (Some (Array t n k values)) h = tt
 array_cells _ h = absurd h

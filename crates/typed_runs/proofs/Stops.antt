@@ -31,7 +31,7 @@ use Rattle.version_laws.proofs.SameDefinitions.{members_alike}
 use Rattle.version_laws.proofs.TableHistories.{last_as_current}
 use Rattle.world_laws.specs.Holdings.{HoldsGlobals}
 use Rattle.world_laws.proofs.Found.{cells_in}
-use Rattle.world_laws.proofs.WorldsStore.{AllOf, either_way}
+use Rattle.typed_transformers.specs.TransformerTypes.{HasCells}
 use Rattle.typed_trees.specs.ValueTypes.{Environment, HasType, HaveTypes, ScopeHas, ScopesHave}
 use Rattle.typed_trees.specs.ExpressionTypes.{IsArray, IsFunction, IsInteger, IsMutex, IsStruct, IsVariable, Runs, parameter_types}
 use Rattle.typed_trees.specs.PieceTypes.{HasField, Pops, PopsFormat, PopsPrinted, Stack, StopTyped, Top, field_type, going}
@@ -40,7 +40,7 @@ use Rattle.typed_runs.specs.TypedWorlds.{FinishTyped, GlobalsTyped, ObjectTyped,
 use Rattle.typed_runs.proofs.Arguments.{Left, Taken, printed_left, reversed_have, taken_of}
 use Rattle.typed_runs.proofs.MoreObjects.{Grows, before_more, below_still, globals_still, next_number, no_more, objects_still, scopes_still, slots_still, values_still}
 use Rattle.typed_runs.proofs.Places.{cells_written, field_has, field_written, object_at, tag_is, tags_kept, zeros_have}
-use Rattle.typed_runs.proofs.SameUses.{HasCells, SameUse, array_cells, variable_cells}
+use Rattle.typed_runs.proofs.SameUses.{SameUse, array_cells, variable_cells}
 
 no : false ≡ true → ⊥
 no e = cc
@@ -53,6 +53,16 @@ slot_at texts tags slots t h = by (cases_lt t (length slots))
     by : (t < length slots) ⊎ (length slots ≤ t) → SlotTyped texts tags (slice_index_or slots t world.Free)
     by (inl within) = All-get_or (SlotTyped texts tags) slots t world.Free within h
     by (inr past) = subst (SlotTyped texts tags) (sym (get_or_past slots t world.Free past)) tt
+
+-- the outcome of a stop or a move: a world of which P holds, or none, which says that it stuck
+abbrev pub Outcome : Type 0 → (World → Type 0) → Option World → Type 0
+Outcome Stuck P None = Stuck
+Outcome Stuck P (Some w) = P w
+
+pub either_way : (Stuck : Type 0) (P : World → Type 0) (b : Bool) (x y : Option World) → Outcome Stuck P x → Outcome Stuck P y
+    → Outcome Stuck P (if b then x else y)
+either_way Stuck P true x y p q = p
+either_way Stuck P false x y p q = q
 
 module _ (texts : List (List BareDef)) (s : Standing) where
   abbrev look : Definitions
@@ -79,9 +89,9 @@ module _ (texts : List (List BareDef)) (s : Standing) where
     pub below : Below texts tags result s.below
     pub entering : s.thread.entering ≡ None
 
-  module _ (r : Ready) where
+  module _ (Stuck : Type 0) (r : Ready) where
     abbrev Kept : Option World → Type 0
-    Kept = AllOf (WorldTyped texts)
+    Kept = Outcome Stuck (WorldTyped texts)
 
     -- the rest goes on well from values of these types
     abbrev On : Stack → Type 0
@@ -178,8 +188,7 @@ module _ (texts : List (List BareDef)) (s : Standing) where
     cells_now : (name : Bytes) → SameUse (look name) (definition text name) → HasCells (definition text name)
         → All (HasType tags (global_type (look name))) (cells_of s.world name)
     cells_now name same c =
-        subst (λ t. All (HasType tags t) (cells_of s.world name)) (sym (same.global_is ∙ ap global_type c.is))
-        (r.world.globals name c.one c.is c.has)
+        subst (λ t. All (HasType tags t) (cells_of s.world name)) (sym same.global_is) (r.world.globals name c)
 
     -- a variable has one cell
     one_cell : (name : Bytes) (o : Option BareDef) → definition s.world.text name ≡ o → IsVariable o
@@ -270,7 +279,7 @@ module _ (texts : List (List BareDef)) (s : Standing) where
         found n v under rest has on rest_have =
             let cells = cells_of s.world name in
             let at = unsigned_abs (value_of n) in
-            either_way (WorldTyped texts) (in_bounds (value_of n) cells) (goes_on s (with_cells name (slice_set cells at v) s.world) (v ∷ rest)) (traps s Index)
+            either_way Stuck (WorldTyped texts) (in_bounds (value_of n) cells) (goes_on s (with_cells name (slice_set cells at v) s.world) (v ∷ rest)) (traps s Index)
             (goes (with_cells name (slice_set cells at v) s.world) (v ∷ rest) (type ∷ under)
             (after_cells name (slice_set cells at v) same (All-set (HasType tags type) cells at v has (cells_now name same (array_cells (definition text name) (same.array array))))) on (has, rest_have))
             (trapped Index)
@@ -279,7 +288,7 @@ module _ (texts : List (List BareDef)) (s : Standing) where
 
     live_kept : (f : Object → Option World) (o : Option Object) → ((x : Object) → o ≡ Some x → Kept (f x)) → Kept (on_live s f o)
     live_kept f None k = trapped Stale
-    live_kept f (Some o) k = either_way (WorldTyped texts) o.live (f o) (traps s Stale) (k o refl) (trapped Stale)
+    live_kept f (Some o) k = either_way Stuck (WorldTyped texts) o.live (f o) (traps s Stale) (k o refl) (trapped Stale)
 
     -- an object that a handle of a struct names, with the fields of the struct now
     object_kept : (tag : Bytes) (o : Option ℕ) (f : ℕ → Object → Option World)
@@ -416,7 +425,7 @@ module _ (texts : List (List BareDef)) (s : Standing) where
 
       allocate_kept : (values : List Value) (stack : Stack) → On (Handle tag ∷ stack) → HaveTypes tags stack values → Kept (allocate s tag values)
       allocate_kept values stack on h =
-          either_way (WorldTyped texts) (live_objects s.world == s.world.capacity) (goes_on s s.world (Reference None ∷ values))
+          either_way Stuck (WorldTyped texts) (live_objects s.world == s.world.capacity) (goes_on s s.world (Reference None ∷ values))
           (goes_on s (record s.world { objects = created }) (Reference (Some (length s.world.objects)) ∷ values))
           (goes_here (Reference None ∷ values) (Handle tag ∷ stack) on (tt, h))
           (goes (record s.world { objects = created }) _ (Handle tag ∷ stack) after_new on
@@ -437,9 +446,10 @@ module _ (texts : List (List BareDef)) (s : Standing) where
           slots = subst (λ os. All (SlotTyped texts (tags_of os)) w.slots) (sym objects)
               (subst (All (SlotTyped texts tags)) (sym slots) (r.world.slots r.runs));
           objects = subst (λ os. All (ObjectTyped text (tags_of os)) os) (sym objects) r.world.objects;
-          globals = λ name d e has.
-              subst (λ os. All (HasType (tags_of os) (global_type (Some d))) (cells_of w name)) (sym objects)
-              (subst (λ gs. All (HasType tags (global_type (Some d))) (cells_in gs name)) (sym globals) (r.world.globals name d e has));
+          globals = λ name has.
+              let type = global_type (definition text name) in
+              subst (λ os. All (HasType (tags_of os) type) (cells_of w name)) (sym objects)
+              (subst (λ gs. All (HasType tags type) (cells_in gs name)) (sym globals) (r.world.globals name has));
           finish = subst FinishTyped (sym finish) r.world.finish;
         }
 
@@ -460,7 +470,7 @@ module _ (texts : List (List BareDef)) (s : Standing) where
         → Kept (unlock s name values o)
     unlock_kept name values stack None on h = trapped NotHeld
     unlock_kept name values stack (Some slot) on h =
-        either_way (WorldTyped texts) (slot == s.slot) (goes_on s (released name s.world) (int_of 0 ∷ values)) (traps s NotHeld)
+        either_way Stuck (WorldTyped texts) (slot == s.slot) (goes_on s (released name s.world) (int_of 0 ∷ values)) (traps s NotHeld)
         (aside _ (int_of 0 ∷ values) (int ∷ stack) refl refl refl refl on (refl, h)) (trapped NotHeld)
 
     initialise_kept : (values : List Value) (stack : Stack) (o : Option ℕ) → On (int ∷ stack) → HaveTypes tags stack values
@@ -499,7 +509,7 @@ module _ (texts : List (List BareDef)) (s : Standing) where
     join_slot_kept ref values stack world.Free e on h = trapped NotJoined
     join_slot_kept ref values stack (Live th) e on h = trapped NotJoined
     join_slot_kept ref values stack (Over serial v) e on h =
-        either_way (WorldTyped texts) (serial == ref.serial) (goes_on s (with_slot ref.slot world.Free s.world) (v ∷ values)) (traps s NotJoined)
+        either_way Stuck (WorldTyped texts) (serial == ref.serial) (goes_on s (with_slot ref.slot world.Free s.world) (v ∷ values)) (traps s NotJoined)
         (goes (with_slot ref.slot world.Free s.world) (v ∷ values) (int ∷ stack)
         (record {
           grows = no_more tags tags refl;
@@ -594,9 +604,11 @@ module _ (texts : List (List BareDef)) (s : Standing) where
     begin_kept values stack zero on h = seated s.world _ here (frames_on tags values stack (no_more tags tags refl) on h)
     begin_kept values stack (suc depth) on h = seated s.world _ here (frames_on tags values stack (no_more tags tags refl) on h)
 
-    end_kept : (values : List Value) (stack : Stack) (depth : ℕ) → On stack → HaveTypes tags stack values → Kept (end_at s depth (gone_on s values))
-    end_kept values stack zero on h = tt
-    end_kept values stack (suc zero) on h =
+    -- an end sticks outside each transaction
+    end_kept : (values : List Value) (stack : Stack) (depth : ℕ) → (depth ≡ 0 → Stuck) → On stack → HaveTypes tags stack values
+        → Kept (end_at s depth (gone_on s values))
+    end_kept values stack zero stuck on h = stuck refl
+    end_kept values stack (suc zero) stuck on h =
         seated (record s.world { closed = s.world.closed ++ record { slot = s.slot; uses = s.thread.uses } ∷ [] }) _
         (record {
           grows = no_more tags tags refl;
@@ -605,7 +617,7 @@ module _ (texts : List (List BareDef)) (s : Standing) where
           globals = r.world.globals;
           finish = r.world.finish;
         }) (frames_on tags values stack (no_more tags tags refl) on h)
-    end_kept values stack (suc (suc depth)) on h = seated s.world _ here (frames_on tags values stack (no_more tags tags refl) on h)
+    end_kept values stack (suc (suc depth)) stuck on h = seated s.world _ here (frames_on tags values stack (no_more tags tags refl) on h)
 
     -- ---- each stop
 
@@ -613,25 +625,25 @@ module _ (texts : List (List BareDef)) (s : Standing) where
     abbrev Same : Stop → Type 0
     Same x = (name : Bytes) → use_at x ≡ Some name → SameUse (look name) (definition text name)
 
-    pub perform_kept : (x : Stop) (values : List Value) (stack : Stack) → StopTyped look result x stack On → HaveTypes tags stack values → Same x
-        → AllOf (WorldTyped texts) (perform x s values)
-    perform_kept (ReadGlobal name) values stack t h same = read_global_kept name values stack (same name refl) t.0 t.1 h
-    perform_kept (WriteGlobal name) values stack t h same = write_global_kept name values stack (same name refl) t.1 h
-    perform_kept (ReadElement name) values stack t h same = read_element_kept name values stack (same name refl) t.0 t.1 h
-    perform_kept (WriteElement name) values stack t h same = write_element_kept name values stack (same name refl) t.0 t.1 h
-    perform_kept (ReadField tag name) values stack t h same = read_field_kept tag name values stack (same (struct_name tag) refl) t.0 t.1 h
-    perform_kept (WriteField tag name) values stack t h same = write_field_kept tag name values stack (same (struct_name tag) refl) t.0 t.1 h
-    perform_kept (New tag) values stack t h same = allocate_kept tag values stack t.1 h
-    perform_kept (Free tag) values stack t h same = release_kept tag values stack t h
-    perform_kept (Print format n) values stack t h same = print_kept format n values stack (kinds Text format) t h
-    perform_kept (InitMutex name) values stack t h same = initialise_kept values stack (holder_of s.world name) t.1 h
-    perform_kept (Lock name) values stack t h same = lock_kept name values stack (holder_of s.world name) t.1 h
-    perform_kept (Unlock name) values stack t h same = unlock_kept name values stack (holder_of s.world name) t.1 h
-    perform_kept (Spawn name) values stack t h same = spawn_kept name values stack t h
-    perform_kept Join values stack t h same = join_kept values stack t h
-    perform_kept (Call name n) values stack t h same = call_kept name n values stack t.0 t.1 t.2 h
-    perform_kept Return values stack t h same = return_kept values stack t h
-    perform_kept Back values stack t h same = goes_here values stack t h
-    perform_kept Begin values stack t h same = begin_kept values stack s.thread.depth t h
-    perform_kept End values stack t h same = end_kept values stack s.thread.depth t h
-    perform_kept Update values stack t h same = goes_here values stack t h
+    pub perform_kept : (x : Stop) (values : List Value) (stack : Stack) → (x ≡ End → s.thread.depth ≡ 0 → Stuck)
+        → StopTyped look result x stack On → HaveTypes tags stack values → Same x → Outcome Stuck (WorldTyped texts) (perform x s values)
+    perform_kept (ReadGlobal name) values stack stuck t h same = read_global_kept name values stack (same name refl) t.0 t.1 h
+    perform_kept (WriteGlobal name) values stack stuck t h same = write_global_kept name values stack (same name refl) t.1 h
+    perform_kept (ReadElement name) values stack stuck t h same = read_element_kept name values stack (same name refl) t.0 t.1 h
+    perform_kept (WriteElement name) values stack stuck t h same = write_element_kept name values stack (same name refl) t.0 t.1 h
+    perform_kept (ReadField tag name) values stack stuck t h same = read_field_kept tag name values stack (same (struct_name tag) refl) t.0 t.1 h
+    perform_kept (WriteField tag name) values stack stuck t h same = write_field_kept tag name values stack (same (struct_name tag) refl) t.0 t.1 h
+    perform_kept (New tag) values stack stuck t h same = allocate_kept tag values stack t.1 h
+    perform_kept (Free tag) values stack stuck t h same = release_kept tag values stack t h
+    perform_kept (Print format n) values stack stuck t h same = print_kept format n values stack (kinds Text format) t h
+    perform_kept (InitMutex name) values stack stuck t h same = initialise_kept values stack (holder_of s.world name) t.1 h
+    perform_kept (Lock name) values stack stuck t h same = lock_kept name values stack (holder_of s.world name) t.1 h
+    perform_kept (Unlock name) values stack stuck t h same = unlock_kept name values stack (holder_of s.world name) t.1 h
+    perform_kept (Spawn name) values stack stuck t h same = spawn_kept name values stack t h
+    perform_kept Join values stack stuck t h same = join_kept values stack t h
+    perform_kept (Call name n) values stack stuck t h same = call_kept name n values stack t.0 t.1 t.2 h
+    perform_kept Return values stack stuck t h same = return_kept values stack t h
+    perform_kept Back values stack stuck t h same = goes_here values stack t h
+    perform_kept Begin values stack stuck t h same = begin_kept values stack s.thread.depth t h
+    perform_kept End values stack stuck t h same = end_kept values stack s.thread.depth (stuck refl) t h
+    perform_kept Update values stack stuck t h same = goes_here values stack t h

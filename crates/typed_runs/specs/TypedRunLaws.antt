@@ -7,11 +7,11 @@ use Rattle.patch_faults.specs.TransformFaults.{first_transform_fault}
 use Rattle.source_model.specs.Worlds.{World, Limits, first_world}
 use Rattle.source_model.specs.Moves.{move}
 use Rattle.source_model.specs.Installs.{installed}
-use Rattle.source_model.specs.Patches.{last_tree}
 use Rattle.source_model.specs.Runs.{SourceMove, Move, Install, run, start}
 use Rattle.version_laws.specs.Histories.{IsHistory, last_text, versions_by}
 use Rattle.frame_bodies.specs.AcceptedTexts.{AreAccepted, IsAccepted, definitions_of}
 use Rattle.world_laws.specs.Holdings.{HoldsGlobals}
+use Rattle.typed_transformers.specs.TransformerTypes.{Follows}
 use Rattle.typed_runs.specs.TypedWorlds.{WorldTyped}
 
 -- a world whose versions are those of some texts, and which holds the globals of the last of them
@@ -35,10 +35,9 @@ MovesKeepTypes =
 -- so does an install of an accepted text whose transformers have no fault after the last text
 abbrev pub InstallsKeepTypes : Type 0
 InstallsKeepTypes =
-    (texts : List Text) (q : Text) (w : World)
-    → AreAccepted texts → IsAccepted q → first_transform_fault (last_tree texts) q.tree.definitions ≡ None
-    → IsWorldOf texts w → WorldTyped (definitions_of texts) w
-    → WorldTyped (definitions_of (texts ++ q ∷ [])) (installed q.definitions w)
+    (texts : List Text) (p q : Text) (w : World)
+    → Follows p q → IsWorldOf (texts ++ p ∷ []) w → WorldTyped (definitions_of (texts ++ p ∷ [])) w
+    → WorldTyped (definitions_of ((texts ++ p ∷ []) ++ q ∷ [])) (installed q.definitions w)
 
 -- the tree of the text with a number
 abbrev pub tree_at : List Text → ℕ → List Def

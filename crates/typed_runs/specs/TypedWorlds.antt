@@ -1,5 +1,5 @@
 -- Worlds in which all values have the types of their places, by the texts of a run's versions.
-use Rattle.std.specs.Prelude.{◌≡◌, IsTrue, List, map, All, Option, Some, None}
+use Rattle.std.specs.Prelude.{◌≡◌, List, map, All, Option, Some, None}
 use Rattle.c_ints.specs.declared.kind.Kind.TheVariants.{I32}
 use Rattle.c_ints.specs.declared.int.Int.{Int}
 use Rattle.c_ints.specs.Number.{kind_of, value_of}
@@ -8,10 +8,10 @@ use Rattle.c_tree.specs.BareDef.{BareDef}
 use Rattle.c_semantics.specs.Names.{struct_name}
 use Rattle.c_semantics.specs.Texts.{definition, global_type, int, members_of}
 use Rattle.source_model.specs.Worlds.{World, Object, Slot, Free, Live, Over, Finish, Finished, Trapped, cells_of}
-use Rattle.source_model.specs.Installs.{has_cells}
 use Rattle.version_laws.specs.Histories.{last_text}
 use Rattle.typed_trees.specs.ValueTypes.{HasType, ScopeHas}
 use Rattle.typed_trees.specs.ExpressionTypes.{IsStruct}
+use Rattle.typed_transformers.specs.TransformerTypes.{HasCells}
 use Rattle.typed_runs.specs.TypedFrames.{ThreadTyped}
 
 -- the struct tags of some objects, by number: what each handle is checked against
@@ -33,8 +33,7 @@ ObjectTyped text tags o =
 -- under the name of each global variable and array of a text a world has cells of its type
 abbrev pub GlobalsTyped : List BareDef → List Bytes → World → Type 0
 GlobalsTyped text tags w =
-    (name : Bytes) (d : BareDef)
-    → definition text name ≡ Some d → IsTrue (has_cells d) → All (HasType tags (global_type (Some d))) (cells_of w name)
+    (name : Bytes) → HasCells (definition text name) → All (HasType tags (global_type (definition text name))) (cells_of w name)
 
 -- the number with which main ended a run is that of an int
 abbrev pub FinishTyped : Option Finish → Type 0

@@ -1,7 +1,9 @@
 //! What the first world has of types, and what moves, installs and runs keep of them, each as the contract of a call that does
-//! nothing.
+//! nothing but cite what it rests on.
 
 ghost use Rattle.typed_runs.specs.TypedRunLaws.{FirstWorldTyped, InstallsKeepTypes, MovesKeepTypes, RunsAreTyped};
+
+use typed_transformers::transformed_values_are_typed;
 
 /// The first world of an accepted text is typed.
 pub fn first_worlds_are_typed()
@@ -18,9 +20,13 @@ pub fn moves_keep_types()
 /// stay typed by their own versions.
 pub fn installs_keep_types()
     ensures { InstallsKeepTypes }
-{}
+{
+    transformed_values_are_typed();
+}
 
 /// Each world that a run of accepted texts comes to is typed.
 pub fn runs_are_typed()
     ensures { RunsAreTyped }
-{}
+{
+    transformed_values_are_typed();
+}

@@ -37,8 +37,8 @@ use Rattle.c_semantics.specs.Transformers.{default_field, first_cell, given_by, 
 use Rattle.definition_laws.proofs.SameTrees.{types}
 use Rattle.patch_faults.specs.TransformTypes.{AnObject, AValue}
 use Rattle.patch_faults.specs.TransformFaults.{faults_at, field_faults, global_faults, struct_faults, transform_faults, value_faults}
+use Rattle.patch_faults.specs.TransformLaws.{ObjectsAreAsFound, GlobalsAreAsFound}
 use Rattle.patch_faults.specs.declared.fault.TransformFault.TheVariants.{NotChanged}
-use Rattle.source_model.specs.Installs.{has_cells}
 use Rattle.typed_uses.proofs.SoundTexts.{Facts}
 use Rattle.typed_uses.proofs.Lookups.{find_struct, itself, look, more_members, own_members, same_bytes}
 use Rattle.typed_uses.proofs.Definitions.{struct_members, variable_type}
@@ -46,7 +46,8 @@ use Rattle.typed_uses.proofs.Faultless.{none_after, none_before, passes}
 use Rattle.typed_trees.specs.ValueTypes.{HasType, ScopeHas}
 use Rattle.typed_trees.specs.ExpressionTypes.{IsStruct}
 use Rattle.typed_trees.proofs.ValuesOfTypes.{zero_has}
-use Rattle.typed_runs.proofs.TransformedHandles.{field_converted, global_converted}
+use Rattle.typed_transformers.specs.TransformerTypes.{CellsTyped, HasCells}
+use Rattle.typed_transformers.proofs.TransformedHandles.{field_converted, global_converted}
 
 no : false ≡ true → ⊥
 no e = cc
@@ -195,26 +196,26 @@ module _ (p q : List Def) (tag : Bytes) where
       by place (kind.TransformGlobal name v) rest e = rest
 
 -- a struct of a text by its members, and the other way round
+abbrev There : List Def → Bytes → ℕ → DefKind → Type 0
+There ds tag place k = IsTrue (is_some (tree_members_of (record { place = place; kind = k } ∷ ds) tag))
+
 struct_there : (ds : List Def) (tag : Bytes) → IsStruct (look ds (struct_name tag)) → IsTrue (is_some (tree_members_of ds tag))
 struct_there [] tag h = absurd h
 struct_there (d ∷ ds) tag h = by d.place d.kind (λ g. more_members d ds tag (struct_there ds tag g)) h
   where
-    abbrev There : ℕ → DefKind → Type 0
-    There place k = IsTrue (is_some (tree_members_of (record { place = place; kind = k } ∷ ds) tag))
-
     struct : (place : ℕ) (t : Name) (members : List Binding) (b : Bool) → bytes_eq tag t.text ≡ b
-        → (IsStruct (look ds (struct_name tag)) → There place (kind.Struct t members))
-        → IsStruct (if b then Some (bare_kind (kind.Struct t members)) else look ds (struct_name tag)) → There place (kind.Struct t members)
+        → (IsStruct (look ds (struct_name tag)) → There ds tag place (kind.Struct t members))
+        → IsStruct (if b then Some (bare_kind (kind.Struct t members)) else look ds (struct_name tag)) → There ds tag place (kind.Struct t members)
     struct place t members true is rest h = own_members place t members ds tag is
     struct place t members false is rest h = rest h
 
-    other : (place : ℕ) (k : DefKind) (b : Bool) → (IsStruct (Some (bare_kind k)) → ⊥) → (IsStruct (look ds (struct_name tag)) → There place k)
-        → IsStruct (if b then Some (bare_kind k) else look ds (struct_name tag)) → There place k
+    other : (place : ℕ) (k : DefKind) (b : Bool) → (IsStruct (Some (bare_kind k)) → ⊥) → (IsStruct (look ds (struct_name tag)) → There ds tag place k)
+        → IsStruct (if b then Some (bare_kind k) else look ds (struct_name tag)) → There ds tag place k
     other place k true none rest h = absurd (none h)
     other place k false none rest h = rest h
 
-    by : (place : ℕ) (k : DefKind) → (IsStruct (look ds (struct_name tag)) → There place k)
-        → IsStruct (look (record { place = place; kind = k } ∷ ds) (struct_name tag)) → There place k
+    by : (place : ℕ) (k : DefKind) → (IsStruct (look ds (struct_name tag)) → There ds tag place k)
+        → IsStruct (look (record { place = place; kind = k } ∷ ds) (struct_name tag)) → There ds tag place k
     by place (kind.Struct t members) rest h = struct place t members (bytes_eq tag t.text) refl rest h
     by place (kind.Forward t) rest h = rest h
     by place (kind.Mutex n) rest h = other place (kind.Mutex n) (bytes_eq (struct_name tag) n.text) (λ x. x) rest h
@@ -295,7 +296,7 @@ module _ (tags : List Bytes) where
   fields_of value all h [] own = tt
   fields_of value all h (b ∷ bs) own = (refl, h b own.0, fields_of value all h bs own.1)
 
-  module _ (p q : List Def) (old_facts : Facts p) (tag : Bytes) (fields : List Variable)
+  module _ (objects_are_as_found : ObjectsAreAsFound) (p q : List Def) (old_facts : Facts p) (tag : Bytes) (fields : List Variable)
       (h : IsStruct (look p (struct_name tag)) → ScopeHas tags (members_of (look p (struct_name tag))) fields) where
     abbrev layout : List BareBinding
     layout = members_of (look p (struct_name tag))
@@ -320,7 +321,7 @@ module _ (tags : List Bytes) where
             → HasType tags (bare_type b.declared) (converted_to (bare_type b.declared) (constant (old_object fields) v.value))
         given_value_typed v fits same =
             subst (λ x. HasType tags (bare_type b.declared) (converted_to (bare_type b.declared) (constant (old_object fields) x.value))) (sym fits.is)
-            (field_converted tags q g.old fields b.declared fits.tree.value old_typed
+            (field_converted tags objects_are_as_found q g.old fields b.declared fits.tree.value old_typed
             (faultless fits.tree (subst (λ x. bytes_eq b.name.text x.field ≡ true) fits.is same) fits.faultless))
 
         by : (o : Option BareFieldValue) → find (λ v. bytes_eq b.name.text v.field) vs ≡ o
@@ -331,31 +332,28 @@ module _ (tags : List Bytes) where
             let found = found_fits q g.old g.new (λ v. bytes_eq b.name.text v.field) vs v g.fit e in
             given_value_typed v found.0 found.1
 
+    abbrev all_given : List BareFieldValue
+    all_given = given_fields (map bare_def q) tag
+
     pub fields_typed : Facts q → transform_faults p q ≡ [] → IsStruct (look q (struct_name tag))
         → ScopeHas tags (members_of (look q (struct_name tag))) (transformed (map bare_def p) (map bare_def q) tag fields)
     fields_typed new_facts e struct = by (tree_members_of q tag) refl (struct_there q tag struct)
       where
-        abbrev vs : List BareFieldValue
-        vs = given_fields (map bare_def q) tag
-
-        value : BareBinding → Value
-        value b = new_field layout fields vs b
-
-        whole : (new : List Binding) → tree_members_of q tag ≡ Some new → (g : Gives p q tag vs) → (b : Binding) → Own new b
-            → HasType tags (bare_type b.declared) (new_field layout fields vs (bare_binding b))
+        whole : (new : List Binding) → tree_members_of q tag ≡ Some new → (g : Gives p q tag all_given) → (b : Binding) → Own new b
+            → HasType tags (bare_type b.declared) (new_field layout fields all_given (bare_binding b))
         whole new is (inl none) b own =
             subst (λ xs. HasType tags (bare_type b.declared) (new_field layout fields xs (bare_binding b))) (sym none)
             (default_typed (look p (struct_name tag)) fields (bare_binding b) h)
         whole new is (inr g) b own =
-            given_typed vs g b (subst (λ ms. Own ms b) (same_Some new g.new (sym is ∙ g.in_new)) own)
+            given_typed all_given g b (subst (λ ms. Own ms b) (same_Some new g.new (sym is ∙ g.in_new)) own)
 
         by : (o : Option (List Binding)) → tree_members_of q tag ≡ o → IsTrue (is_some o)
             → ScopeHas tags (members_of (look q (struct_name tag))) (transformed (map bare_def p) (map bare_def q) tag fields)
         by None is there = absurd (no there)
         by (Some new) is there =
             let members = struct_members q tag new new_facts is in
-            subst (λ ms. ScopeHas tags ms (map (λ b. record { name = b.name; value = new_field layout fields vs b }) ms)) (sym members.0)
-            (fields_of (new_field layout fields vs) new (whole new is (gives p q tag q e)) new (all_own q [] new members.1))
+            subst (λ ms. ScopeHas tags ms (map (λ b. record { name = b.name; value = new_field layout fields all_given b }) ms)) (sym members.0)
+            (fields_of (new_field layout fields all_given) new (whole new is (gives p q tag q e)) new (all_own q [] new members.1))
 
 -- ---- cells
 
@@ -436,36 +434,29 @@ module _ (tags : List Bytes) where
   kept_typed t u cells h true e = subst (λ x. All (HasType tags x) cells) (types t u e) h
   kept_typed t u cells h false e = All-nil (HasType tags u)
 
-  -- the cells of a name before: of its type, and one of a variable
-  pub record OldCells (o : Option BareDef) (cells : List Value) : Type 0 where
-    pub typed : (d : BareDef) → o ≡ Some d → IsTrue (has_cells d) → All (HasType tags (global_type (Some d))) cells
-    pub one : (d : BareDeclaration) → o ≡ Some (Global d) → (v : Value) × (cells ≡ v ∷ [])
-
-  cells_by : (a : Option BareDef) (b : BareDef) (given : Option BareExpr) (cells : List Value) → OldCells a cells → IsTrue (has_cells b)
-      → ((c d : BareDeclaration) (e : BareExpr) → a ≡ Some (Global c) → b ≡ Global d → given ≡ Some e
+  cells_by : (a b : Option BareDef) (given : Option BareExpr) (cells : List Value) → CellsTyped tags a cells
+      → ((c d : BareDeclaration) (e : BareExpr) → a ≡ Some (Global c) → b ≡ Some (Global d) → given ≡ Some e
       → HasType tags d.declared (converted_to d.declared (constant (old_value (first_cell cells)) e)))
-      → All (HasType tags (global_type (Some b))) (new_cells a (Some b) given cells)
-  cells_by (Some (Global c)) (Global d) (Some e) cells h has given = one_typed d.declared _ (given c d e refl refl refl)
-  cells_by (Some (Array t name n initial)) (Array u other m values) given cells h has k =
-      filled_typed u (elements m) (if same_type t u then cells else [])
-      (kept_typed t u cells (h.typed (Array t name n initial) refl refl) (same_type t u) refl)
-  cells_by _ (Global d) given cells h has k = one_typed d.declared (zero_of d.declared) (zero_has tags d.declared)
-  cells_by _ (Array u other m values) given cells h has k = filled_typed u (elements m) [] (All-nil (HasType tags u))
-  cells_by _ _ given cells h has k = absurd (no has)
+      → All (HasType tags (global_type b)) (new_cells a b given cells)
+  cells_by (Some (Global c)) (Some (Global d)) (Some e) cells h given = one_typed d.declared _ (given c d e refl refl refl)
+  cells_by (Some (Array t name n initial)) (Some (Array u other m values)) given cells h k =
+      filled_typed u (elements m) (if same_type t u then cells else []) (kept_typed t u cells (h.typed tt) (same_type t u) refl)
+  cells_by _ (Some (Global d)) given cells h k = one_typed d.declared (zero_of d.declared) (zero_has tags d.declared)
+  cells_by _ (Some (Array u other m values)) given cells h k = filled_typed u (elements m) [] (All-nil (HasType tags u))
+  cells_by a b given cells h k = All-nil (HasType tags (global_type b))
 
-  pub cells_typed : (p q : List Def) (name : Bytes) (b : BareDef) (cells : List Value) → Facts p → Facts q → transform_faults p q ≡ []
-      → look q name ≡ Some b → IsTrue (has_cells b) → OldCells (look p name) cells
-      → All (HasType tags (global_type (Some b))) (transformed_global (map bare_def p) (map bare_def q) name cells)
-  cells_typed p q name b cells old_facts new_facts none is has h =
-      subst (λ o. All (HasType tags (global_type (Some b))) (new_cells (look p name) o (given_value (map bare_def q) name) cells)) (sym is)
-      (cells_by (look p name) b (given_value (map bare_def q) name) cells h has given)
+  pub cells_typed : GlobalsAreAsFound → (p q : List Def) (name : Bytes) (cells : List Value) → Facts p → Facts q → transform_faults p q ≡ []
+      → CellsTyped tags (look p name) cells
+      → All (HasType tags (global_type (look q name))) (transformed_global (map bare_def p) (map bare_def q) name cells)
+  cells_typed globals_are_as_found p q name cells old_facts new_facts none h =
+      cells_by (look p name) (look q name) (given_value (map bare_def q) name) cells h given
     where
-      given : (c d : BareDeclaration) (e : BareExpr) → look p name ≡ Some (Global c) → b ≡ Global d → given_value (map bare_def q) name ≡ Some e
-          → HasType tags d.declared (converted_to d.declared (constant (old_value (first_cell cells)) e))
+      given : (c d : BareDeclaration) (e : BareExpr) → look p name ≡ Some (Global c) → look q name ≡ Some (Global d)
+          → given_value (map bare_def q) name ≡ Some e → HasType tags d.declared (converted_to d.declared (constant (old_value (first_cell cells)) e))
       given c d e was now gave =
           subst (λ x. HasType tags d.declared (converted_to d.declared (constant (old_value (first_cell cells)) x))) (sym g.is)
           (subst (λ t. HasType tags t (converted_to t (constant (old_value (first_cell cells)) (bare_expr g.tree)))) (sym new_type)
-          (global_converted tags q v.new v.old (first_cell cells) g.tree
+          (global_converted tags globals_are_as_found q v.new v.old (first_cell cells) g.tree
           (subst (λ t. HasType tags t (first_cell cells)) old_type first_typed) v.faultless))
         where
           g : GivenValue p q name e
@@ -478,10 +469,11 @@ module _ (tags : List Bytes) where
           old_type = ap global_type (sym was) ∙ (variable_type p name v.old old_facts v.in_old).is
 
           new_type : d.declared ≡ bare_type v.new
-          new_type = ap (λ x. global_type (Some x)) (sym now) ∙ ap global_type (sym is) ∙ (variable_type q name v.new new_facts v.in_new).is
+          new_type = ap global_type (sym now) ∙ (variable_type q name v.new new_facts v.in_new).is
 
           first_typed : HasType tags c.declared (first_cell cells)
           first_typed =
               let one = h.one c was in
               subst (λ vs. HasType tags c.declared (first_cell vs)) (sym one.1)
-              (All-head (HasType tags c.declared) one.0 [] (subst (All (HasType tags c.declared)) one.1 (h.typed (Global c) was refl)))
+              (All-head (HasType tags c.declared) one.0 [] (subst (All (HasType tags c.declared)) one.1
+              (subst (λ o. HasCells o → All (HasType tags (global_type o)) cells) was h.typed tt)))

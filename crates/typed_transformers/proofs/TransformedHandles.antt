@@ -3,11 +3,13 @@
 use Rattle.std.proofs.Common.{◌≡◌, ℕ, Bool, true, false, true≢false, List, [], ◌∷◌, ◌++◌, refl, sym, subst, ap, ◌∙◌}
 use Rattle.std.specs.Prelude.{IsTrue, ◌&&◌, Option, Some, None, IfSome, find, map, bytes_eq, option_map, slice_get, unwrap_or, if◌then◌else◌}
 use Rattle.c_ints.specs.declared.kind.Kind.{Kind}
+use Rattle.c_ints.specs.declared.kind.Kind.TheVariants.{I8, U8, I16, U16, I32, U32, I64, U64}
 use Rattle.c_ints.specs.declared.int.Int.{Int}
 use Rattle.c_ints.specs.declared.operator.BinOp.{BinOp}
 use Rattle.c_ints.specs.Kind.{common_kind}
-use Rattle.c_ints.specs.Number.{kind_of, number, value_of}
+use Rattle.c_ints.specs.Number.{kind_of, number, reduced, value_of}
 use Rattle.c_ints.specs.Arithmetic.{is_zero, binary_kind}
+use Rattle.c_ints.proofs.Reduction.{kind_of-number}
 use Rattle.c_tree.specs.BareExpr.{Bytes, BareExpr}
 use Rattle.c_tree.specs.BareExpr as bare
 use Rattle.c_tree.specs.BareDef.{BareBinding}
@@ -31,16 +33,16 @@ use Rattle.c_types.specs.Lookup.{is_known}
 use Rattle.c_types.specs.Expressions.{is_condition, is_equality, fits, unknown_tag, is_initialising, where_allowed, where_met, meeting, follows, number_type, parts, own, part}
 use Rattle.c_semantics.specs.Values.{Value as RunValue, Number, Reference, Started, int_of, is_true, converted_to}
 use Rattle.c_semantics.specs.Pieces.{Variable}
+use Rattle.c_semantics.specs.Same.{same_kind}
 use Rattle.c_semantics.specs.Constants.{Old as OldValue, object_of, chosen, constant}
 use Rattle.c_semantics.specs.Transformers.{old_object, old_value}
 use Rattle.patch_faults.specs.TransformTypes.{Old, AnObject, AValue, is_object, by_itself, type_in, field_value, names_in, part_of, infer_old}
 use Rattle.patch_faults.specs.TransformFaults.{of_expression, value_faults}
-use Rattle.patch_faults.specs.TransformLaws.{has_type, HaveTypes, AsFound}
-use Rattle.patch_faults.proofs.ValuesOfTypes.{one_kind, of_kind, converted_has_type}
-use Rattle.patch_faults.proofs.FoundValues.{objects_are_as_found, globals_are_as_found}
+use Rattle.patch_faults.specs.TransformLaws.{has_type, HaveTypes, AsFound, ObjectsAreAsFound, GlobalsAreAsFound}
 use Rattle.typed_uses.proofs.SoundTexts.{known}
 use Rattle.typed_uses.proofs.Lookups.{same_bytes}
 use Rattle.typed_trees.specs.ValueTypes.{HasType, ScopeHas}
+use Rattle.typed_trees.proofs.ValuesOfTypes.{zero_has}
 
 no : false ≡ true → ⊥
 no e = cc
@@ -64,6 +66,32 @@ left false b e = absurd (true≢false (sym e))
 right : (a b : Bool) → (a && b) ≡ true → b ≡ true
 right true b e = e
 right false b e = absurd (true≢false (sym e))
+
+-- ---- kinds
+
+kind_itself : (k : Kind) → IsTrue (same_kind k k)
+kind_itself I8 = refl
+kind_itself U8 = refl
+kind_itself I16 = refl
+kind_itself U16 = refl
+kind_itself I32 = refl
+kind_itself U32 = refl
+kind_itself I64 = refl
+kind_itself U64 = refl
+
+of_kind : (k : Kind) (n : Int) → kind_of n ≡ k → IsTrue (has_type (bare.Integer k) (Number n))
+of_kind k n e = subst (λ x. IsTrue (same_kind x k)) (sym e) (kind_itself k)
+
+one_kind : (a b : Kind) → IsTrue (same_kind a b) → a ≡ b
+one_kind I8 I8 e = refl
+one_kind U8 U8 e = refl
+one_kind I16 I16 e = refl
+one_kind U16 U16 e = refl
+one_kind I32 I32 e = refl
+one_kind U32 U32 e = refl
+one_kind I64 I64 e = refl
+one_kind U64 U64 e = refl
+one_kind a b e = absurd (true≢false (sym e))
 
 -- ---- what has a type with a handle's struct has it without
 
@@ -143,11 +171,20 @@ module _ (tags : List Bytes) where
   handle_converted tag (Integer k) v e h = absurd (true≢false (sym e))
   handle_converted tag Thread v e h = absurd (true≢false (sym e))
 
+  integer_converted : (k : Kind) (v : RunValue) → HasType tags (bare.Integer k) (converted_to (bare.Integer k) v)
+  integer_converted k (Number n) = kind_of-number k (reduced k (value_of n))
+  integer_converted k (Reference o) = zero_has tags (bare.Integer k)
+  integer_converted k (Started r) = zero_has tags (bare.Integer k)
+
+  thread_converted : (v : RunValue) → HasType tags bare.Thread (converted_to bare.Thread v)
+  thread_converted (Number n) = tt
+  thread_converted (Reference o) = tt
+  thread_converted (Started r) = tt
+
   pub converted_typed : (t : CType) (f : Found) (v : RunValue) → converts t f ≡ true → AsFound f v → FoundTyped f v
       → HasType tags (bare_type t) (converted_to (bare_type t) v)
-  converted_typed (Integer k) f v e h typed =
-      integers_same k (converted_to (bare.Integer k) v) (converted_has_type (bare.Integer k) v)
-  converted_typed Thread f v e h typed = threads_same (converted_to bare.Thread v) (converted_has_type bare.Thread v)
+  converted_typed (Integer k) f v e h typed = integer_converted k v
+  converted_typed Thread f v e h typed = thread_converted v
   converted_typed (Handle tag) (Place t) v e h typed = handle_converted tag t v e typed
   converted_typed (Handle tag) (Value t) v e h typed = handle_converted tag t v e typed
   converted_typed (Handle tag) (Zero k) v e h typed =
@@ -361,6 +398,9 @@ module _ (tags : List Bytes) where
         by None h = tt
         by (Some t) h = h
 
+    abbrev met : ℕ → Expr → Expr → Found
+    met at a b = where_met (meeting (inferred a).found (inferred b).found) at (value_of_type (meeting (inferred a).found (inferred b).found))
+
     choice_found : (at : ℕ) (c a b : Expr) → Holds a → Holds b
         → AsFound (part (names_in q) at (node.Choice (inferred c) (inferred a) (inferred b))).found (chosen (is_true (value c)) (value a) (value b))
         → FoundTyped (part (names_in q) at (node.Choice (inferred c) (inferred a) (inferred b))).found (chosen (is_true (value c)) (value a) (value b))
@@ -369,11 +409,8 @@ module _ (tags : List Bytes) where
         (required (is_condition (inferred c).found) (inferred c)
         ++ (required (is_comparable (inferred a).found) (inferred a) ++ required (is_comparable (inferred b).found) (inferred b))) whole
       where
-        abbrev met : Found
-        met = where_met (meeting (inferred a).found (inferred b).found) at (value_of_type (meeting (inferred a).found (inferred b).found))
-
-        by : (faults : List Fault) → AsFound (after faults met) (chosen (is_true (value c)) (value a) (value b))
-            → FoundTyped (after faults met) (chosen (is_true (value c)) (value a) (value b))
+        by : (faults : List Fault) → AsFound (after faults (met at a b)) (chosen (is_true (value c)) (value a) (value b))
+            → FoundTyped (after faults (met at a b)) (chosen (is_true (value c)) (value a) (value b))
         by [] h = choice_typed at (is_true (value c)) (inferred a).found (inferred b).found (value a) (value b) (as_found a) (as_found b) ha hb h
         by (x ∷ xs) h = tt
 
@@ -434,20 +471,20 @@ module _ (tags : List Bytes) where
       (none_mapped of_expression (required (converts t value.found) value) none)
 
   -- a value without a fault for a field becomes one of the field's type
-  pub field_converted : (q : List Def) (layout : List Binding) (fields : List Variable) (t : CType) (e : Expr)
+  pub field_converted : ObjectsAreAsFound → (q : List Def) (layout : List Binding) (fields : List Variable) (t : CType) (e : Expr)
       → ScopeHas tags (map bare_binding layout) fields → value_faults q (AnObject layout) t e ≡ []
       → HasType tags (bare_type t) (converted_to (bare_type t) (constant (old_object fields) (bare_expr e)))
-  field_converted q layout fields t e h none =
+  field_converted objects_are_as_found q layout fields t e h none =
       let as_found = λ (x : Expr). objects_are_as_found q layout fields x (fields_forgotten (map bare_binding layout) fields h) in
       converted_typed t (infer_old (names_in q) (AnObject layout) e).found (constant (old_object fields) (bare_expr e))
       (converts_faultless q (AnObject layout) t e none) (as_found e)
       (found_typed q (AnObject layout) (old_object fields) (record { whole = tt; field = λ name. member_typed layout fields name h }) as_found e)
 
   -- and of a global, which had the type u
-  pub global_converted : (q : List Def) (t u : CType) (v : RunValue) (e : Expr)
+  pub global_converted : GlobalsAreAsFound → (q : List Def) (t u : CType) (v : RunValue) (e : Expr)
       → HasType tags (bare_type u) v → value_faults q (AValue u) t e ≡ []
       → HasType tags (bare_type t) (converted_to (bare_type t) (constant (old_value v) (bare_expr e)))
-  global_converted q t u v e h none =
+  global_converted globals_are_as_found q t u v e h none =
       let as_found = λ (x : Expr). globals_are_as_found q u v x (forgotten (bare_type u) v h) in
       converted_typed t (infer_old (names_in q) (AValue u) e).found (constant (old_value v) (bare_expr e))
       (converts_faultless q (AValue u) t e none) (as_found e)
