@@ -6,5 +6,5 @@ pub mod Stops
 pub mod Moves
 pub mod FirstWorld
 pub mod Installed
-pub mod Laws
+pub mod AcceptedWorlds
 pub mod Runs

@@ -20,7 +20,7 @@ use Rattle.world_laws.proofs.Runs.{worlds_hold}
 use Rattle.typed_runs.specs.TypedWorlds.{WorldTyped}
 use Rattle.typed_runs.specs.TypedRunLaws.{FitAfter, IsWorldOf, RunsAreTyped, tree_at}
 use Rattle.typed_runs.proofs.Installed.{Transforms}
-use Rattle.typed_runs.proofs.Laws.{each_has, first_world_typed, installs_keep_types, moves_keep_types}
+use Rattle.typed_runs.proofs.AcceptedWorlds.{each_has, first_world_typed, installs_keep_types, moves_keep_types}
 use Rattle.source_model.specs.JournalLaws.{HasMain}
 
 -- moves made in two parts

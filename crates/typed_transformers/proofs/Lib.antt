@@ -1,3 +1,3 @@
 pub mod TransformedHandles
 pub mod Transformed
-pub mod Laws
+pub mod AcceptedTexts

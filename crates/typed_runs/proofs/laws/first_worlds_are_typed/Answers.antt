@@ -1,4 +1,4 @@
-use Rattle.typed_runs.proofs.Laws as proofs
+use Rattle.typed_runs.proofs.AcceptedWorlds as proofs
 use Rattle.typed_runs.proofs.laws.first_worlds_are_typed.Goals as goal
 
 pub returns : goal.returns

@@ -1,4 +1,4 @@
-use Rattle.typed_runs.proofs.Laws as proofs
+use Rattle.typed_runs.proofs.AcceptedWorlds as proofs
 use Rattle.typed_runs.proofs.laws.installs_keep_types.Goals as goal
 
 pub returns : goal.returns

@@ -1,4 +1,4 @@
-use Rattle.typed_transformers.proofs.Laws as laws
+use Rattle.typed_transformers.proofs.AcceptedTexts as laws
 use Rattle.typed_transformers.proofs.laws.transformed_values_are_typed.Goals as goal
 
 pub returns-clause-fields : goal.returns-clause-fields
