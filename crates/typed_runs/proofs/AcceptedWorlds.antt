@@ -13,10 +13,10 @@ use Rattle.frame_bodies.specs.AcceptedTexts.{AreAccepted, IsAccepted, definition
 use Rattle.typed_texts.proofs.Functions.{functions_are_typed}
 use Rattle.typed_runs.proofs.Stops.{Outcome}
 use Rattle.typed_runs.specs.TypedWorlds.{WorldTyped}
-use Rattle.typed_runs.specs.TypedRunLaws.{FirstWorldTyped, InstallsKeepTypes, MovesKeepTypes}
+use Rattle.typed_runs.specs.TypedRunLaws.{FirstWorldTyped, InstallsKeepTypes, IsWorldOf, MovesKeepTypes}
 use Rattle.typed_runs.proofs.FirstWorld.{first_typed, main_typed}
 use Rattle.typed_runs.proofs.Installed.{Transforms, installed_typed}
-use Rattle.typed_runs.proofs.Moves.{FunctionsTyped, move_kept}
+use Rattle.typed_runs.proofs.Moves.{FunctionsTyped, IsTyped, move_kept}
 
 -- ---- accepted texts
 
@@ -46,15 +46,18 @@ first_world_typed text limits accepted = first_typed text.definitions limits (ma
 outcome : (P : World → Type 0) (o : Option World) (after : World) → o ≡ Some after → Outcome (Unit {0}) P o → P after
 outcome P o after e h = subst (Outcome (Unit {0}) P) e h
 
+pub typed_of : (texts : List Text) (w : World) → AreAccepted texts → IsWorldOf texts w → WorldTyped (definitions_of texts) w
+    → IsTyped (definitions_of texts) w
+typed_of texts w accepted of typed = record {
+  of = record { history = of.history; last = of.last };
+  holds = of.holds;
+  typed = typed;
+  bodies = accepted_functions texts accepted;
+}
+
 pub moves_keep_types : MovesKeepTypes
 moves_keep_types texts w after t accepted of typed e =
-    outcome (WorldTyped (definitions_of texts)) (move w t) after e
-    (move_kept (definitions_of texts) w t (record {
-      of = record { history = of.history; last = of.last };
-      holds = of.holds;
-      typed = typed;
-      bodies = accepted_functions texts accepted;
-    }))
+    outcome (WorldTyped (definitions_of texts)) (move w t) after e (move_kept (definitions_of texts) w t (typed_of texts w accepted of typed))
 
 pub installs_keep_types : Transforms → InstallsKeepTypes
 installs_keep_types transforms texts p q w follows of typed =

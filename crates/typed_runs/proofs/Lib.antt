@@ -8,3 +8,5 @@ pub mod FirstWorld
 pub mod Installed
 pub mod AcceptedWorlds
 pub mod Runs
+pub mod Progress
+mod Examples

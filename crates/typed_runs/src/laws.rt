@@ -1,6 +1,7 @@
 //! What the first world has of types, and what moves, installs and runs keep of them, each as the contract of a call that does
 //! nothing but cite what it rests on.
 
+ghost use Rattle.typed_runs.specs.Progress.{ThreadsGoOn};
 ghost use Rattle.typed_runs.specs.TypedRunLaws.{FirstWorldTyped, InstallsKeepTypes, MovesKeepTypes, RunsAreTyped};
 
 use typed_transformers::transformed_values_are_typed;
@@ -30,3 +31,9 @@ pub fn runs_are_typed()
 {
     transformed_values_are_typed();
 }
+
+/// Each thread that lives in a typed world makes its next move or waits; else it stands at the end of a transaction that it isn't
+/// in.
+pub fn threads_go_on()
+    ensures { ThreadsGoOn }
+{}

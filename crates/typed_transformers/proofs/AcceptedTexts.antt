@@ -1,5 +1,5 @@
 -- What the transformers of accepted texts give is typed.
-use Rattle.std.proofs.Common.{List, map, All, sym, subst}
+use Rattle.std.proofs.Common.{List, map, All, subst}
 use Rattle.c_tree.specs.BareExpr.{Bytes}
 use Rattle.c_tree.specs.BareDef.{BareDef}
 use Rattle.c_tree.specs.Bare.{bare_def}

@@ -26,7 +26,7 @@ use Rattle.c_types.specs.Faults.{unless}
 use Rattle.c_types.specs.Expressions.{member, unknown_tag}
 use Rattle.c_types.specs.Definitions.{bindings}
 use Rattle.c_semantics.specs.Names.{struct_name}
-use Rattle.c_semantics.specs.Texts.{definition, global_type, members_of, bound}
+use Rattle.c_semantics.specs.Texts.{global_type, members_of, bound}
 use Rattle.c_semantics.specs.Values.{Value, zero_of, converted_to}
 use Rattle.c_semantics.specs.Pieces.{Variable}
 use Rattle.c_semantics.specs.Evaluation.{in_scope}

@@ -1,13 +1,13 @@
 -- The value of a transformer's expression is of the type that the expression is found to have, also where that is a handle: then
 -- it is null or names an object of its struct.
-use Rattle.std.proofs.Common.{◌≡◌, ℕ, Bool, true, false, true≢false, List, [], ◌∷◌, ◌++◌, refl, sym, subst, ap, ◌∙◌}
+use Rattle.std.proofs.Common.{◌≡◌, ℕ, Bool, true, false, true≢false, List, [], ◌∷◌, ◌++◌, refl, sym, subst}
 use Rattle.std.specs.Prelude.{IsTrue, ◌&&◌, Option, Some, None, IfSome, find, map, bytes_eq, option_map, slice_get, unwrap_or, if◌then◌else◌}
 use Rattle.c_ints.specs.declared.kind.Kind.{Kind}
 use Rattle.c_ints.specs.declared.kind.Kind.TheVariants.{I8, U8, I16, U16, I32, U32, I64, U64}
 use Rattle.c_ints.specs.declared.int.Int.{Int}
 use Rattle.c_ints.specs.declared.operator.BinOp.{BinOp}
 use Rattle.c_ints.specs.Kind.{common_kind}
-use Rattle.c_ints.specs.Number.{kind_of, number, reduced, value_of}
+use Rattle.c_ints.specs.Number.{kind_of, reduced, value_of}
 use Rattle.c_ints.specs.Arithmetic.{is_zero, binary_kind}
 use Rattle.c_ints.proofs.Reduction.{kind_of-number}
 use Rattle.c_tree.specs.BareExpr.{Bytes, BareExpr}

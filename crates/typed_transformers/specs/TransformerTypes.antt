@@ -4,7 +4,7 @@ use Rattle.c_tree.specs.BareExpr.{Bytes}
 use Rattle.c_tree.specs.BareStmt.{BareDeclaration}
 use Rattle.c_tree.specs.BareDef.{BareDef, Global, Array}
 use Rattle.c_semantics.specs.Names.{struct_name}
-use Rattle.c_semantics.specs.Texts.{definition, global_type, members_of}
+use Rattle.c_semantics.specs.Texts.{global_type, members_of}
 use Rattle.c_semantics.specs.Values.{Value}
 use Rattle.c_semantics.specs.Pieces.{Variable}
 use Rattle.c_semantics.specs.SourceTexts.{Text}
