@@ -27,11 +27,12 @@ use Rattle.source_model.specs.JournalLaws.{HasMain}
 two_parts : (texts : List (List BareDef)) (ms ns : List SourceMove) (w : World)
     → run texts (ms ++ ns) w ≡ option_and_then (run texts ns) (run texts ms w)
 two_parts texts [] ns w = refl
-two_parts texts (m ∷ ms) ns w = by (step texts m w)
+two_parts texts (m ∷ ms) ns w = by (λ mid. two_parts texts ms ns mid) (step texts m w)
   where
-    by : (o : Option World) → option_and_then (run texts (ms ++ ns)) o ≡ option_and_then (run texts ns) (option_and_then (run texts ms) o)
-    by None = refl
-    by (Some mid) = two_parts texts ms ns mid
+    by : ((mid : World) → run texts (ms ++ ns) mid ≡ option_and_then (run texts ns) (run texts ms mid)) → (o : Option World)
+        → option_and_then (run texts (ms ++ ns)) o ≡ option_and_then (run texts ns) (option_and_then (run texts ms) o)
+    by rest None = refl
+    by rest (Some mid) = rest mid
 
 -- the texts that some moves install, and one more
 installed_more : (texts : List (List BareDef)) (ms : List SourceMove) (m : SourceMove)
@@ -123,28 +124,33 @@ module _ (transforms : Transforms) (texts : List Text) (limits : Limits) (accept
       made =
           ap (install w) found ∙ ap (λ b. if b then None else Some (installed q.definitions w)) going
 
-  -- the rest of a run
-  along : (ms done : List SourceMove) (w after : World) → (r : Reached done w) → FitAfter texts r.last.tree.definitions ms → run defs ms w ≡ Some after
+  -- what the rest of a run comes to is typed
+  abbrev Rest : List SourceMove → World → Type 0
+  Rest ms after =
+      (done : List SourceMove) (w : World) (r : Reached done w) → FitAfter texts r.last.tree.definitions ms → run defs ms w ≡ Some after
       → WorldTyped (versions_by defs (done ++ ms)) after
-  along [] done w after r fits e =
+
+  along : (ms : List SourceMove) (after : World) → Rest ms after
+  unfolding after_move after_install
+  along [] after done w r fits e =
       subst (λ ns. WorldTyped (versions_by defs ns) after) (sym (append-nil done))
       (subst (WorldTyped (versions_by defs done)) (same_Some w after e) (subst (λ ts. WorldTyped ts w) r.are r.typed))
-  along (Move t ∷ ms) done w after r fits e =
-      subst (λ ns. WorldTyped (versions_by defs ns) after) (append_assoc done (Move t ∷ []) ms) (by (move w t) refl e)
+  along (Move t ∷ ms) after done w r fits e =
+      subst (λ ns. WorldTyped (versions_by defs ns) after) (append_assoc done (Move t ∷ []) ms) (by (along ms after) (move w t) refl e)
     where
-      by : (o : Option World) → move w t ≡ o → option_and_then (run defs ms) o ≡ Some after
+      by : Rest ms after → (o : Option World) → move w t ≡ o → option_and_then (run defs ms) o ≡ Some after
           → WorldTyped (versions_by defs ((done ++ Move t ∷ []) ++ ms)) after
-      by None is e = absurd (none-some after e)
-      by (Some mid) is e = along ms (done ++ Move t ∷ []) mid after (after_move done t w mid r is) fits e
-  along (Install k ∷ ms) done w after r fits e =
+      by rest None is e = absurd (none-some after e)
+      by rest (Some mid) is e = rest (done ++ Move t ∷ []) mid (after_move done t w mid r is) fits e
+  along (Install k ∷ ms) after done w r fits e =
       subst (λ ns. WorldTyped (versions_by defs ns) after) (append_assoc done (Install k ∷ []) ms)
-      (by (slice_get texts k) refl (subst (λ o. option_and_then (run defs ms) (install w o) ≡ Some after)
+      (by (along ms after) (slice_get texts k) refl (subst (λ o. option_and_then (run defs ms) (install w o) ≡ Some after)
       (slice_get-map (λ (t : Text). t.definitions) texts k) e))
     where
-      by : (o : Option Text) → slice_get texts k ≡ o → option_and_then (run defs ms) (install w (option_map (λ (t : Text). t.definitions) o)) ≡ Some after
+      by : Rest ms after → (o : Option Text) → slice_get texts k ≡ o → option_and_then (run defs ms) (install w (option_map (λ (t : Text). t.definitions) o)) ≡ Some after
           → WorldTyped (versions_by defs ((done ++ Install k ∷ []) ++ ms)) after
-      by None is e = absurd (none-some after e)
-      by (Some q) is e = over (is_over w) refl e
+      by rest None is e = absurd (none-some after e)
+      by rest (Some q) is e = over (is_over w) refl e
         where
           tree_is : tree_at texts k ≡ q.tree.definitions
           tree_is = ap (λ o. option_map_or (λ t. t.tree.definitions) o []) is
@@ -156,13 +162,13 @@ module _ (transforms : Transforms) (texts : List Text) (limits : Limits) (accept
               → WorldTyped (versions_by defs ((done ++ Install k ∷ []) ++ ms)) after
           over true going e = absurd (none-some after e)
           over false going e =
-              along ms (done ++ Install k ∷ []) (installed q.definitions w) after (after_install done k q w r is going fit)
+              rest (done ++ Install k ∷ []) (installed q.definitions w) (after_install done k q w r is going fit)
               (subst (λ d. FitAfter texts d ms) tree_is fits.1) e
 
 pub runs_are_typed : Transforms → RunsAreTyped
 runs_are_typed transforms [] limits ms w accepted fits e = absurd (none-some w e)
 runs_are_typed transforms (t ∷ texts) limits ms w accepted fits e =
-    along transforms (t ∷ texts) limits accepted ms [] (first_world t.definitions limits) w
+    along transforms (t ∷ texts) limits accepted ms w [] (first_world t.definitions limits)
     (record {
       earlier = [];
       last = t;
