@@ -1,5 +1,5 @@
 -- The newest values that a stop takes, by their types, and what is left under them.
-use Rattle.std.proofs.Common.{◌≡◌, ℕ, zero, suc, List, [], ◌∷◌, ◌++◌, map, take, drop, reverse, length, refl, sym, ap, subst, ◌∙◌}
+use Rattle.std.proofs.Common.{ℕ, List, [], ◌∷◌, ◌++◌, map, take, drop, reverse, length, refl, sym, subst}
 use Rattle.std.proofs.lemmas.List.{reverse-append}
 use Rattle.c_ints.specs.declared.kind.Kind.{Kind}
 use Rattle.c_tree.specs.BareExpr.{Bytes, BareType, Integer, Handle, Thread}

@@ -1,6 +1,6 @@
 -- A small text, what is typed by it, and what isn't: a value of a wrong kind, a handle of another struct, a result of another
 -- type.
-use Rattle.std.proofs.Common.{◌≡◌, ℕ, pos, List, [], ◌∷◌, Option, Some, None, All, true, codes, refl, subst, sym, le_refl}
+use Rattle.std.proofs.Common.{◌≡◌, pos, List, [], ◌∷◌, Some, None, true, codes, refl, subst, sym, le_refl}
 use Rattle.std.proofs.lemmas.List.Elements.{All-head}
 use Rattle.c_ints.specs.declared.kind.Kind.TheVariants.{I32, I64}
 use Rattle.c_ints.specs.Number.{number}
@@ -11,9 +11,9 @@ use Rattle.c_semantics.specs.Texts.{definition, int}
 use Rattle.c_semantics.specs.Values.{Value, Number, Reference}
 use Rattle.c_semantics.specs.Resolved.{Local}
 use Rattle.c_semantics.specs.Stops as stop
-use Rattle.c_semantics.specs.Pieces.{Piece, Scopes, Get, At}
+use Rattle.c_semantics.specs.Pieces.{Get, At}
 use Rattle.c_semantics.specs.Threads.{Enter, Frame}
-use Rattle.source_model.specs.Worlds.{World, Limits, Object, Cells, Finished, first_world}
+use Rattle.source_model.specs.Worlds.{World, Limits, Object, Finished, first_world}
 use Rattle.typed_trees.specs.ValueTypes.{Environment, HasType, HaveTypes, ScopesHave}
 use Rattle.typed_trees.specs.PieceTypes.{Stack, going}
 use Rattle.typed_runs.specs.TypedFrames.{Below, EnterTyped, FrameTyped, FrameWaits}

@@ -217,13 +217,14 @@ first_cells text name _ e has = absurd has
 pub first_typed : (text : List BareDef) (limits : Limits) → MainTyped text → WorldTyped (text ∷ []) (first_world text limits)
 first_typed text limits main = record {
   slots = λ e.
-      All-cons (SlotTyped (text ∷ []) []) (Live (started 0 main_enter)) (replicate (limits.slots - 1) Free)
-      (record {
-        known = le_refl 1;
-        function = main.function;
-        arguments = subst (λ ts. HaveTypes [] ts []) (sym main.none) tt;
-      },
-      main.returns)
+      All-cons (SlotTyped (text ∷ []) []) (Live (started 0 main_enter)) (replicate (limits.slots - 1) Free) (
+        record {
+          known = le_refl 1;
+          function = main.function;
+          arguments = subst (λ ts. HaveTypes [] ts []) (sym main.none) tt;
+        },
+        main.returns,
+      )
       (All-replicate (SlotTyped (text ∷ []) []) (limits.slots - 1) Free tt);
   objects = All-nil (ObjectTyped text []);
   globals = λ name. first_cells text name (definition text name) refl;

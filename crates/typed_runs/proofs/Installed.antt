@@ -8,7 +8,6 @@ use Rattle.c_semantics.specs.Names.{struct_name}
 use Rattle.c_semantics.specs.Texts.{definition, global_type, members_of, result_type}
 use Rattle.c_semantics.specs.Changes.{same_interface}
 use Rattle.c_semantics.specs.Values.{Value}
-use Rattle.c_semantics.specs.Constants.{initial_cells}
 use Rattle.c_semantics.specs.Transformers.{transformed, transformed_global}
 use Rattle.c_semantics.specs.SourceTexts.{Text}
 use Rattle.c_semantics.specs.Threads.{Enter, Frame}
@@ -16,7 +15,7 @@ use Rattle.source_model.specs.Worlds.{World, Object, Slot, Free, Live, Over, cel
 use Rattle.source_model.specs.Installs.{brought, brought_by, carried, global_after, installed}
 use Rattle.definition_laws.specs.EqualParts.{HaveEqualInterfaces}
 use Rattle.definition_laws.proofs.SameDefinitions.{interface_equal_if_same}
-use Rattle.version_laws.specs.Histories.{last_text, text_in}
+use Rattle.version_laws.specs.Histories.{last_text}
 use Rattle.version_laws.proofs.TableHistories.{last_is_next, one_longer, text_as_before}
 use Rattle.world_laws.specs.Holdings.{HoldsGlobals}
 use Rattle.world_laws.proofs.Found.{cells_found, cells_in, entry_of, found_defines, same_bytes}

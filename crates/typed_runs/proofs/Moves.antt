@@ -5,7 +5,6 @@ use Rattle.bytecode.specs.declared.trap.TrapKind.TheVariants.{Depth}
 use Rattle.c_tree.specs.BareExpr.{Bytes}
 use Rattle.c_tree.specs.BareDef.{BareDef}
 use Rattle.c_semantics.specs.Texts.{definition, parameters_of, result_type}
-use Rattle.c_semantics.specs.Changes.{agree, same_interface}
 use Rattle.c_semantics.specs.Stops.{Stop, End}
 use Rattle.c_semantics.specs.Pieces.{Piece, Scopes, Halt, Stopped, Trapped, Nothing}
 use Rattle.c_semantics.specs.Evaluation.{local}
@@ -28,12 +27,11 @@ use Rattle.typed_trees.specs.ExpressionTypes.{parameter_types}
 use Rattle.typed_trees.specs.StatementTypes.{BodyTyped}
 use Rattle.typed_trees.specs.PieceTypes.{EndsWell}
 use Rattle.typed_trees.proofs.SafePieces.{bodies_go_on, local_evaluation_keeps_types}
-use Rattle.typed_runs.specs.TypedFrames.{Below, EnterTyped, FrameTyped, FramesTyped, result_in, version_in}
+use Rattle.typed_runs.specs.TypedFrames.{Below, FrameTyped, FramesTyped, result_in, version_in}
 use Rattle.typed_runs.specs.TypedWorlds.{SlotTyped, WorldTyped, tags_of}
 use Rattle.typed_runs.proofs.Arguments.{bound_have}
 use Rattle.typed_runs.proofs.SameUses.{SameUse, same_use}
 use Rattle.typed_runs.proofs.Stops.{Outcome, either_way, perform_kept, slot_at}
-use Rattle.std.specs.Prelude.{All}
 use Rattle.std.proofs.lemmas.List.Elements.{All-set}
 
 -- the functions of a text have typed bodies

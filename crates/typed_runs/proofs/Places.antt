@@ -1,13 +1,13 @@
 -- Typed cells and fields: what is read of them and written to them.
-use Rattle.std.proofs.Common.{◌≡◌, ℕ, zero, suc, Bool, true, false, List, [], ◌∷◌, map, find, Option, Some, None, option_map, is_some, unwrap_or, All, cond, refl, sym, ap, subst, ◌∙◌, bytes_eq, if◌then◌else◌}
+use Rattle.std.proofs.Common.{◌≡◌, ℕ, zero, suc, Bool, true, false, List, [], ◌∷◌, find, Some, option_map, is_some, unwrap_or, All, cond, refl, sym, ap, subst, ◌∙◌, bytes_eq, if◌then◌else◌}
 use Rattle.std.specs.Prelude.{IsTrue, slice_get, slice_set}
 use Rattle.std.specs.Option.{option_map_or}
 use Rattle.std.proofs.lemmas.List.Elements.{All-get_or}
-use Rattle.std.proofs.lemmas.Option.{get_or_from_slice_get, none-some, same_Some, slice_get-map, slice_get_within}
-use Rattle.c_tree.specs.BareExpr.{Bytes, BareType}
+use Rattle.std.proofs.lemmas.Option.{get_or_from_slice_get, same_Some, slice_get-map, slice_get_within}
+use Rattle.c_tree.specs.BareExpr.{Bytes}
 use Rattle.c_tree.specs.BareDef.{BareBinding, BareDef}
 use Rattle.c_semantics.specs.Texts.{bound, bound_type, definition, global_type, int}
-use Rattle.c_semantics.specs.Values.{Value, int_of, zero_of}
+use Rattle.c_semantics.specs.Values.{Value, int_of}
 use Rattle.c_semantics.specs.Pieces.{Variable}
 use Rattle.c_semantics.specs.Evaluation.{in_scope, with_value}
 use Rattle.c_semantics.specs.Transformers.{zero_fields}

@@ -1,15 +1,13 @@
 -- A thread of a typed world makes its next move or waits, unless it would end a transaction that it isn't in.
-use Rattle.std.proofs.Common.{◌≡◌, ℕ, ◌||◌, Bool, true, false, List, [], ◌∷◌, Option, Some, None, is_some, refl, sym, ap, subst, ◌∙◌, if◌then◌else◌}
-use Rattle.c_semantics.specs.SourceTexts.{Text}
+use Rattle.std.proofs.Common.{◌≡◌, ℕ, ◌||◌, Bool, true, false, List, [], ◌∷◌, Option, Some, None, is_some, refl, ap, ◌∙◌, if◌then◌else◌}
 use Rattle.c_semantics.specs.Stops.{End}
 use Rattle.c_semantics.specs.Pieces.{Halt, Stopped}
 use Rattle.c_semantics.specs.Threads.{Enter, Frame, Thread, next_of}
 use Rattle.source_model.specs.Worlds.{World, Live, Finish, in_slot, is_over}
 use Rattle.source_model.specs.Moves.{move, move_of, thread_move}
 use Rattle.source_model.specs.Waits.{Waiting, must_wait, waits_for}
-use Rattle.frame_bodies.specs.AcceptedTexts.{AreAccepted, definitions_of}
+use Rattle.frame_bodies.specs.AcceptedTexts.{definitions_of}
 use Rattle.typed_runs.specs.TypedWorlds.{WorldTyped}
-use Rattle.typed_runs.specs.TypedRunLaws.{IsWorldOf}
 use Rattle.typed_runs.specs.Progress.{Does, EndsNone, ThreadsGoOn, moves, waits, ends}
 use Rattle.typed_runs.proofs.AcceptedWorlds.{typed_of}
 use Rattle.typed_runs.proofs.Moves.{IsAtEnd, IsEnd, live_kept}

@@ -1,11 +1,10 @@
 -- Each world that a run of accepted texts comes to is typed.
-use Rattle.std.proofs.Common.{◌≡◌, ℕ, Bool, true, false, List, [], ◌∷◌, ◌++◌, append_assoc, append-nil, map, Option, Some, None, option_map, option_and_then, slice_get, slice_index_or, All, refl, sym, ap, subst, ◌∙◌, if◌then◌else◌}
+use Rattle.std.proofs.Common.{◌≡◌, ℕ, Bool, true, false, List, [], ◌∷◌, ◌++◌, append_assoc, append-nil, Option, Some, None, option_map, option_and_then, slice_get, slice_index_or, refl, sym, ap, subst, ◌∙◌, if◌then◌else◌}
 use Rattle.std.proofs.lemmas.List.{map-append}
 use Rattle.std.proofs.lemmas.List.Elements.{All-append, All-cons, All-get_or, All-head, All-nil, All-tail}
 use Rattle.std.proofs.lemmas.Option.{get_or_from_slice_get, none-some, same_Some, slice_get-map, slice_get_within}
 use Rattle.std.specs.Option.{option_map_or}
 use Rattle.c_tree.specs.BareDef.{BareDef}
-use Rattle.c_tree.specs.declared.def.Def.{Def}
 use Rattle.c_semantics.specs.SourceTexts.{Text}
 use Rattle.patch_faults.specs.TransformFaults.{first_transform_fault}
 use Rattle.source_model.specs.Worlds.{World, Limits, first_world, is_over}

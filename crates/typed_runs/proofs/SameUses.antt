@@ -1,5 +1,5 @@
 -- Where the interface of a name stays, so do the types that its uses rely on.
-use Rattle.std.proofs.Common.{◌≡◌, true, false, List, map, Option, Some, None, refl, ap, ◌∙◌}
+use Rattle.std.proofs.Common.{◌≡◌, true, false, List, Option, Some, None, refl, ap, ◌∙◌}
 use Rattle.c_tree.specs.BareExpr.{Bytes, BareType}
 use Rattle.c_tree.specs.BareStmt.{BareStmts}
 use Rattle.c_tree.specs.BareDef.{BareBinding, BareDef, Struct, Mutex, Function, Global, Array}
@@ -34,24 +34,54 @@ results r q n m ps qs body code e = ap (λ x. result_type (Some (Function x n ps
 
 pub equal_uses : (a b : BareDef) → HaveEqualInterfaces a b → SameUse (Some a) (Some b)
 equal_uses (Struct tag ms) (Struct other ns) h = record {
-  global_is = refl; result_is = refl; parameters_are = refl; members_are = h;
-  variable = λ x. x; array = λ x. x; function = λ x. x; struct = λ x. x;
+  global_is = refl;
+  result_is = refl;
+  parameters_are = refl;
+  members_are = h;
+  variable = λ x. x;
+  array = λ x. x;
+  function = λ x. x;
+  struct = λ x. x;
 }
 equal_uses (Mutex n) (Mutex m) h = record {
-  global_is = refl; result_is = refl; parameters_are = refl; members_are = refl;
-  variable = λ x. x; array = λ x. x; function = λ x. x; struct = λ x. x;
+  global_is = refl;
+  result_is = refl;
+  parameters_are = refl;
+  members_are = refl;
+  variable = λ x. x;
+  array = λ x. x;
+  function = λ x. x;
+  struct = λ x. x;
 }
 equal_uses (Function r n ps body) (Function q m qs code) h = record {
-  global_is = refl; result_is = results r q n m ps qs body code h.0; parameters_are = h.1; members_are = refl;
-  variable = λ x. x; array = λ x. x; function = λ x. x; struct = λ x. x;
+  global_is = refl;
+  result_is = results r q n m ps qs body code h.0;
+  parameters_are = h.1;
+  members_are = refl;
+  variable = λ x. x;
+  array = λ x. x;
+  function = λ x. x;
+  struct = λ x. x;
 }
 equal_uses (Global d) (Global e) h = record {
-  global_is = h; result_is = refl; parameters_are = refl; members_are = refl;
-  variable = λ x. x; array = λ x. x; function = λ x. x; struct = λ x. x;
+  global_is = h;
+  result_is = refl;
+  parameters_are = refl;
+  members_are = refl;
+  variable = λ x. x;
+  array = λ x. x;
+  function = λ x. x;
+  struct = λ x. x;
 }
 equal_uses (Array t n k values) (Array u m l others) h = record {
-  global_is = h.0; result_is = refl; parameters_are = refl; members_are = refl;
-  variable = λ x. x; array = λ x. x; function = λ x. x; struct = λ x. x;
+  global_is = h.0;
+  result_is = refl;
+  parameters_are = refl;
+  members_are = refl;
+  variable = λ x. x;
+  array = λ x. x;
+  function = λ x. x;
+  struct = λ x. x;
 }
 equal_uses _ _ h = absurd h
 

@@ -1,10 +1,10 @@
 -- Each stop of a typed frame leaves a typed world.
-use Rattle.std.proofs.Common.{◌≡◌, ℕ, zero, suc, ◌≤◌, ◌<◌, ◌==◌, ◌&&◌, ◌⊎◌, inl, inr, ℤ, pos, negsuc, Bool, true, false, List, [], ◌∷◌, ◌++◌, map, length, take, drop, reverse, Option, Some, None, is_some, unwrap_or, unsigned_abs, All, refl, sym, ap, subst, ◌∙◌, append-nil, if◌then◌else◌}
+use Rattle.std.proofs.Common.{◌≡◌, ℕ, zero, suc, ◌≤◌, ◌<◌, ◌==◌, ◌&&◌, ◌⊎◌, inl, inr, ℤ, pos, negsuc, Bool, true, false, List, [], ◌∷◌, ◌++◌, length, take, drop, reverse, Option, Some, None, is_some, unwrap_or, unsigned_abs, All, refl, sym, ap, subst, ◌∙◌, if◌then◌else◌}
 use Rattle.std.specs.Prelude.{IsTrue, position, slice_get, slice_set, slice_index_or}
 use Rattle.std.proofs.lemmas.Bool.{cases_lt, ltb-true}
 use Rattle.std.proofs.lemmas.List.{get_or_past, length-map, length-reverse, map-append, reverse-reverse}
 use Rattle.std.proofs.lemmas.List.Elements.{All-append, All-cons, All-get_or, All-head, All-nil, All-set}
-use Rattle.std.proofs.lemmas.Option.{get_or_from_slice_get, none-some, same_Some, slice_get_past, slice_get_within, slice_get-get_or, unwrap_or-slice_get}
+use Rattle.std.proofs.lemmas.Option.{none-some, unwrap_or-slice_get}
 use Rattle.bytecode.specs.declared.trap.TrapKind.{TrapKind}
 use Rattle.bytecode.specs.declared.trap.TrapKind.TheVariants.{Null, Stale, Index, Relock, Unlock as NotHeld, MutexHeld, Join as NotJoined}
 use Rattle.c_ints.specs.declared.kind.Kind.{Kind}
@@ -33,11 +33,11 @@ use Rattle.world_laws.specs.Holdings.{HoldsGlobals}
 use Rattle.world_laws.proofs.Found.{cells_in}
 use Rattle.typed_transformers.specs.TransformerTypes.{HasCells}
 use Rattle.typed_trees.specs.ValueTypes.{Environment, HasType, HaveTypes, ScopeHas, ScopesHave}
-use Rattle.typed_trees.specs.ExpressionTypes.{IsArray, IsFunction, IsInteger, IsMutex, IsStruct, IsVariable, Runs, parameter_types}
-use Rattle.typed_trees.specs.PieceTypes.{HasField, Pops, PopsFormat, PopsPrinted, Stack, StopTyped, Top, field_type, going}
-use Rattle.typed_runs.specs.TypedFrames.{Below, FrameTyped, FramesTyped, ThreadTyped, result_in, version_in}
+use Rattle.typed_trees.specs.ExpressionTypes.{IsArray, IsFunction, IsInteger, IsStruct, IsVariable, Runs, parameter_types}
+use Rattle.typed_trees.specs.PieceTypes.{HasField, Pops, PopsFormat, Stack, StopTyped, Top, field_type, going}
+use Rattle.typed_runs.specs.TypedFrames.{Below, FramesTyped, ThreadTyped, result_in, version_in}
 use Rattle.typed_runs.specs.TypedWorlds.{FinishTyped, GlobalsTyped, ObjectTyped, SlotTyped, WorldTyped, tags_of}
-use Rattle.typed_runs.proofs.Arguments.{Left, Taken, printed_left, reversed_have, taken_of}
+use Rattle.typed_runs.proofs.Arguments.{printed_left, reversed_have, taken_of}
 use Rattle.typed_runs.proofs.MoreObjects.{Grows, before_more, below_still, globals_still, next_number, no_more, objects_still, scopes_still, slots_still, values_still}
 use Rattle.typed_runs.proofs.Places.{cells_written, field_has, field_written, object_at, tag_is, tags_kept, zeros_have}
 use Rattle.typed_runs.proofs.SameUses.{SameUse, array_cells, variable_cells}
@@ -127,18 +127,19 @@ module _ (texts : List (List BareDef)) (s : Standing) where
     frames_on : (more : List Bytes) (values : List Value) (under : Stack) → Grows tags more → On under → HaveTypes more under values
         → FramesTyped texts more s.thread.entering (record s.frame { values = values } ∷ s.below)
     frames_on more values under grows on h =
-        subst (λ e. FramesTyped texts more e (record s.frame { values = values } ∷ s.below)) (sym r.entering)
-        (record {
-          known = r.known;
-          goes_on = record {
-            stack = under;
-            env = r.env;
-            typed = on;
-            values_have = h;
-            scopes_have = scopes_still tags more grows r.env s.frame.scopes r.scopes_have;
-          };
-        },
-        below_still tags more grows texts result s.below r.below)
+        subst (λ e. FramesTyped texts more e (record s.frame { values = values } ∷ s.below)) (sym r.entering) (
+          record {
+            known = r.known;
+            goes_on = record {
+              stack = under;
+              env = r.env;
+              typed = on;
+              values_have = h;
+              scopes_have = scopes_still tags more grows r.env s.frame.scopes r.scopes_have;
+            };
+          },
+          below_still tags more grows texts result s.below r.below,
+        )
 
     goes : (w : World) (values : List Value) (under : Stack) → After w → On under → HaveTypes (tags_of w.objects) under values
         → Kept (goes_on s w values)
@@ -204,11 +205,13 @@ module _ (texts : List (List BareDef)) (s : Standing) where
     read_global_kept : (name : Bytes) (values : List Value) (stack : Stack) → SameUse (look name) (definition text name) → IsVariable (look name)
         → On (global_type (look name) ∷ stack) → HaveTypes tags stack values → Kept (goes_on s s.world (first_cell (cells_of s.world name) ∷ values))
     read_global_kept name values stack same is on h =
-        goes_here _ (global_type (look name) ∷ stack) on
-        (first_has (global_type (look name)) (cells_of s.world name)
-        (one_cell name (definition s.world.text name) refl
-        (subst (λ t. IsVariable (definition t name)) (sym r.of.last) (same.variable is)))
-        (cells_now name same (variable_cells (definition text name) (same.variable is))), h)
+        goes_here _ (global_type (look name) ∷ stack) on (
+          first_has (global_type (look name)) (cells_of s.world name)
+              (one_cell name (definition s.world.text name) refl
+              (subst (λ t. IsVariable (definition t name)) (sym r.of.last) (same.variable is)))
+              (cells_now name same (variable_cells (definition text name) (same.variable is))),
+          h,
+        )
 
     after_cells : (name : Bytes) (cells : List Value) → SameUse (look name) (definition text name)
         → All (HasType tags (global_type (look name))) cells → After (with_cells name cells s.world)
@@ -257,9 +260,11 @@ module _ (texts : List (List BareDef)) (s : Standing) where
             by true is =
                 let cells = cells_of s.world name in
                 let at = unsigned_abs (value_of n) in
-                goes_here _ (global_type (look name) ∷ under) on
-                (subst (HasType tags (global_type (look name))) (sym (unwrap_or-slice_get cells at (int_of 0)))
-                (All-get_or (HasType tags (global_type (look name))) cells at (int_of 0) (within (value_of n) cells is) (cells_now name same (array_cells (definition text name) (same.array array)))), rest_have)
+                goes_here _ (global_type (look name) ∷ under) on (
+                  subst (HasType tags (global_type (look name))) (sym (unwrap_or-slice_get cells at (int_of 0)))
+                      (All-get_or (HasType tags (global_type (look name))) cells at (int_of 0) (within (value_of n) cells is) (cells_now name same (array_cells (definition text name) (same.array array)))),
+                  rest_have,
+                )
             by false is = trapped Index
 
     write_element_kept : (name : Bytes) (values : List Value) (stack : Stack) → SameUse (look name) (definition text name) → IsArray (look name)
@@ -323,9 +328,11 @@ module _ (texts : List (List BareDef)) (s : Standing) where
         newest (read_field s name) _ stack values (λ t under v rest p h rest_have.
         a_handle (λ x. read_field s name (x ∷ rest)) tag v (λ o has.
         object_kept tag o _ (λ n x at is.
-        goes_here _ (field_type look tag name ∷ under) p.1
-        (field_has tags (members_of (look (struct_name tag))) x.fields name
-        (fields_now tag n x at is same (with_field (look (struct_name tag)) name field)) (there _ name field), rest_have)) has)
+        goes_here _ (field_type look tag name ∷ under) p.1 (
+          field_has tags (members_of (look (struct_name tag))) x.fields name
+              (fields_now tag n x at is same (with_field (look (struct_name tag)) name field)) (there _ name field),
+          rest_have,
+        )) has)
         (subst (λ u. HasType tags u v) p.0 h))
 
     -- an object of which another is made with its tag
@@ -497,12 +504,14 @@ module _ (texts : List (List BareDef)) (s : Standing) where
         → Top stack (λ t under. Runs (look name) t × On (ThreadType ∷ under)) → HaveTypes tags stack values → Kept (spawn s name values)
     spawn_kept name values stack =
         newest (spawn s name) _ stack values (λ t under v rest p h rest_have.
-        start_kept (record { function = name; arguments = v ∷ []; version = s.frame.version }) rest under (position is_free s.world.slots)
-        (record {
-          known = r.known;
-          function = p.0.0;
-          arguments = subst (λ ts. HaveTypes tags ts (v ∷ [])) (sym p.0.1) (h, tt);
-        }, p.0.2) p.1 rest_have)
+        start_kept (record { function = name; arguments = v ∷ []; version = s.frame.version }) rest under (position is_free s.world.slots) (
+          record {
+            known = r.known;
+            function = p.0.0;
+            arguments = subst (λ ts. HaveTypes tags ts (v ∷ [])) (sym p.0.1) (h, tt);
+          },
+          p.0.2,
+        ) p.1 rest_have)
 
     join_slot_kept : (ref : ThreadRef) (values : List Value) (stack : Stack) (x : Slot) → in_slot s.world ref.slot ≡ x → On (int ∷ stack)
         → HaveTypes tags stack values → Kept (join_slot s ref values x)
@@ -540,22 +549,26 @@ module _ (texts : List (List BareDef)) (s : Standing) where
         let types = parameter_types (look name) in
         let both = taken_of tags (reverse types) stack (λ under. On (result_type (look name) ∷ under)) values p h in
         let long : length (reverse types) ≡ n = length-reverse types ∙ count in
-        seated s.world _ here (record {
-          known = r.known;
-          function = function;
-          arguments = subst (λ ts. HaveTypes tags ts (reverse (take n values))) (reverse-reverse types)
-              (reversed_have tags (reverse types) (take n values)
-              (subst (λ m. HaveTypes tags (reverse types) (take m values)) long both.taken));
-        },
-        (record {
-          known = r.known;
-          stack = both.left.under;
-          env = r.env;
-          typed = both.left.holds;
-          values_have = subst (λ m. HaveTypes tags both.left.under (drop m values)) long both.left.have;
-          scopes_have = r.scopes_have;
-        },
-        r.below))
+        seated s.world _ here (
+          record {
+            known = r.known;
+            function = function;
+            arguments = subst (λ ts. HaveTypes tags ts (reverse (take n values))) (reverse-reverse types)
+                (reversed_have tags (reverse types) (take n values)
+                (subst (λ m. HaveTypes tags (reverse types) (take m values)) long both.taken));
+          },
+          (
+            record {
+              known = r.known;
+              stack = both.left.under;
+              env = r.env;
+              typed = both.left.holds;
+              values_have = subst (λ m. HaveTypes tags both.left.under (drop m values)) long both.left.have;
+              scopes_have = r.scopes_have;
+            },
+            r.below,
+          ),
+        )
 
     finished : (v : Value) → HasType tags int v → FinishTyped (Some (world.Finished (number_of v)))
     finished (Number n) h = (n, h, refl)
@@ -580,17 +593,19 @@ module _ (texts : List (List BareDef)) (s : Standing) where
     return_to_kept v [] wait h = finish_kept v s.slot (subst (λ t. HasType tags t v) wait h)
     return_to_kept v (f ∷ fs) wait h =
         seated s.world (record s.thread { frames = record f { values = v ∷ f.values } ∷ fs }) here
-        (subst (λ e. FramesTyped texts tags e (record f { values = v ∷ f.values } ∷ fs)) (sym r.entering)
-        (record {
-          known = wait.0.known;
-          goes_on = record {
-            stack = result ∷ wait.0.stack;
-            env = wait.0.env;
-            typed = wait.0.typed;
-            values_have = (h, wait.0.values_have);
-            scopes_have = wait.0.scopes_have;
-          };
-        }, wait.1))
+        (subst (λ e. FramesTyped texts tags e (record f { values = v ∷ f.values } ∷ fs)) (sym r.entering) (
+          record {
+            known = wait.0.known;
+            goes_on = record {
+              stack = result ∷ wait.0.stack;
+              env = wait.0.env;
+              typed = wait.0.typed;
+              values_have = (h, wait.0.values_have);
+              scopes_have = wait.0.scopes_have;
+            };
+          },
+          wait.1,
+        ))
 
     return_kept : (values : List Value) (stack : Stack) → Top stack (λ t under. t ≡ result) → HaveTypes tags stack values → Kept (return s values)
     return_kept values stack =
