@@ -380,7 +380,7 @@ module _ (texts : List (List BareDef)) where
         (Some (with_thread t (record th { frames = frame_of w e ∷ th.frames; entering = None }) w))
         (set_keeps w.slots t (Live th) all sums)
         (set_keeps w.slots t (Live (record th { frames = frame_of w e ∷ th.frames; entering = None })) all
-        (0, th.depth, refl, frame_comes w e of, sums))
+        (0, th.depth, omega arith, frame_comes w e of, sums))
 
     frames_keep : (w : World) (t : ℕ) (th : Thread) (fs : List Frame) → AllIn w.slots → SumsTo texts fs th.depth
         → Kept (in_frames w t th fs)

@@ -23,7 +23,7 @@ use Rattle.typed_runs.proofs.AcceptedWorlds.{each_has, first_world_typed, instal
 use Rattle.source_model.specs.JournalLaws.{HasMain}
 
 -- moves made in two parts
-two_parts : (texts : List (List BareDef)) (ms ns : List SourceMove) (w : World)
+pub two_parts : (texts : List (List BareDef)) (ms ns : List SourceMove) (w : World)
     → run texts (ms ++ ns) w ≡ option_and_then (run texts ns) (run texts ms w)
 two_parts texts [] ns w = refl
 two_parts texts (m ∷ ms) ns w = by (λ mid. two_parts texts ms ns mid) (step texts m w)
@@ -34,7 +34,7 @@ two_parts texts (m ∷ ms) ns w = by (λ mid. two_parts texts ms ns mid) (step t
     by rest (Some mid) = rest mid
 
 -- the texts that some moves install, and one more
-installed_more : (texts : List (List BareDef)) (ms : List SourceMove) (m : SourceMove)
+pub installed_more : (texts : List (List BareDef)) (ms : List SourceMove) (m : SourceMove)
     → texts_installed texts (ms ++ m ∷ []) ≡ texts_installed texts ms ++ texts_installed texts (m ∷ [])
 installed_more texts [] m = refl
 installed_more texts (Move t ∷ ms) m = installed_more texts ms m
