@@ -1,0 +1,4 @@
+pub mod TypedFrames
+pub mod TypedWorlds
+pub mod TypedRunLaws
+pub mod Progress

@@ -1,0 +1,3 @@
+pub mod TransformedHandles
+pub mod Transformed
+pub mod AcceptedTexts
