@@ -1,5 +1,6 @@
 mod Printing
 mod Planned
+mod NamedWaits
 mod Reporting
 mod Reading
 mod Accepting

@@ -4,10 +4,12 @@ use Rattle.std.specs.Prelude.{length, option_map}
 use Rattle.bytecode.specs.declared.run.Ending.{Ending}
 use Rattle.source_model.specs.declared.answer.OfferAnswer.{OfferAnswer}
 use Rattle.source_model.specs.Guards.{Guard, Setup}
+use Rattle.source_model.specs.Endings.{ending as ending_of}
 use Rattle.source_model.specs.Journals.{answers}
 use Rattle.source_model.specs.JournalLaws.{JournalIsARun, SeatsAlwaysFit}
 use Rattle.source_model.specs.Runs.{result}
 use Rattle.accepted_runs.specs.AcceptedRuns.{TransactionsShareAVersion, TextsAreAccepted}
+use Rattle.typed_journals.specs.TypedJournals.{DeadlockedThreadsWait, MainsResultIsAnInt}
 use Rattle.dsu_report.specs.declared.fault.FaultLine.TheVariants as fault
 use Rattle.dsu_report.specs.declared.fault.LineWord.TheVariants as word
 use Rattle.dsu_report.specs.Faults.{fault_line}
@@ -23,6 +25,7 @@ use Rattle.dsu_commands.specs.Plans.{Plan}
 use Rattle.dsu_commands.specs.Reports.{run_text}
 use Rattle.dsu_commands.specs.Runs.{Came, HandsBack, Made, ran, print_failed, report_failed, refused, short}
 use Rattle.dsu_commands.specs.Schedules.{EndedBy, Hands, IsReported, RanBy, StoppedBy}
+use Rattle.dsu_commands.proofs.NamedWaits.{each_named}
 
 -- the report of a fault
 pub record Faulted (line : List ℕ) (status : ℕ) (finish : Finish) (err : Output) : Type 0 where
@@ -31,8 +34,8 @@ pub record Faulted (line : List ℕ) (status : ℕ) (finish : Finish) (err : Out
   pub shown : Writes err line
 
 module _ {T : Type 0} (plan : Plan) (setup : Setup) (is_at : Guard → T → Type 0) (told : T → Option (List ℕ)) (faults : T → ℕ)
-    (engine : T) (r : Ran T) (exist : RulesExist) (run : JournalIsARun) (whole : TransactionsShareAVersion) (accepted : TextsAreAccepted setup)
-    (by : RanBy plan setup is_at told faults engine r) where
+    (engine : T) (r : Ran T) (exist : RulesExist) (run : JournalIsARun) (whole : TransactionsShareAVersion) (ints : MainsResultIsAnInt)
+    (waits : DeadlockedThreadsWait) (accepted : TextsAreAccepted setup) (by : RanBy plan setup is_at told faults engine r) where
   abbrev pub made : Made plan setup r.history.items
   made = record {
     guard = by.guard;
@@ -41,11 +44,18 @@ module _ {T : Type 0} (plan : Plan) (setup : Setup) (is_at : Guard → T → Typ
     same = refl;
     moved = ap (option_map result) (run exist.0 setup r.history.items by.guard (by.legal exist.0 exist.1));
     consistent = whole exist.0 setup r.history.items by.guard exist.1 accepted (by.legal exist.0 exist.1);
+    each_waits =
+        each_named by.guard (whole exist.0 setup r.history.items by.guard exist.1 accepted (by.legal exist.0 exist.1)).unmisused
+        (λ t th. waits exist.0 setup r.history.items by.guard t th exist.1 accepted (by.legal exist.0 exist.1));
     follows = by.follows;
   }
 
   pub stopped : (cause : StopCause) → r.cause ≡ cause → StoppedBy plan setup is_at told faults engine r by.guard cause
   stopped cause is = subst (StoppedBy plan setup is_at told faults engine r by.guard) is by.stopped
+
+  -- the ending is that of the guard, with main's number as it is
+  pub ends_as : (end : Ending) → EndedBy plan setup is_at told by.guard end engine r → end ≡ ending_of by.guard
+  ends_as end s = s.ending ∙ ints exist.0 setup r.history.items by.guard accepted (by.legal exist.0 exist.1)
 
   -- nothing is handed back without an ending
   nothing : (at : Guard → Type 0) (ending : Option Ending) (given : List OfferAnswer) (installed : Option InForce) → ending ≡ None
@@ -73,11 +83,12 @@ module _ {T : Type 0} (plan : Plan) (setup : Setup) (is_at : Guard → T → Typ
         ran (record {
           made = made;
           ends = s.ends;
-          ending = report.ending ∙ ap Some s.ending;
-          status = report.status ∙ ap status_of_ending s.ending;
+          ending = report.ending ∙ ap Some (ends_as end s);
+          status = report.status ∙ ap status_of_ending (ends_as end s);
           versions = something (λ g. is_at g r.engine) finish.ending given installed end report.ending hands by.guard s.there;
           out = s.printed;
-          err = subst (λ e. Shows err (run_text journal r.history.items (answers setup by.guard) texts e by.guard.world)) s.ending report.shown;
+          err = subst (λ e. Shows err (run_text journal r.history.items (answers setup by.guard) texts e by.guard.world)) (ends_as end s)
+              report.shown;
         })
     reported end s (inr report) =
         report_failed (record {
@@ -86,7 +97,7 @@ module _ {T : Type 0} (plan : Plan) (setup : Setup) (is_at : Guard → T → Typ
           no_end = no_end report.ending;
           status = report.status;
           out = s.printed;
-          err = subst (λ e. ShowsPrefix err (run_text journal r.history.items (answers setup by.guard) texts e by.guard.world)) s.ending
+          err = subst (λ e. ShowsPrefix err (run_text journal r.history.items (answers setup by.guard) texts e by.guard.world)) (ends_as end s)
               report.shown;
         })
 

@@ -6,11 +6,12 @@ use Rattle.bytecode.specs.declared.run.Event.{Event}
 use Rattle.bytecode.specs.declared.run.Ending.{Ending}
 use Rattle.c_tree.specs.declared.def.Program.{Program}
 use Rattle.program_gen.specs.Generated.{program_text, offer_text}
-use Rattle.source_model.specs.Endings.{ending as ending_of, int_ending}
+use Rattle.source_model.specs.Endings.{ending as ending_of}
 use Rattle.source_model.specs.Guards.{Guard, Setup}
 use Rattle.source_model.specs.Journals.{answers}
 use Rattle.source_model.specs.JournalLaws.{JournalIsARun, SeatsAlwaysFit}
 use Rattle.accepted_runs.specs.AcceptedRuns.{TransactionsShareAVersion, TextsAreAccepted}
+use Rattle.typed_journals.specs.TypedJournals.{DeadlockedThreadsWait, MainsResultIsAnInt}
 use Rattle.dsu_cli.specs.declared.job.Job.TheVariants.{Gen}
 use Rattle.dsu_report.specs.Statuses.{status_of_ending}
 use Rattle.dsu_report.specs.declared.fault.FaultLine.{FaultLine}
@@ -33,15 +34,15 @@ use Rattle.dsu_commands.specs.Schedules.{EndedBy, RanBy}
 use Rattle.dsu_commands.proofs.Accepting.{texts_are_accepted}
 use Rattle.dsu_commands.proofs.FailedReads.{none_yet}
 use Rattle.dsu_commands.proofs.Outcomes.{done_by}
-use Rattle.dsu_commands.proofs.Reporting.{made, stopped}
+use Rattle.dsu_commands.proofs.Reporting.{ends_as, made, stopped}
 
 -- what the command came to, of a run with that setup
 abbrev pub Comes : ℕ → ℕ → Setup → Call → Type 0
 Comes seed size setup call = Summed seed size setup call ⊎ SummaryFailed seed size setup call ⊎ Stopped Memory [] call
 
 module _ {T : Type 0} (setup : Setup) (is_at : Guard → T → Type 0) (told : T → Option (List ℕ)) (faults : T → ℕ) (engine : T)
-    (r : Ran T) (exist : RulesExist) (run : JournalIsARun) (whole : TransactionsShareAVersion) (accepted : TextsAreAccepted setup)
-    (by : RanBy generated_plan setup is_at told faults engine r)
+    (r : Ran T) (exist : RulesExist) (run : JournalIsARun) (whole : TransactionsShareAVersion) (ints : MainsResultIsAnInt)
+    (waits : DeadlockedThreadsWait) (accepted : TextsAreAccepted setup) (by : RanBy generated_plan setup is_at told faults engine r)
     (seed size : ℕ) (texts : List (List ℕ)) (one : texts ≡ offer_text seed size ∷ []) (end : Ending) (is : r.cause ≡ Ended end) where
   -- the run that was made, up to its guard
   abbrev MadeOf : List Event → Type 0
@@ -50,10 +51,14 @@ module _ {T : Type 0} (setup : Setup) (is_at : Guard → T → Type 0) (told : T
       × (m.machine.output ≡ by.guard.world.output)
 
   s : EndedBy generated_plan setup is_at told by.guard end engine r
-  s = stopped generated_plan setup is_at told faults engine r exist run whole accepted by (Ended end) is
+  s = stopped generated_plan setup is_at told faults engine r exist run whole ints waits accepted by (Ended end) is
+
+  -- the ending is that of the guard
+  end_is : end ≡ ending_of by.guard
+  end_is = ends_as generated_plan setup is_at told faults engine r exist run whole ints waits accepted by end s
 
   made_of : MadeOf r.history.items
-  made_of = (made generated_plan setup is_at told faults engine r exist run whole accepted by, s.ends, refl, refl)
+  made_of = (made generated_plan setup is_at told faults engine r exist run whole ints waits accepted by, s.ends, refl, refl)
 
   abbrev summary : List ℕ
   summary = summary_text seed size (lines_in by.guard.world.output) (run_text false [] (answers setup by.guard) texts end by.guard.world)
@@ -65,7 +70,7 @@ module _ {T : Type 0} (setup : Setup) (is_at : Guard → T → Type 0) (told : T
       ap (λ lines. summary_text seed size (lines_in lines) (run_text false [] (answers setup by.guard) texts end by.guard.world)) (sym printed)
       ∙ ap (λ ts. summary_text seed size (lines_in output) (run_text false [] (answers setup by.guard) ts end by.guard.world)) one
       ∙ ap (λ e. summary_text seed size (lines_in output) (run_text false [] (answers setup by.guard) (offer_text seed size ∷ []) e by.guard.world))
-      s.ending
+      end_is
       ∙ ap (λ (x : Guard). summary_text seed size (lines_in output) (report_of false history setup (offer_text seed size ∷ []) x)) (sym at)
 
   summed_by : (call : Call) → Printed setup (λ x. is_at x r.engine) r.history.items end summary call → MadeOf call.history
@@ -73,8 +78,8 @@ module _ {T : Type 0} (setup : Setup) (is_at : Guard → T → Type 0) (told : T
   summed_by call printed (m, ends, at, shown) = record {
     made = m;
     ends = ends;
-    ending = printed.ending ∙ ap Some (s.ending ∙ ap (λ (x : Guard). int_ending (ending_of x)) (sym at));
-    status = printed.status ∙ ap status_of_ending (s.ending ∙ ap (λ (x : Guard). int_ending (ending_of x)) (sym at));
+    ending = printed.ending ∙ ap Some (end_is ∙ ap ending_of (sym at));
+    status = printed.status ∙ ap status_of_ending (end_is ∙ ap ending_of (sym at));
     versions = subst {A = Guard} (λ x. HandsBack setup x call.answers call.installed) (sym at) (printed.versions by.guard s.there);
     out = subst {A = List ℕ} (λ text. Shows call.out text) (same_summary call.history m.machine.output m.guard at shown) printed.out;
     err = printed.err;

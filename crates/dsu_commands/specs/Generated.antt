@@ -5,7 +5,7 @@ use Rattle.bytecode.specs.declared.run.Event.{Event}
 use Rattle.bytecode.specs.declared.run.Ending.{Ending}
 use Rattle.c_tree.specs.declared.def.Program.{Program}
 use Rattle.program_gen.specs.Generated.{offer_text}
-use Rattle.source_model.specs.Endings.{ending as ending_of, int_ending}
+use Rattle.source_model.specs.Endings.{ending as ending_of}
 use Rattle.source_model.specs.Guards.{Guard, Setup}
 use Rattle.dsu_report.specs.Faults.{fault_line}
 use Rattle.dsu_report.specs.Statuses.{status_of_ending}
@@ -57,8 +57,8 @@ generated_summary seed size setup history output g =
 pub record Summed (seed size : ℕ) (setup : Setup) (call : Call) : Type 0 where
   pub made : Made generated_plan setup call.history
   pub ends : Ends generated_plan setup call.history made.guard
-  pub ending : call.ending ≡ Some (int_ending (ending_of made.guard))
-  pub status : call.status ≡ status_of_ending (int_ending (ending_of made.guard))
+  pub ending : call.ending ≡ Some (ending_of made.guard)
+  pub status : call.status ≡ status_of_ending (ending_of made.guard)
   pub versions : HandsBack setup made.guard call.answers call.installed
   pub out : Shows call.out (generated_summary seed size setup call.history made.machine.output made.guard)
   pub err : Untouched call.err

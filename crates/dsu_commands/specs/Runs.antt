@@ -7,7 +7,7 @@ use Rattle.source_model.specs.Runs.{Result, source_run}
 use Rattle.source_model.specs.Guards.{Guard, Rules, Setup}
 use Rattle.source_model.specs.Journals.{answers, guard_after, moves}
 use Rattle.source_model.specs.JournalLaws.{texts_of}
-use Rattle.source_model.specs.Endings.{ending as ending_of, int_ending}
+use Rattle.source_model.specs.Endings.{ending as ending_of}
 use Rattle.source_model.specs.Patches.{all_names}
 use Rattle.patch_build.specs.Versions.{IsTableOf}
 use Rattle.admission_laws.specs.AdmissionLaws.{IsVersionConsistent}
@@ -20,10 +20,11 @@ use Rattle.dsu_runs.specs.Ran.{FailedAt}
 use Rattle.dsu_commands.specs.declared.outcome.InForce.{InForce}
 use Rattle.dsu_commands.specs.Calls.{Call, NoEnd, Shows, ShowsPrefix, Writes}
 use Rattle.dsu_commands.specs.Plans.{Plan, Follows, Ends, Impossible}
-use Rattle.dsu_commands.specs.Reports.{run_text}
+use Rattle.dsu_commands.specs.Reports.{DeadlockNamesEach, run_text}
 
 -- the events of a run so far are a legal journal and those of the plan; the source machine, moved by them, comes to this
--- result: its world is the guard's, no definition was misused, and those that each transaction recorded share a version
+-- result: its world is the guard's, no definition was misused, and those that each transaction recorded share a version. In a
+-- deadlock each thread that lives waits, and the report says for what
 pub record Made (plan : Plan) (setup : Setup) (history : List Event) : Type 0 where
   pub guard : Guard
   pub machine : Result
@@ -31,6 +32,7 @@ pub record Made (plan : Plan) (setup : Setup) (history : List Event) : Type 0 wh
   pub same : machine.world ≡ guard.world
   pub moved : source_run (texts_of setup) setup.limits (moves guard.answers history) ≡ Some machine
   pub consistent : IsVersionConsistent machine
+  pub each_waits : DeadlockNamesEach guard
   pub follows : Follows plan setup history guard
 
 -- what is handed back of the versions of a run: the number of the one in force, the names of all versions so far, each once,
@@ -44,15 +46,15 @@ pub record HandsBack (setup : Setup) (g : Guard) (given : List OfferAnswer) (ins
 -- the report of a run as it is at a guard; `texts` are those of the offers
 abbrev pub report_of : Bool → List Event → Setup → List (List ℕ) → Guard → List ℕ
 report_of journal history setup texts g =
-    run_text journal history (answers setup g) texts (int_ending (ending_of g)) g.world
+    run_text journal history (answers setup g) texts (ending_of g) g.world
 
 -- the run ended and was reported: the output has what the source machine printed, the ending is its run's, and so are the
 -- answers and the version in force
 pub record Ran (plan : Plan) (setup : Setup) (texts : List (List ℕ)) (journal : Bool) (call : Call) : Type 0 where
   pub made : Made plan setup call.history
   pub ends : Ends plan setup call.history made.guard
-  pub ending : call.ending ≡ Some (int_ending (ending_of made.guard))
-  pub status : call.status ≡ status_of_ending (int_ending (ending_of made.guard))
+  pub ending : call.ending ≡ Some (ending_of made.guard)
+  pub status : call.status ≡ status_of_ending (ending_of made.guard)
   pub versions : HandsBack setup made.guard call.answers call.installed
   pub out : Shows call.out made.machine.output
   pub err : Shows call.err (report_of journal call.history setup texts made.guard)

@@ -17,7 +17,7 @@ use Rattle.dsu_commands.specs.Calls.{Output, Shows, ShowsPrefix}
 use Rattle.dsu_commands.specs.Plans.{Plan, Ends, Follows, Impossible}
 use Rattle.dsu_commands.specs.Runs.{HandsBack}
 
--- the run ended so, as the engine is
+-- the run ended so, as the engine is; of texts that are accepted main's number is an int's, so the conversion changes nothing
 pub record EndedBy {T : Type 0} (plan : Plan) (setup : Setup) (is_at : Guard → T → Type 0) (told : T → Option (List ℕ))
     (g : Guard) (end : Ending) (engine : T) (ran : Ran T) : Type 0 where
   pub ends : Ends plan setup ran.history.items g

@@ -19,6 +19,7 @@ use dsu_io::{List, Sink};
 use dsu_report::{FaultLine, LineWord, ending_status, write_fault};
 use dsu_runs::{Engine, Ran, StopCause, rules_exist};
 use source_model::{journal_is_a_run, seats_fit_their_slots};
+use typed_journals::{deadlocked_threads_wait, mains_result_is_an_int};
 
 /// What a run came to.
 #[derive(Clone, Copy)]
@@ -48,6 +49,8 @@ pub(crate) fn report_run<T: Engine, E: Sink>(
     rules_exist();
     journal_is_a_run();
     accepted_runs_are_version_consistent();
+    mains_result_is_an_int();
+    deadlocked_threads_wait();
     seats_fit_their_slots();
     match ran.cause {
         StopCause::Ended(ending) => report_end(ran, ending, journal, texts, err),

@@ -32,6 +32,7 @@ use frame_bodies::texts_of_programs_are_accepted;
 use plain_engine::PlainEngine;
 use source_model::{journal_is_a_run, seats_fit_their_slots, solo_schedule_is_prompt};
 use std::alloc::Global;
+use typed_journals::{deadlocked_threads_wait, mains_result_is_an_int};
 
 /// The most moves that a generated program makes.
 const MOVES: u32 = 1_000_000;
@@ -116,6 +117,8 @@ fn run_engine<O: Sink, E: Sink>(
     rules_exist();
     journal_is_a_run();
     accepted_runs_are_version_consistent();
+    mains_result_is_an_int();
+    deadlocked_threads_wait();
     seats_fit_their_slots();
     let ran = solo(alloc, engine, MOVES);
     match ran.cause {

@@ -7,3 +7,4 @@ mod Deciding
 mod Installing
 mod Engines
 mod Starting
+mod Querying

@@ -63,7 +63,7 @@ stands_at_check_in g n e = sym (ap (λ b. standing_by b (lives g.world n)) e)
 
 -- ---- the seat of a slot
 
-outside : (ss : List guard.Seat) (n : ℕ) → length ss ≤ n → slice_index_or ss n empty_seat ≡ empty_seat
+pub outside : (ss : List guard.Seat) (n : ℕ) → length ss ≤ n → slice_index_or ss n empty_seat ≡ empty_seat
 outside [] n past = refl
 outside (s ∷ ss) zero past = absurd (omega (arith, past))
 outside (s ∷ ss) (suc n) past = outside ss n (omega (arith, past))

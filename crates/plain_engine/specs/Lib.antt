@@ -2,3 +2,4 @@ pub mod Kept
 pub mod Seen
 pub mod Plain
 pub mod Steps
+pub mod Asked

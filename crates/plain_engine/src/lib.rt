@@ -9,9 +9,11 @@
 //!
 //! Read in this order: `seat` (what is kept of a slot), `moves` (the slots after a move), `seen` (the slots
 //! as a decision sees them), `state` (the state beside the output, its moves and check-ins), `decision` (the
-//! decision on an offer), `engine` (the type, with its start), `events` (the trait's calls).
+//! decision on an offer), `engine` (the type, with its start), `events` (the trait's calls), `asked` (what is
+//! asked of an engine beside them: texts, frames and rows).
 #![tactic(auto)]
 
+mod asked;
 mod decision;
 mod engine;
 mod events;
@@ -20,4 +22,5 @@ mod seat;
 mod seen;
 mod state;
 
+pub use asked::RowOf;
 pub use engine::PlainEngine;

@@ -1,8 +1,9 @@
 -- What is seen of threads where nothing changes.
-use Rattle.std.proofs.Common.{Some, ◌≡◌, ℕ, ◌+◌, ◌<◌, ◌≤◌, Bool, true, false, ◌||◌, length, take, get_or, refl, sym, ap, ap₂, subst, ◌∙◌, arith}
+use Rattle.std.proofs.Common.{Some, None, ◌≡◌, ℕ, zero, suc, ◌+◌, ◌-◌, ◌<◌, ◌≤◌, Bool, true, false, ◌||◌, List, ◌∷◌, length, reverse, take, get_or, slice_get, Option, option_map, refl, sym, ap, ap₂, subst, ◌∙◌, arith}
 use Rattle.std.specs.Option.{is_some}
 use Rattle.std.specs.List.{list_any, range_with_len}
-use Rattle.std.proofs.lemmas.List.{take_all}
+use Rattle.std.proofs.lemmas.List.{get_or-reverse, length-map, length-reverse, take_all}
+use Rattle.std.proofs.lemmas.Option.{slice_get-get_or, slice_get-map, slice_get_past}
 use Rattle.std.proofs.lemmas.List.FromFn.{get_or-range_with_len, length-range_with_len}
 use Rattle.std.proofs.lemmas.List.Folds.{list_any_at, list_any_more}
 use Rattle.c_tree.specs.BareExpr.{Bytes}
@@ -23,7 +24,7 @@ use Rattle.resolved_tree.specs.Nodes.{Table}
 use Rattle.source_programs.specs.Programs.{table_of}
 use Rattle.source_runner.specs.declared.queries.FrameAt.{FrameAt}
 use Rattle.source_runner.specs.Frames.{frame_of, frames_of}
-use Rattle.source_runner.specs.Queries.{Place, innermost, innermost_in, place_at, place_of}
+use Rattle.source_runner.specs.Queries.{Place, innermost, innermost_in, place_at, place_of, place_up, place_up_in}
 use Rattle.source_runner.specs.Machines.{IsFrame, IsThread, Stands, frame_at, slot_at}
 use Rattle.local_evaluation.specs.Pieces.{stop_of}
 use Rattle.source_runner.proofs.Halted.{not_over}
@@ -98,3 +99,39 @@ innermost_halts m w slot th n f halt at h going e next is =
     ap Some (is ∙ place_is (table_of m.program) f halt does.1.0 does.1.2)
     ∙ ap innermost (sym does.1.1)
     ∙ ap innermost_in (sym there.1)
+
+-- ---- frames, counted from the innermost
+
+-- one of those that wait
+pub waits_up : (t : Table) (fs : List Frame) (up : ℕ) (f : Frame) (at : FrameAt) → up < length fs → f ≡ get_or fs (length fs - 1 - up) f
+    → place_at t at ≡ place_of (frame_of t f) → Some (place_at t at) ≡ place_up (frames_of t fs) up
+waits_up t fs up f at below is place =
+    let within : up < length (reverse fs) = subst (λ n. up < n) (sym (length-reverse fs)) below in
+    let there = slice_get-get_or (reverse fs) up f within ∙ ap Some (get_or-reverse fs up f below ∙ sym is) in
+    let seen = slice_get-map (frame_of t) (reverse fs) up ∙ ap (option_map (frame_of t)) there in
+    ap Some place ∙ sym (ap (option_map place_of) seen)
+
+pub none_waits_up : (t : Table) (fs : List Frame) (up : ℕ) → length fs ≤ up → None ≡ place_up (frames_of t fs) up
+none_waits_up t fs up past =
+    let many = length-map (reverse fs) (frame_of t) ∙ length-reverse fs in
+    sym (ap (option_map place_of) (slice_get_past (frames_of t fs) up (subst (λ n. n ≤ up) (sym many) past)))
+
+-- frames whose innermost ones are at the same place
+same_up : (f g : SeenFrame) (fs : List SeenFrame) (up : ℕ) → place_of f ≡ place_of g → place_up (f ∷ fs) up ≡ place_up (g ∷ fs) up
+same_up f g fs zero e = ap Some e
+same_up f g fs (suc up) e = refl
+
+-- one of a thread that enters nothing
+pub frame_halts : (m : Machine) (w : World) (slot : ℕ) (th : Thread) (n : Next) (f : Frame) (halt : Halted) (up : ℕ) (at : Option FrameAt)
+    → Stands m w → is_over w ≡ false → slot_at m.slots.items slot ≡ Live th n → n ≡ Halt f halt
+    → option_map (place_at (table_of m.program)) at
+    ≡ place_up (frame_of (table_of m.program) f ∷ frames_of (table_of m.program) th.below.items) up
+    → option_map (place_at (table_of m.program)) at ≡ place_up_in up (in_slot w slot)
+frame_halts m w slot th n f halt up at h going e next is =
+    let there = lives m w slot th (Halt f halt) h (e ∙ ap (Live th) next) in
+    let does = (not_over _ _ _ _ _ going there.2).does refl in
+    is
+    ∙ same_up (frame_of (table_of m.program) f) does.1.0 (frames_of (table_of m.program) th.below.items) up
+    (place_is (table_of m.program) f halt does.1.0 does.1.2)
+    ∙ ap (λ fs. place_up fs up) (sym does.1.1)
+    ∙ ap (place_up_in up) (sym there.1)

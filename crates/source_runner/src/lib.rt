@@ -2,9 +2,9 @@
 //!
 //! [`SourceRun`] is a run of the first of some texts, move by move; the others may be installed while it runs. Its contracts
 //! are the definitions of `c_semantics` and `source_model`: after any steps it is the run over the moves that were made, with
-//! what was printed and how it stands. Of each thread it says where it is, what its next move uses and what it waits for. It
-//! keeps no records of transactions. What a name means is found in one look, so that a move costs no more where a text defines
-//! more or where more objects were made.
+//! what was printed and how it stands. Of each thread it says where its frames are, what its next move uses and what it waits
+//! for. It keeps no records of transactions. What a name means is found in one look, so that a move costs no more where a text
+//! defines more or where more objects were made.
 //!
 //! The texts, with the resolved trees of all their functions in one table, are `source_programs`. A thread's private work is
 //! done ahead of its turn, up to its next stop (`local_evaluation`), so that a move is that stop alone.

@@ -13,7 +13,7 @@ ghost use Rattle.source_programs.specs.Programs.{name_of as word_name, text_in};
 ghost use Rattle.source_runner.specs.States.{as_int, ending_of, state_of};
 ghost use Rattle.source_runner.specs.declared.run.SourceMove.TheVariants.{Move};
 ghost use Rattle.source_runner.specs.Waits.{waiting_of};
-ghost use Rattle.source_runner.specs.Queries.{entering_in, innermost_in, place_at, use_due};
+ghost use Rattle.source_runner.specs.Queries.{entering_in, innermost_in, next_point_in, place_at, place_up_in, use_due};
 ghost use Rattle.source_runner.specs.SourceRuns.{CameBy, IsRun, KeepsTexts, Steps, trees_of, words_of};
 
 use crate::can_move::SourceState;
@@ -251,6 +251,27 @@ impl SourceRun {
             ≡ Some (option_map (place_at (words_of self.now)) result) }
     {
         self.machine.innermost(slot as usize)
+    }
+
+    /// Where the frame of the thread in a slot is that is so many calls above the innermost: 0 is the innermost one, 1 the
+    /// one that called it. It is asked of a run that isn't over.
+    pub fn frame_up(&self, slot: u8, up: usize) -> Option<FrameAt>
+        ensures { (texts : List (List BareDef)) (limits : Limits) (moves : List Made) → IsRun texts limits moves self.now
+            → option_map (λ x. is_over x.world) (source_run texts limits moves) ≡ Some false
+            → option_map (λ x. place_up_in up (in_slot x.world slot)) (source_run texts limits moves)
+            ≡ Some (option_map (place_at (words_of self.now)) result) }
+    {
+        self.machine.frame_up(slot as usize, up)
+    }
+
+    /// The number of the point at which the innermost frame of the thread in a slot stops next, if that is what the thread
+    /// does next; none where it enters a function, or traps before it stops. It is asked of a run that isn't over.
+    pub fn next_point(&self, slot: u8) -> Option<u32>
+        ensures { (texts : List (List BareDef)) (limits : Limits) (moves : List Made) → IsRun texts limits moves self.now
+            → option_map (λ x. is_over x.world) (source_run texts limits moves) ≡ Some false
+            → option_map (λ x. next_point_in (in_slot x.world slot)) (source_run texts limits moves) ≡ Some result }
+    {
+        self.machine.next_point(slot as usize)
     }
 
     /// The function that the thread in a slot is about to enter, if an enter is its next move. It is asked of a run that

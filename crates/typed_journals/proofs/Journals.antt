@@ -31,12 +31,13 @@ use Rattle.source_model.specs.Journals.{guard_after, happens, play}
 use Rattle.source_model.proofs.Events.{AllOf, of_outcome}
 use Rattle.version_laws.specs.Histories.{texts_installed, versions_by}
 use Rattle.frame_bodies.specs.AcceptedTexts.{AreAccepted, IsAccepted, definitions_of}
+use Rattle.accepted_runs.specs.AcceptedRuns.{TextsAreAccepted}
 use Rattle.typed_runs.specs.TypedWorlds.{WorldTyped}
 use Rattle.typed_runs.specs.TypedRunLaws.{FitAfter, tree_at}
 use Rattle.typed_runs.proofs.Installed.{Transforms}
 use Rattle.typed_runs.proofs.Runs.{installed_more, runs_are_typed, two_parts}
 use Rattle.progress_laws.proofs.Runs.{threads_of_runs_go_on}
-use Rattle.typed_journals.specs.TypedJournals.{JournalsAreTyped, OffersAreAccepted, ThreadsOfJournalsGoOn}
+use Rattle.typed_journals.specs.TypedJournals.{JournalsAreTyped, ThreadsOfJournalsGoOn}
 
 -- ---- patches
 
@@ -104,19 +105,19 @@ install_fits texts p (source.Install n ∷ ms) k h e = (h.0, install_fits texts 
 
 module _ (setup : Setup) where
   -- the first text and those of the offers
-  abbrev texts : List Text
+  abbrev pub texts : List Text
   texts = setup.first ∷ map (λ (o : guard.Offer). o.text) setup.offers
 
   abbrev defs : List (List BareDef)
   defs = definitions_of texts
 
   -- a world that some moves of the texts come to, with the texts of its versions
-  record Ran (w : World) (versions : List Text) : Type 0 where
-    ms : List SourceMove
-    ran : run defs ms (first_world setup.first.definitions setup.limits) ≡ Some w
-    fits : FitAfter texts setup.first.tree.definitions ms
-    last : tree_after texts setup.first.tree.definitions ms ≡ last_tree versions
-    are : versions_by defs ms ≡ definitions_of versions
+  pub record Ran (w : World) (versions : List Text) : Type 0 where
+    pub ms : List SourceMove
+    pub ran : run defs ms (first_world setup.first.definitions setup.limits) ≡ Some w
+    pub fits : FitAfter texts setup.first.tree.definitions ms
+    pub last : tree_after texts setup.first.tree.definitions ms ≡ last_tree versions
+    pub are : versions_by defs ms ≡ definitions_of versions
 
   first_ran : Ran (first_world setup.first.definitions setup.limits) (setup.first ∷ [])
   first_ran = record { ms = []; ran = refl; fits = tt; last = refl; are = refl }
@@ -220,22 +221,22 @@ module _ (setup : Setup) where
         by rest None h = tt
         by rest (Some mid) h = rest mid h
 
-    journal_ran : (events : List Event) (g : Guard) → guard_after rules setup events ≡ Some g → Good g
+    pub journal_ran : (events : List Event) (g : Guard) → guard_after rules setup events ≡ Some g → Good g
     journal_ran events g legal = of_outcome Good (guard_after rules setup events) g legal (along events (first_guard setup) first_ran)
 
-  all_accepted : IsAccepted setup.first → OffersAreAccepted setup → AreAccepted texts
-  all_accepted first offered =
-      All-cons IsAccepted setup.first (map (λ (o : guard.Offer). o.text) setup.offers) first
+  pub all_accepted : TextsAreAccepted setup → AreAccepted texts
+  all_accepted accepted =
+      All-cons IsAccepted setup.first (map (λ (o : guard.Offer). o.text) setup.offers) accepted.first
       (All-map IsAccepted (λ (o : guard.Offer). o.text) setup.offers
-      (λ k d within. offered (suc k) (slice_index_or setup.offers k d) (slice_get-get_or setup.offers k d within)))
+      (λ k d within. accepted.offered (suc k) (slice_index_or setup.offers k d) (slice_get-get_or setup.offers k d within)))
 
 pub journals_are_typed : Transforms → JournalsAreTyped
-journals_are_typed transforms rules setup events g first offered legal =
+journals_are_typed transforms rules setup events g accepted legal =
     let r = journal_ran setup rules events g legal in
     subst (λ ts. WorldTyped ts g.world) r.are
-    (runs_are_typed transforms (texts setup) setup.limits r.ms g.world (all_accepted setup first offered) r.fits r.ran)
+    (runs_are_typed transforms (texts setup) setup.limits r.ms g.world (all_accepted setup accepted) r.fits r.ran)
 
 pub threads_of_journals_go_on : DepthIsLexical → Transforms → ThreadsOfJournalsGoOn
-threads_of_journals_go_on lexical transforms rules setup events g t th first offered legal over there =
+threads_of_journals_go_on lexical transforms rules setup events g t th accepted legal over there =
     let r = journal_ran setup rules events g legal in
-    threads_of_runs_go_on lexical transforms (texts setup) setup.limits r.ms g.world t th (all_accepted setup first offered) r.fits r.ran over there
+    threads_of_runs_go_on lexical transforms (texts setup) setup.limits r.ms g.world t th (all_accepted setup accepted) r.fits r.ran over there

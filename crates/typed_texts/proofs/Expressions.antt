@@ -1,5 +1,5 @@
 -- The tree of an expression without faults is typed, with the type that is found.
-use Rattle.std.proofs.Common.{ℕ, List, [], ◌∷◌, map, refl, sym, subst, subst₂, pos}
+use Rattle.std.proofs.Common.{ℕ, List, [], ◌∷◌, map, sym, subst, subst₂}
 use Rattle.c_tree.specs.BareExpr.{BareExpr}
 use Rattle.c_tree.specs.BareDef.{BareBinding}
 use Rattle.c_tree.specs.Bare.{bare_expr, bare_node}

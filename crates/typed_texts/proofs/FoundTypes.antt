@@ -1,15 +1,11 @@
 -- What is found of an expression says what its tree's type is.
-use Rattle.std.proofs.Common.{◌≡◌, ℕ, Bool, true, false, IsTrue, ◌&&◌, ◌||◌, not, List, [], ◌∷◌, Option, Some, None, bytes_eq, is_some, refl, sym, ap, subst, ◌∙◌, inl, inr, if◌then◌else◌}
-use Rattle.std.specs.Prelude.{◌⊎◌, ◌==◌}
+use Rattle.std.proofs.Common.{◌≡◌, Bool, true, false, ◌&&◌, ◌||◌, List, Option, Some, None, refl, sym, ap, subst, ◌∙◌, inl, inr, if◌then◌else◌}
+use Rattle.std.specs.Prelude.{◌⊎◌}
 use Rattle.c_ints.specs.declared.kind.Kind.{Kind}
 use Rattle.c_ints.specs.declared.kind.Kind.TheVariants.{I8, U8, I16, U16, I32, U32, I64, U64}
-use Rattle.c_ints.specs.declared.operator.BinOp.{BinOp}
-use Rattle.c_ints.specs.declared.operator.BinOp.TheVariants as op
 use Rattle.c_ints.specs.Kind.{common_kind}
-use Rattle.c_ints.specs.Arithmetic.{binary_kind}
 use Rattle.c_tree.specs.BareExpr.{Bytes, BareType}
 use Rattle.c_tree.specs.BareExpr as bare
-use Rattle.c_tree.specs.BareDef.{BareBinding}
 use Rattle.c_tree.specs.Bare.{bare_type}
 use Rattle.c_tree.specs.declared.name.Name.{Name}
 use Rattle.c_tree.specs.declared.name.CType.{CType}
@@ -17,16 +13,13 @@ use Rattle.c_tree.specs.declared.name.CType.TheVariants.{Integer, Handle, Thread
 use Rattle.c_tree.specs.declared.def.Def.{Def}
 use Rattle.c_types.specs.declared.found.Found.{Found}
 use Rattle.c_types.specs.declared.found.Found.TheVariants.{Wrong, Place, Value, Zero, Null, Nothing, Designator}
-use Rattle.c_types.specs.Found.{converts, has_value, int, is_comparable, is_evaluated, is_handle, is_integer, is_null, is_scalar, is_value, kind_of_type, same_kind, same_type, type_of}
-use Rattle.c_types.specs.Expressions.{follows, is_equality, is_int, is_thread, meeting}
-use Rattle.c_semantics.specs.Texts as texts
-use Rattle.c_semantics.specs.Texts.{Definitions}
+use Rattle.c_types.specs.Found.{converts, has_value, is_comparable, is_evaluated, is_handle, is_integer, is_null, is_scalar, is_value, kind_of_type, same_kind, same_type, type_of}
+use Rattle.c_types.specs.Expressions.{follows, meeting}
 use Rattle.c_semantics.specs.Resolved.{Expression}
 use Rattle.c_semantics.specs.Resolved as made
-use Rattle.c_semantics.specs.Resolution.{Resolved, common_type, kind}
+use Rattle.c_semantics.specs.Resolution.{Resolved, common_type}
 use Rattle.typed_uses.proofs.Lookups.{look, same_bytes}
-use Rattle.typed_uses.proofs.Definitions.{HasType}
-use Rattle.typed_uses.proofs.Agreement.{Good, TypeFits, handle_is}
+use Rattle.typed_uses.proofs.Agreement.{TypeFits, handle_is}
 use Rattle.typed_trees.specs.ValueTypes.{Environment}
 use Rattle.typed_trees.specs.ExpressionTypes.{Becomes, IsInteger, IsNull, IsNullFor, IsPlaced, IsScalar, IsTyped, place_type}
 use Rattle.typed_trees.specs.ExpressionTypes as tree

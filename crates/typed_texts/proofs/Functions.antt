@@ -1,5 +1,5 @@
 -- The body of each function of an accepted text is typed.
-use Rattle.std.proofs.Common.{◌≡◌, ℕ, suc, Bool, true, false, IsTrue, ◌&&◌, ◌||◌, List, [], ◌∷◌, ◌++◌, map, reverse, Option, Some, None, is_some, cond, find, option_map, unwrap_or, bytes_eq, refl, sym, ap, subst, ◌∙◌, inl, inr, if◌then◌else◌}
+use Rattle.std.proofs.Common.{◌≡◌, ℕ, suc, Bool, true, false, List, [], ◌∷◌, ◌++◌, map, Option, Some, None, is_some, cond, find, option_map, unwrap_or, bytes_eq, refl, sym, ap, subst, ◌∙◌, inl, inr, if◌then◌else◌}
 use Rattle.std.specs.Prelude.{◌⊎◌}
 use Rattle.std.specs.Option.{option_or}
 use Rattle.c_tree.specs.BareExpr.{Bytes, BareType}
@@ -12,23 +12,18 @@ use Rattle.c_tree.specs.declared.def.Binding.{Binding}
 use Rattle.c_tree.specs.declared.def.Def.{Def}
 use Rattle.c_tree.specs.declared.def.DefKind.{DefKind}
 use Rattle.c_tree.specs.declared.def.DefKind.TheVariants as kind
-use Rattle.c_tree.specs.declared.def.Function.{Function as FunctionTree}
 use Rattle.c_scope.specs.Tables.{innermost, look_up}
-use Rattle.c_types.specs.Lookup.{Scopes, declare, is_known, is_repeated}
 use Rattle.c_types.specs.Expressions.{member}
 use Rattle.c_types.specs.Definitions.{inside, result_faults, with_parameters}
-use Rattle.c_semantics.specs.Texts.{Definitions, bound, defines, definition, int, parameters_of, result_type}
+use Rattle.c_semantics.specs.Texts.{bound, defines, definition, int, parameters_of, result_type}
 use Rattle.c_semantics.specs.Resolved.{Statement, Statements, Block, Empty, Evaluate, Declare, If, IfElse, While, DoWhile, For, Break, Continue, Return, UpdatePoint, Transaction, NoStatements, StatementThen}
 use Rattle.c_semantics.specs.Resolution.{as_locals, resolved_body, statements}
 use Rattle.c_semantics.specs.Leaving.{all_stay, leaves_at_ends, stays}
-use Rattle.c_semantics.specs.SourceTexts.{Text}
 use Rattle.typed_uses.proofs.SoundTexts.{AllSound, Facts, Sound, known}
 use Rattle.typed_uses.proofs.Lookups.{look, same_bytes}
 use Rattle.typed_uses.proofs.Locals.{InStep, with_all}
-use Rattle.frame_bodies.specs.AcceptedTexts.{IsAccepted}
 use Rattle.frame_bodies.proofs.AcceptedFacts.{bare_of, facts_in}
 use Rattle.frame_bodies.proofs.TypedStatements.{fine_body}
-use Rattle.typed_trees.specs.ValueTypes.{Environment}
 use Rattle.typed_trees.specs.StatementTypes.{BodyTyped, StatementsTyped, jumps, some_jump}
 use Rattle.typed_texts.specs.TypedTexts.{FunctionsAreTyped}
 use Rattle.typed_texts.proofs.FoundTypes.{both, either, never}

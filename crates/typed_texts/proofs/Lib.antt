@@ -6,3 +6,4 @@ pub mod Expressions
 pub mod Parts
 pub mod Statements
 pub mod Functions
+pub mod OneType

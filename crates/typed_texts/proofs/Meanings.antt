@@ -1,8 +1,6 @@
 -- What a name of a text stands for says what its definition is.
 use Rattle.std.proofs.Common.{◌≡◌, ℕ, Bool, true, false, IsTrue, cond, ◌⊎◌, ◌||◌, inl, inr, List, [], ◌∷◌, map, Option, Some, None, is_some, find, option_map, option_and_then, bytes_eq, refl, sym, ap, subst, ◌∙◌}
-use Rattle.std.specs.Option.{option_map_or}
-use Rattle.c_tree.specs.BareExpr.{Bytes, BareType}
-use Rattle.c_tree.specs.BareExpr as bare
+use Rattle.c_tree.specs.BareExpr.{Bytes}
 use Rattle.c_tree.specs.BareDef.{BareBinding, BareDef}
 use Rattle.c_tree.specs.BareDef as bare_d
 use Rattle.c_tree.specs.Bare.{bare_binding, bare_block, bare_def, bare_kind, bare_stmt, bare_type}
@@ -13,7 +11,7 @@ use Rattle.c_tree.specs.declared.def.DefKind.{DefKind}
 use Rattle.c_tree.specs.declared.def.DefKind.TheVariants.{Struct, Forward, Mutex, Function, Prototype, Global, Array, TransformStruct, TransformGlobal}
 use Rattle.c_tree.specs.declared.def.Function.{Function as FunctionTree}
 use Rattle.c_scope.specs.Tables.{innermost}
-use Rattle.c_types.specs.Lookup.{Meaning, Names, defined, defines_tag, definition_of, hidden_by, is_tag, meaning_in, meaning_of, members_in, members_of, struct_of, types_of}
+use Rattle.c_types.specs.Lookup.{Meaning, Names, defined, definition_of, hidden_by, is_tag, meaning_in, meaning_of, members_in, members_of, struct_of, types_of}
 use Rattle.c_types.specs.Lookup.Meaning.{AVariable, AnArray, AFunction, AMutex}
 use Rattle.c_types.specs.Expressions.{member}
 use Rattle.c_semantics.specs.Names.{struct_name}

@@ -1,15 +1,14 @@
 -- The same of the forms that name something.
-use Rattle.std.proofs.Common.{◌≡◌, ℕ, ◌==◌, Bool, true, false, IsTrue, ◌&&◌, List, [], ◌∷◌, ◌++◌, map, length, Option, Some, None, is_some, option_map, option_and_then, refl, sym, ap, subst, subst₂, ◌∙◌, arith, rules, tests, if◌then◌else◌}
+use Rattle.std.proofs.Common.{◌≡◌, ℕ, ◌==◌, Bool, true, false, IsTrue, ◌&&◌, List, [], ◌∷◌, map, length, Option, Some, None, is_some, option_map, option_and_then, refl, sym, ap, subst, ◌∙◌, arith, rules, tests, if◌then◌else◌}
 use Rattle.std.specs.Option.{option_map_or}
 use Rattle.c_ints.specs.declared.kind.Kind.{Kind}
-use Rattle.c_ints.specs.declared.kind.Kind.TheVariants.{I32}
 use Rattle.c_ints.specs.Kind.{promoted}
 use Rattle.c_format.specs.declared.reading.Reading.TheVariants.{Text}
 use Rattle.c_format.specs.Formats.{kinds}
 use Rattle.c_tree.specs.BareExpr.{Bytes, BareType, BareExpr, BareExprs}
 use Rattle.c_tree.specs.BareExpr as bare
 use Rattle.c_tree.specs.BareDef.{BareBinding}
-use Rattle.c_tree.specs.Bare.{bare_arguments, bare_binding, bare_expr, bare_type}
+use Rattle.c_tree.specs.Bare.{bare_binding, bare_expr, bare_type}
 use Rattle.c_tree.specs.declared.name.Name.{Name}
 use Rattle.c_tree.specs.declared.name.CType.{CType}
 use Rattle.c_tree.specs.declared.name.CType.TheVariants.{Integer, Handle, Thread}
@@ -20,34 +19,33 @@ use Rattle.c_tree.specs.declared.def.Def.{Def}
 use Rattle.c_scope.specs.Tables.{innermost}
 use Rattle.c_types.specs.declared.fault.Fault.{Fault}
 use Rattle.c_types.specs.declared.fault.TypeKind.TheVariants.{BadFormat, UnknownName, WrongCount, WrongType}
-use Rattle.c_types.specs.declared.found.Found.{Found}
-use Rattle.c_types.specs.declared.found.Found.TheVariants.{Wrong, Place, Value, Zero, Null, Nothing, Designator}
+use Rattle.c_types.specs.declared.found.Found.TheVariants.{Place, Value, Nothing, Designator}
 use Rattle.c_types.specs.declared.found.Part.{Part}
 use Rattle.c_types.specs.Lookup.{Meaning, Names, defined, hidden_by, is_tag, meaning_of, members_of, types_of}
 use Rattle.c_types.specs.Lookup.Meaning.{AVariable, AnArray, AFunction, AMutex}
 use Rattle.c_types.specs.Found as found
 use Rattle.c_types.specs.Found.{converts, has_value, is_evaluated, is_handle, is_integer, is_scalar, is_value, kind_of_type, place_required, required, same_kind, same_type, type_of, value_of_type, wrong}
 use Rattle.c_types.specs.Formats.{are_taken, fits_format, is_promoted_to, take_all}
-use Rattle.c_types.specs.Expressions.{argument_faults, call_type, conversion_faults, element_type, field_of, field_type, infer, is_int, is_thread, is_thread_argument, member, mutex_call_type, name_type, own, part, parts, print_faults, spawn_type, thread_parameter, value_faults}
+use Rattle.c_types.specs.Expressions.{argument_faults, call_type, conversion_faults, element_type, field_of, field_type, infer, is_int, is_thread, is_thread_argument, member, mutex_call_type, name_type, part, print_faults, spawn_type, thread_parameter, value_faults}
 use Rattle.c_semantics.specs.Names.{struct_name}
 use Rattle.c_semantics.specs.Texts.{bound, bound_type, global_type, int, parameters_of, result_type}
 use Rattle.c_semantics.specs.Texts as texts
 use Rattle.c_semantics.specs.Resolved.{Expression, Expressions, NoExpressions, ExpressionThen}
 use Rattle.c_semantics.specs.Resolved as made
-use Rattle.c_semantics.specs.Resolution.{Resolved, field, handed, located, passed, resolved, resolved_all, tag_of, value, variable}
-use Rattle.typed_uses.proofs.Faultless.{Clean, meets, none_after, none_before}
+use Rattle.c_semantics.specs.Resolution.{Resolved, field, handed, located, passed, resolved, tag_of, value, variable}
+use Rattle.typed_uses.proofs.Faultless.{Clean, none_after, none_before}
 use Rattle.typed_uses.proofs.SoundTexts.{Facts}
 use Rattle.typed_uses.proofs.Lookups.{look}
 use Rattle.typed_uses.proofs.Definitions.{struct_members}
 use Rattle.typed_uses.proofs.Locals.{InStep}
-use Rattle.typed_uses.proofs.Agreement.{Good, TypeFits, handle_is}
+use Rattle.typed_uses.proofs.Agreement.{TypeFits, handle_is}
 use Rattle.typed_uses.proofs.NamedNodes.{resolved_each}
 use Rattle.typed_trees.specs.ValueTypes.{Environment, in_scope}
 use Rattle.typed_trees.specs.ExpressionTypes.{ArePrinted, AreTyped, FitFormat, IsFunction, IsInteger, IsPlaced, IsTyped, Runs, parameter_types, place_type, types_of as tree_types}
 use Rattle.typed_trees.specs.ExpressionTypes as tree
 use Rattle.typed_texts.proofs.FoundTypes.{Fits, both, convert, evaluated, integer_found, never, one_kind, one_type, same_found, valued}
-use Rattle.typed_texts.proofs.Meanings.{FunctionNamed, array_named, function_named, member_bound, mutex_named, outer_named, struct_named, variable_named}
-use Rattle.typed_texts.proofs.Nodes.{Has, IfClean, IsPlainValue, fits_by, of_type_plain, part_meets, part_placed, plain}
+use Rattle.typed_texts.proofs.Meanings.{array_named, function_named, member_bound, mutex_named, outer_named, struct_named, variable_named}
+use Rattle.typed_texts.proofs.Nodes.{Has, IfClean, fits_by, of_type_plain, part_meets, part_placed, plain}
 
 -- the variables in scope have the same types by resolution and in the environment
 abbrev pub InEnvironment : List BareBinding → Environment → Type 0

@@ -1,6 +1,5 @@
 -- An expression without faults has a typed tree, where its parts have: the forms without names.
-use Rattle.std.proofs.Common.{◌≡◌, ℕ, Bool, true, false, IsTrue, List, [], ◌∷◌, ◌++◌, map, Option, Some, None, is_some, pos, refl, sym, ap, subst, subst₂, ◌∙◌, inl, inr, if◌then◌else◌}
-use Rattle.std.specs.Prelude.{◌⊎◌}
+use Rattle.std.proofs.Common.{◌≡◌, ℕ, Bool, true, false, IsTrue, List, [], Option, Some, None, pos, refl, sym, ap, subst, subst₂, ◌∙◌, inl, if◌then◌else◌}
 use Rattle.c_ints.specs.declared.kind.Kind.{Kind}
 use Rattle.c_ints.specs.declared.kind.Kind.TheVariants.{I32}
 use Rattle.c_ints.specs.declared.int.Int.{Int}
@@ -13,25 +12,23 @@ use Rattle.c_tree.specs.BareExpr.{Bytes, BareType}
 use Rattle.c_tree.specs.BareExpr as bare
 use Rattle.c_tree.specs.Bare.{bare_type}
 use Rattle.c_tree.specs.declared.name.CType.{CType}
-use Rattle.c_tree.specs.declared.name.CType.TheVariants.{Integer, Handle, Thread}
+use Rattle.c_tree.specs.declared.name.CType.TheVariants.{Integer}
 use Rattle.c_tree.specs.declared.expr.StepOp.{StepOp}
 use Rattle.c_tree.specs.declared.expr.StepOp.TheVariants.{PreIncrement, PreDecrement, PostIncrement, PostDecrement}
 use Rattle.c_tree.specs.declared.expr.ExprNode.{ExprNode}
 use Rattle.c_tree.specs.declared.expr.ExprNode.TheVariants as node
 use Rattle.c_tree.specs.declared.def.Def.{Def}
-use Rattle.c_types.specs.declared.fault.TypeKind.TheVariants.{WrongType}
 use Rattle.c_types.specs.declared.found.Found.{Found}
 use Rattle.c_types.specs.declared.found.Found.TheVariants.{Wrong, Place, Value, Zero, Null, Nothing, Designator}
 use Rattle.c_types.specs.declared.found.Part.{Part}
 use Rattle.c_types.specs.Lookup.{Names, is_known}
-use Rattle.c_types.specs.Found as found
 use Rattle.c_types.specs.Found.{converts, has_value, is_comparable, is_evaluated, is_integer, is_null, is_scalar, is_value, kind_in, place_required, required, type_of, value_of_type}
 use Rattle.c_types.specs.Expressions.{fits, is_assigned, is_condition, is_equality, is_operand, is_unary_operand, meeting, number_type, own, part, parts, unknown_tag, where_met}
 use Rattle.c_types.specs.Expressions as types
 use Rattle.c_semantics.specs.Texts.{int}
 use Rattle.c_semantics.specs.Resolved.{Expression}
 use Rattle.c_semantics.specs.Resolved as made
-use Rattle.c_semantics.specs.Resolution.{Resolved, assignment, binary, choice, common_type, int_value, kind, located, side, step, update, value}
+use Rattle.c_semantics.specs.Resolution.{Resolved, assignment, binary, choice, common_type, int_value, kind, side, step, update, value}
 use Rattle.typed_uses.proofs.Faultless.{Clean, after_none, built, is_place, meets, none_after, none_before}
 use Rattle.typed_uses.proofs.SoundTexts.{known}
 use Rattle.typed_uses.proofs.Lookups.{look}

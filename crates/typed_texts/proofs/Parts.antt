@@ -1,10 +1,9 @@
 -- By the grammar the parts of an `if` and the bodies of loops are no declarations (6.8.4, 6.8.5).
-use Rattle.std.proofs.Common.{◌≡◌, ℕ, List, [], ◌∷◌, ◌++◌, map, Option, Some, None, option_map, refl, sym, ap, subst}
+use Rattle.std.proofs.Common.{◌≡◌, ℕ, List, [], ◌∷◌, ◌++◌, map, sym, subst}
 use Rattle.c_tree.specs.BareStmt.{BareStmt, BareStmts}
 use Rattle.c_tree.specs.BareStmt as bare
 use Rattle.c_tree.specs.Bare.{bare_block, bare_stmt, bare_stmt_node}
 use Rattle.c_tree.specs.declared.name.CType.{CType}
-use Rattle.c_tree.specs.declared.expr.Expr.{Expr}
 use Rattle.c_tree.specs.declared.stmt.Declaration.{Declaration}
 use Rattle.c_tree.specs.declared.stmt.Stmt.{Stmt}
 use Rattle.c_tree.specs.declared.stmt.Stmt.TheFolds.{fold-roll-Stmt, map-Stmt}

@@ -1,5 +1,5 @@
 -- A statement without faults has a typed tree.
-use Rattle.std.proofs.Common.{◌≡◌, ℕ, suc, Bool, true, false, not, IsTrue, List, [], ◌∷◌, ◌++◌, map, Option, Some, None, is_some, cond, find, option_map, unwrap_or, bytes_eq, refl, sym, ap, subst, subst₂, ◌∙◌, if◌then◌else◌}
+use Rattle.std.proofs.Common.{◌≡◌, ℕ, Bool, true, false, not, IsTrue, List, [], ◌∷◌, ◌++◌, map, Option, Some, None, cond, option_map, unwrap_or, bytes_eq, refl, sym, subst, subst₂}
 use Rattle.c_tree.specs.BareExpr.{Bytes, BareType}
 use Rattle.c_tree.specs.BareStmt.{BareStmt, BareStmts}
 use Rattle.c_tree.specs.BareStmt as bare
@@ -24,14 +24,14 @@ use Rattle.c_types.specs.Statements.{Around, Walked, behind, expression_faults, 
 use Rattle.c_semantics.specs.Texts.{bound, int}
 use Rattle.c_semantics.specs.Resolved.{Expression}
 use Rattle.c_semantics.specs.Resolved as made
-use Rattle.c_semantics.specs.Resolution.{declared_by, declared_by_all, int_value, resolved, statement, statements, tree_of}
+use Rattle.c_semantics.specs.Resolution.{declared_by, declared_by_all, resolved, statement, statements, tree_of}
 use Rattle.typed_uses.proofs.Faultless.{meets, none_after, none_before, none_hidden, passes}
 use Rattle.typed_uses.proofs.SoundTexts.{Facts, known}
 use Rattle.typed_uses.proofs.Lookups.{look}
 use Rattle.typed_uses.proofs.Locals.{InStep, inner_block, one_more}
 use Rattle.typed_uses.proofs.Statements as uses
 use Rattle.typed_trees.specs.ValueTypes.{Environment, in_scope}
-use Rattle.typed_trees.specs.ExpressionTypes.{IsScalar, IsTyped, type_of}
+use Rattle.typed_trees.specs.ExpressionTypes.{IsScalar, IsTyped}
 use Rattle.typed_trees.specs.StatementTypes.{ConditionIf, InitialIf, IsCondition, IsPart, StatementTyped, StatementsTyped, TypedIf, declare_all, declares, with_variable}
 use Rattle.typed_texts.proofs.FoundTypes.{convert, evaluated, scalar_found}
 use Rattle.typed_texts.proofs.Nodes.{Has, fitting}

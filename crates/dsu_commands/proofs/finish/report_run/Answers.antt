@@ -6,7 +6,7 @@ pub returns-in-Ended : goal.returns-in-Ended
 returns-in-Ended g c = λ plan setup engine accepted by given installed hands.
     let e = g.T.Engine in
     ended plan setup (e.is_at setup) e.told e.faults engine c.args.ran.now c.rules_exist.ensures c.journal_is_a_run.ensures
-    c.accepted_runs_are_version_consistent.ensures accepted by
+    c.accepted_runs_are_version_consistent.ensures c.mains_result_is_an_int.ensures c.deadlocked_threads_wait.ensures accepted by
     c.args.texts.now c.args.journal c.args.file.now c.report_end.result (output_of g.E.Sink.told g.E.Sink.faults c.args.err.now c.report_end.new.err)
     given installed hands c.seats_fit_their_slots.ensures
     c.in-Ended.ending c.in-Ended.is (c.report_end.ensures setup)
@@ -15,7 +15,7 @@ pub returns-in-SinkFailed : goal.returns-in-SinkFailed
 returns-in-SinkFailed g c = λ plan setup engine accepted by given installed hands.
     let e = g.T.Engine in
     sink_failed plan setup (e.is_at setup) e.told e.faults engine c.args.ran.now c.rules_exist.ensures c.journal_is_a_run.ensures
-    c.accepted_runs_are_version_consistent.ensures accepted by
+    c.accepted_runs_are_version_consistent.ensures c.mains_result_is_an_int.ensures c.deadlocked_threads_wait.ensures accepted by
     c.args.texts.now c.args.journal c.args.file.now c.fail.result (output_of g.E.Sink.told g.E.Sink.faults c.args.err.now c.fail.new.err)
     given installed hands c.in-SinkFailed.is
     (record { status_is = c.fail.ensures.status; ending = c.fail.ensures.ending; shown = c.fail.ensures.err })
@@ -25,7 +25,7 @@ returns-in-CannotHappen g c = λ plan setup engine accepted by given installed h
     let e = g.T.Engine in
     let f = c.fail-in-CannotHappen in
     cannot_happen plan setup (e.is_at setup) e.told e.faults engine c.args.ran.now c.rules_exist.ensures c.journal_is_a_run.ensures
-    c.accepted_runs_are_version_consistent.ensures accepted by
+    c.accepted_runs_are_version_consistent.ensures c.mains_result_is_an_int.ensures c.deadlocked_threads_wait.ensures accepted by
     c.args.texts.now c.args.journal c.args.file.now f.result (output_of g.E.Sink.told g.E.Sink.faults c.args.err.now f.new.err)
     given installed hands c.in-CannotHappen.line c.in-CannotHappen.is
     (record { status_is = f.ensures.status; ending = f.ensures.ending; shown = f.ensures.err })
@@ -35,7 +35,7 @@ returns-in-Memory g c = λ plan setup engine accepted by given installed hands.
     let e = g.T.Engine in
     let f = c.fail-in-Memory in
     out_of_memory plan setup (e.is_at setup) e.told e.faults engine c.args.ran.now c.rules_exist.ensures c.journal_is_a_run.ensures
-    c.accepted_runs_are_version_consistent.ensures accepted by
+    c.accepted_runs_are_version_consistent.ensures c.mains_result_is_an_int.ensures c.deadlocked_threads_wait.ensures accepted by
     c.args.texts.now c.args.journal c.args.file.now f.result (output_of g.E.Sink.told g.E.Sink.faults c.args.err.now f.new.err)
     given installed hands c.in-Memory.is
     (record { status_is = f.ensures.status; ending = f.ensures.ending; shown = f.ensures.err })

@@ -6,7 +6,7 @@ use Rattle.dsu_commands.proofs.gen_job.run_engine.Goals as goal
 pub returns-in-Ended : goal.returns-in-Ended
 returns-in-Ended g c = λ setup accepted at one.
     summarized setup _ _ _ c.args.engine c.solo-ran.result c.rules_exist.ensures c.journal_is_a_run.ensures
-    c.accepted_runs_are_version_consistent.ensures accepted
+    c.accepted_runs_are_version_consistent.ensures c.mains_result_is_an_int.ensures c.deadlocked_threads_wait.ensures accepted
     (ran_by_schedule setup _ _ _ c.args.engine c.solo_schedule_is_prompt.ensures.prompt 1000000 c.solo-ran.result (c.solo-ran.ensures setup at))
     c.args.seed c.args.size c.args.texts.now one c.in-Ended.ending c.in-Ended.is c.seats_fit_their_slots.ensures _ (c.summarize.ensures setup)
 

@@ -1,0 +1,6 @@
+use Rattle.plain_engine.proofs.Querying.{in_force}
+use Rattle.plain_engine.proofs.engine.PlainEngine.in_force.Goals as goal
+
+pub returns : goal.returns
+returns g c = λ setup x at.
+    let s = c.args.self.now.state in in_force setup x s.run s.installed s.last at.state.run at.state.versions

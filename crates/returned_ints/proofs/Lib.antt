@@ -1,0 +1,3 @@
+mod Returning
+mod ReturningStatements
+pub mod Coming
