@@ -3,9 +3,24 @@ ghost use Rattle.std.specs.Prelude.{◌≤◌, length};
 
 use std::alloc::{AllocError, Global};
 
+/// The line of a text with a place, as it is shown, and the line with the caret below the place.
+#[derive(Drop)]
+pub struct Excerpt {
+    pub line: Vec<u8>,
+    pub caret: Vec<u8>,
+}
+
+/// The line of a text with a byte, or with its end, and the caret below it. Of a long line a part is shown.
+pub fn excerpt_of(alloc: Global, text: &[u8], at: usize) -> Result<Excerpt, AllocError> {
+    let part = part_at(text, at);
+    let line = line_of(alloc, part)?;
+    let caret = caret_of(alloc, part)?;
+    Ok(Excerpt { line, caret })
+}
+
 /// The part of a line that is shown, and how many of its bytes come before the place.
 #[derive(Clone, Copy)]
-pub(crate) struct Excerpt<'a> {
+struct Part<'a> {
     bytes: &'a [u8],
     before: usize,
     /// Whether bytes of the line aren't shown, before the part and after it.
@@ -50,13 +65,13 @@ fn line_end(text: &[u8], at: usize) -> usize
 }
 
 /// The part of the line of a place that is shown.
-pub(crate) fn excerpt_at(text: &[u8], at: usize) -> Excerpt<'_> {
+fn part_at(text: &[u8], at: usize) -> Part<'_> {
     let at = at.min(text.len());
     let start = line_start(text, at);
     let end = line_end(text, at);
     let from = start.max(at.saturating_sub(MOST_BEFORE));
     let to = end.min(at.saturating_add(MOST_AFTER));
-    Excerpt {
+    Part {
         bytes: &text[from..to],
         before: at - from,
         is_cut_left: from > start,
@@ -65,26 +80,26 @@ pub(crate) fn excerpt_at(text: &[u8], at: usize) -> Excerpt<'_> {
 }
 
 /// The line of the text as it is shown.
-pub(crate) fn line_of(alloc: Global, excerpt: Excerpt<'_>) -> Result<Vec<u8>, AllocError> {
+fn line_of(alloc: Global, part: Part<'_>) -> Result<Vec<u8>, AllocError> {
     let mut line = Vec::new(alloc);
-    if excerpt.is_cut_left {
+    if part.is_cut_left {
         line.extend_from_slice(CUT)?;
     }
-    line.extend_from_slice(excerpt.bytes)?;
-    if excerpt.is_cut_right {
+    line.extend_from_slice(part.bytes)?;
+    if part.is_cut_right {
         line.extend_from_slice(CUT)?;
     }
     Ok(line)
 }
 
 /// The line with the caret: a blank for each character before it, and a tab for each tab.
-pub(crate) fn caret_of(alloc: Global, excerpt: Excerpt<'_>) -> Result<Vec<u8>, AllocError> {
+fn caret_of(alloc: Global, part: Part<'_>) -> Result<Vec<u8>, AllocError> {
     let mut line = Vec::new(alloc);
-    if excerpt.is_cut_left {
+    if part.is_cut_left {
         line.extend_from_slice(b"  ")?;
     }
-    for place in 0..excerpt.before.min(excerpt.bytes.len()) {
-        add_blank(&mut line, excerpt.bytes[place])?;
+    for place in 0..part.before.min(part.bytes.len()) {
+        add_blank(&mut line, part.bytes[place])?;
     }
     line.push(b'^')?;
     Ok(line)

@@ -26,6 +26,7 @@ mod notes;
 mod syntax;
 mod types;
 
+pub use excerpt::{Excerpt, excerpt_of};
 pub use following::expected;
 pub use lines::{add_line, lines_end};
 pub use notes::notes_of;

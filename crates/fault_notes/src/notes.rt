@@ -3,7 +3,7 @@ ghost use Rattle.std.specs.Prelude.{IfOk};
 ghost use Rattle.fault_notes.specs.Notes.{AreNotes};
 
 use crate::draft::Draft;
-use crate::excerpt::{caret_of, excerpt_at, line_of};
+use crate::excerpt::excerpt_of;
 use crate::lexical::{bad_byte, bad_literal, directive};
 use crate::lines::add_line;
 use crate::syntax::syntax;
@@ -23,12 +23,10 @@ pub fn notes_of(
     ensures { IfOk result (λ notes. AreNotes mark.now notes.items) }
 {
     let message = message(alloc, text, wrong, at)?;
-    let excerpt = excerpt_at(text, at);
-    let line = line_of(alloc, excerpt)?;
-    let caret = caret_of(alloc, excerpt)?;
+    let excerpt = excerpt_of(alloc, text, at)?;
     let mut notes = Vec::new(alloc);
-    add_line(&mut notes, mark, &line)?;
-    add_line(&mut notes, mark, &caret)?;
+    add_line(&mut notes, mark, &excerpt.line)?;
+    add_line(&mut notes, mark, &excerpt.caret)?;
     add_line(&mut notes, mark, message.as_slice())?;
     Ok(notes)
 }

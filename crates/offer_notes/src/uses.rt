@@ -1,0 +1,256 @@
+//! What a thread may use, and what its transaction may have used.
+use crate::code::{Code, Site};
+use crate::draft::Draft;
+use crate::position::{check_in_of, outermost, say_site, site_of};
+use crate::reversed::Backwards;
+use crate::search::{Bound, Search};
+use crate::stand::{Frame, RowFrom, Stand, Thread};
+use con_freeness::Effect;
+use name_sets::NameId;
+use std::alloc::{AllocError, Global};
+
+/// Where the thread's code to come begins: after the check-in that its row comes from.
+fn begin_of(code: &Code<'_>, thread: &Thread<'_>) -> Option<Site> {
+    match &thread.row {
+        RowFrom::Start(function) => code.site(function, code.version(), 0),
+        RowFrom::Passed(frame) => Some(check_in_of(code, frame)?.0),
+    }
+}
+
+/// The nearest use after a place, if there is one.
+fn after(search: &mut Search<'_>, from: Option<Site>) -> Result<Option<Site>, AllocError> {
+    match from {
+        Some(from) => search.after(from, Bound::None),
+        None => Ok(None),
+    }
+}
+
+/// The same, or else one in the functions that are called there.
+fn onward(search: &mut Search<'_>, from: Option<Site>) -> Result<Option<Site>, AllocError> {
+    match after(search, from)? {
+        Some(found) => Ok(Some(found)),
+        None => search.in_called(),
+    }
+}
+
+/// The nearest use in what is left of the thread's frames, the innermost first.
+fn in_frames(
+    search: &mut Search<'_>,
+    code: &Code<'_>,
+    thread: &Thread<'_>,
+) -> Result<Option<Site>, AllocError> {
+    let found = after(search, begin_of(code, thread))?;
+    if found.is_some() {
+        return Ok(found);
+    }
+    for frame in &thread.frames {
+        let found = after(search, site_of(code, frame))?;
+        if found.is_some() {
+            return Ok(found);
+        }
+    }
+    Ok(None)
+}
+
+/// A use of a name by code that is active, or else by functions that it may call.
+fn active_use(
+    alloc: Global,
+    code: &Code<'_>,
+    thread: &Thread<'_>,
+    name: NameId,
+) -> Result<Option<Site>, AllocError> {
+    let mut search = Search::new(alloc, code, name)?;
+    match in_frames(&mut search, code, thread)? {
+        Some(found) => Ok(Some(found)),
+        None => search.in_called(),
+    }
+}
+
+/// A use of a name in what is left of a frame and in the functions that it may call, and so on for the frames that wait.
+fn later_use(
+    alloc: Global,
+    code: &Code<'_>,
+    thread: &Thread<'_>,
+    name: NameId,
+) -> Result<Option<Site>, AllocError> {
+    let mut search = Search::new(alloc, code, name)?;
+    let found = onward(&mut search, begin_of(code, thread))?;
+    if found.is_some() {
+        return Ok(found);
+    }
+    for frame in &thread.frames {
+        let found = onward(&mut search, site_of(code, frame))?;
+        if found.is_some() {
+            return Ok(found);
+        }
+    }
+    Ok(None)
+}
+
+/// The use at a frame's last stop: of the innermost frame it is done; in another one a call is still in progress, whose
+/// function's own frame is looked at before.
+fn use_at(
+    search: &mut Search<'_>,
+    site: Site,
+    is_innermost: bool,
+) -> Result<Option<Site>, AllocError> {
+    if is_innermost {
+        return search.at(site);
+    }
+    if search.uses(site) {
+        Ok(Some(site))
+    } else {
+        Ok(None)
+    }
+}
+
+/// The nearest use in a frame up to its last stop, and in the functions that it called.
+fn before(
+    search: &mut Search<'_>,
+    ways: &mut Backwards,
+    site: Option<Site>,
+    is_innermost: bool,
+    bound: Bound,
+) -> Result<Option<Site>, AllocError> {
+    let Some(site) = site else {
+        return Ok(None);
+    };
+    let found = use_at(search, site, is_innermost)?;
+    if found.is_some() {
+        return Ok(found);
+    }
+    match search.before(ways, site, bound)? {
+        Some(found) => Ok(Some(found)),
+        None => search.in_called(),
+    }
+}
+
+/// A use of a name in the transaction so far, which the outermost of some frames began.
+fn earlier_use(
+    alloc: Global,
+    code: &Code<'_>,
+    frames: &[Frame<'_>],
+    outermost: usize,
+    name: NameId,
+) -> Result<Option<Site>, AllocError> {
+    let mut search = Search::new(alloc, code, name)?;
+    let mut ways = Backwards::new(alloc, code.count())?;
+    for index in 0..frames.len() {
+        if index > outermost {
+            return Ok(None);
+        }
+        let bound = if index == outermost {
+            Bound::Outside
+        } else {
+            Bound::None
+        };
+        let site = site_of(code, &frames[index]);
+        let found = before(&mut search, &mut ways, site, index == 0, bound)?;
+        if found.is_some() {
+            return Ok(found);
+        }
+    }
+    Ok(None)
+}
+
+/// A use of a name before the next check-in.
+fn use_by_next(
+    alloc: Global,
+    code: &Code<'_>,
+    thread: &Thread<'_>,
+    name: NameId,
+) -> Result<Option<Site>, AllocError> {
+    let mut search = Search::new(alloc, code, name)?;
+    match begin_of(code, thread) {
+        Some(from) => search.after(from, Bound::CheckIns),
+        None => Ok(None),
+    }
+}
+
+/// Says that a name is used somewhere.
+fn say_use(
+    draft: &mut Draft,
+    stand: &Stand<'_>,
+    code: &Code<'_>,
+    words: &str,
+    name: NameId,
+    site: Site,
+) -> Result<(), AllocError> {
+    let function = match code.body(site.body) {
+        Some(body) => code.name(body.function),
+        None => "",
+    };
+    draft.say(words)?;
+    draft.say(code.name(name))?;
+    draft.say(" at ")?;
+    say_site(draft, stand, function, site)?;
+    draft.say(" in ")?;
+    draft.say(function)?;
+    draft.end()
+}
+
+/// Says where the thread may still use a name, if that was found.
+fn say_later(
+    draft: &mut Draft,
+    stand: &Stand<'_>,
+    code: &Code<'_>,
+    name: NameId,
+    found: Option<Site>,
+) -> Result<(), AllocError> {
+    match found {
+        Some(site) => say_use(draft, stand, code, "it may still use ", name, site),
+        None => Ok(()),
+    }
+}
+
+/// Says where the transaction may have used a name, if that is found.
+fn say_earlier(
+    draft: &mut Draft,
+    stand: &Stand<'_>,
+    code: &Code<'_>,
+    thread: &Thread<'_>,
+    name: NameId,
+) -> Result<(), AllocError> {
+    let alloc = draft.alloc();
+    let frames = thread.frames.as_slice();
+    let Some(outermost) = outermost(code, frames) else {
+        return Ok(());
+    };
+    if let Some(site) = earlier_use(alloc, code, frames, outermost, name)? {
+        let words = "its transaction may have used ";
+        return say_use(draft, stand, code, words, name, site);
+    }
+    match use_by_next(alloc, code, thread, name)? {
+        Some(site) => {
+            let words = "by its next check-in its transaction may have used ";
+            say_use(draft, stand, code, words, name, site)
+        }
+        None => Ok(()),
+    }
+}
+
+/// Says where the thread uses the names of the effect by which its row refuses a text.
+pub(crate) fn say_effect(
+    draft: &mut Draft,
+    stand: &Stand<'_>,
+    code: &Code<'_>,
+    thread: &Thread<'_>,
+    effect: Effect,
+) -> Result<(), AllocError> {
+    let alloc = draft.alloc();
+    match effect {
+        Effect::Concrete(name) => {
+            let found = active_use(alloc, code, thread, name)?;
+            say_later(draft, stand, code, name, found)
+        }
+        Effect::Both(prior, future) => {
+            say_earlier(draft, stand, code, thread, prior)?;
+            let found = later_use(alloc, code, thread, future)?;
+            say_later(draft, stand, code, future, found)
+        }
+        Effect::Pinned(name) => {
+            let found = later_use(alloc, code, thread, name)?;
+            say_later(draft, stand, code, name, found)
+        }
+    }
+}
