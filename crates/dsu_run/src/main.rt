@@ -1,22 +1,16 @@
 //! Ginseng: checks C programs, prints their effects, runs them with their threads, and repeats runs from their journals.
 //!
-//! `dsu_main` does all that the program does, over files and outputs that are handed in; its contract is what the program
-//! promises. `main` makes the words, the files of the file system and the standard streams, calls it on a thread with a
+//! `dsu_main` of `top_call` does all that the program does, over files and outputs that are handed in; its contract is what the
+//! program promises. `main` makes the words, the files of the file system and the standard streams, calls it on a thread with a
 //! large stack, and ends with its status.
-//!
-//! Read in this order: `top` (the top call), `words` (what the words ask for). What each command does is in
-//! `dsu_commands`.
 #![tactic(auto)]
 
-mod top;
-mod words;
-
-use crate::top::dsu_main;
 use dsu_io::{StdFiles, StdSink, Text};
 use dsu_report::{FaultLine, write_fault};
 use std::process::ExitCode;
 use std::thread::{Builder, Promise};
 use std::{env, io};
+use top_call::dsu_main;
 
 /// The stack of the thread that does the work. It is address space until it is used.
 const STACK_BYTES: usize = 1 << 30;

@@ -1,7 +1,7 @@
 -- The replay of a run's own journal makes the same run.
 use Rattle.std.proofs.Common.{◌≡◌, Some, sym, ◌∙◌, ap}
 use Rattle.std.proofs.lemmas.Option.{same_Some}
-use Rattle.source_model.specs.Endings.{ending as ending_of, int_ending}
+use Rattle.source_model.specs.Endings.{ending as ending_of}
 use Rattle.source_model.specs.Journals.{answers, guard_after, moves}
 use Rattle.source_model.specs.JournalLaws.{texts_of}
 use Rattle.source_model.specs.Runs.{source_run}
@@ -14,8 +14,8 @@ pub replays_repeat : RulesExist → ReplaysRepeat
 replays_repeat exist plan lines setup texts j k one other a b events = record {
   history = history;
   output = ap (λ m. m.output) machine;
-  ending = b.ending ∙ ap (λ x. Some (int_ending (ending_of x))) guard ∙ sym a.ending;
-  status = b.status ∙ ap (λ x. status_of_ending (int_ending (ending_of x))) guard ∙ sym a.status;
+  ending = b.ending ∙ ap (λ x. Some (ending_of x)) guard ∙ sym a.ending;
+  status = b.status ∙ ap (λ x. status_of_ending (ending_of x)) guard ∙ sym a.status;
   answers = b.versions.answered ∙ ap (λ x. answers setup x) guard ∙ sym a.versions.answered;
   report = λ journal.
       ap (λ es. report_of journal es setup texts b.made.guard) history

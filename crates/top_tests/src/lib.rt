@@ -8,6 +8,7 @@
 //! - `changes`: `changes_report`
 //! - `admits`: `admits_report`
 //! - `files`: `input_files`
+//! - `interleaved`: `noted_reports`
 #![tactic(auto)]
 
 #[cfg(test)]
@@ -24,5 +25,7 @@ mod effects_reports;
 mod files;
 #[cfg(test)]
 mod fixtures;
+#[cfg(test)]
+mod interleaved;
 #[cfg(test)]
 mod reports;

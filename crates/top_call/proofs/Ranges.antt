@@ -1,17 +1,16 @@
 -- The job of words has at most 63 offers, and a generated program has a function.
-use Rattle.std.proofs.Common.{◌≡◌, refl, ℕ, ◌+◌, ◌<◌, ◌≤◌, Bool, true, false, List, [], ◌∷◌, Option, Some, None, codes, subst, arith}
+use Rattle.std.proofs.Common.{◌≡◌, refl, ◌+◌, ◌<◌, ◌≤◌, Bool, true, false, List, [], ◌∷◌, Option, Some, None, codes, subst, arith}
 use Rattle.std.specs.Prelude.{⊤, length, nat_le, nat_lt, option_and_then, if◌then◌else◌}
 use Rattle.std.specs.List.{cons_option, filter_map}
 use Rattle.std.specs.Str.{all_ascii_digits, bytes_eq}
 use Rattle.std.specs.Str.Parse.{digits_value}
 use Rattle.std.proofs.lemmas.Bool.{and_parts, leb-true}
-use Rattle.std.proofs.lemmas.Option.{none-some, same_Some}
 use Rattle.dsu_cli.specs.declared.command.Command.{Command}
 use Rattle.dsu_cli.specs.declared.command.Command.TheVariants as command
 use Rattle.dsu_cli.specs.declared.job.Job.{Job}
 use Rattle.dsu_cli.specs.declared.job.Offer.{Offer}
 use Rattle.dsu_cli.specs.Words.{Text, Item, positional, option, switch, command_of, fits, items, job, job_if_fits, job_of, is_seed, line, offer_of, offers_of, positionals, positionals_fit, uses, values}
-use Rattle.dsu_run.specs.Words.{IsInRange}
+use Rattle.top_call.specs.Words.{IsInRange}
 
 -- an option has no more values than uses
 values_few : (name : Text) (its : List Item) → length (values name its) ≤ uses name its

@@ -1,42 +1,33 @@
+//! What the words ask for.
 ghost use Rattle.std.specs.Prelude.{◌≡◌, ◌⊎◌, IfOk, IfErr, IsErrOf, None, Some};
-ghost use Rattle.dsu_cli.specs.Words.{job_of};
+ghost use Rattle.dsu_cli.specs.Words.{detail_of, job_of};
 ghost use Rattle.dsu_commands.specs.Jobs.{is_built};
-ghost use Rattle.dsu_run.specs.Words.{IsInRange, asked};
+ghost use Rattle.top_call.specs.Words.{IsInRange, asked};
 
-use dsu_cli::{CliFault, Detail, Job, Request, read_words};
+use dsu_cli::{CliFault, Job, Request, read_words};
 use dsu_io::Text;
 use dsu_report::FaultLine;
 use std::alloc::Global;
 
-/// The job that words ask for, where it is built. Words that fit no command, and those with an option that isn't built, are
-/// `Usage`.
+/// The job that words ask for, where it is built, and whether it is explained. Words that fit no command, and those with an
+/// option that isn't built, are `Usage`.
 #[tactic(auto, using(crate::proofs::Ranges::in_range))]
-pub fn job_in(alloc: Global, words: &[Text]) -> Result<Job, FaultLine>
-    ensures job { IfOk result (λ job. asked words.now ≡ Some job) }
-    ensures range { IfOk result IsInRange }
+pub(crate) fn request_in(alloc: Global, words: &[Text]) -> Result<Request, FaultLine>
+    ensures job { IfOk result (λ request. asked words.now ≡ Some request.job) }
+    ensures detail { IfOk result (λ request. detail_of words.now ≡ request.detail) }
+    ensures range { IfOk result (λ request. IsInRange request.job) }
     ensures unfit { job_of words.now ≡ None → IsErrOf result FaultLine.Usage }
     ensures usage { IsErrOf result FaultLine.Usage → asked words.now ≡ None }
     ensures faults { IfErr result (λ fault. (fault ≡ FaultLine.Usage) ⊎ (fault ≡ FaultLine.Memory)) }
 {
     match read_words(alloc, words) {
-        Ok(
-            Request {
-                job,
-                detail: Detail::Plain,
-            },
-        ) => {
-            if is_built(&job) {
-                Ok(job)
+        Ok(request) => {
+            if is_built(&request.job) {
+                Ok(request)
             } else {
                 Err(FaultLine::Usage)
             }
         }
-        Ok(
-            Request {
-                job: _,
-                detail: Detail::Explained,
-            },
-        ) => Err(FaultLine::Usage),
         Err(CliFault::Usage) => Err(FaultLine::Usage),
         Err(CliFault::Memory) => Err(FaultLine::Memory),
     }

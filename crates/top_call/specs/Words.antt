@@ -1,20 +1,17 @@
 -- What the words of a command line ask for.
 use Rattle.std.specs.Prelude.{◌<◌, ◌≤◌, ⊤, List, length, Option, Some, None, option_and_then, if◌then◌else◌}
-use Rattle.dsu_cli.specs.Words.{Text, detail_of, job_of}
-use Rattle.dsu_cli.specs.declared.job.Detail.{Detail}
-use Rattle.dsu_cli.specs.declared.job.Detail.TheVariants.{Plain, Explained}
+use Rattle.dsu_cli.specs.Words.{Text, job_of}
 use Rattle.dsu_cli.specs.declared.job.Job.{Job}
 use Rattle.dsu_cli.specs.declared.job.Job.TheVariants.{Run, Replay, Check, Effects, Changes, Admits, Gen}
 use Rattle.dsu_commands.specs.Jobs.{is_built}
 
--- a job, where it is built as it is asked for: none is explained yet
-abbrev pub if_built : Detail → Job → Option Job
-if_built Plain job = if is_built job then Some job else None
-if_built Explained job = None
+-- a job, where it is built
+abbrev pub if_built : Job → Option Job
+if_built job = if is_built job then Some job else None
 
 -- the job that the words ask for; none where they fit no command, or have an option that isn't built
 abbrev pub asked : List Text → Option Job
-asked words = option_and_then (if_built (detail_of words)) (job_of words)
+asked words = option_and_then if_built (job_of words)
 
 -- a job has at most 63 offers, and a generated program has a function
 abbrev pub IsInRange : Job → Type 0
