@@ -1,9 +1,11 @@
 ghost use Rattle.std.specs.Prelude.{pos, ℤ, ◌^◌, ◌≡◌, ◌≤ℤ◌};
 ghost use Rattle.c_ints.specs.Kind.{InRange, common_kind, common_table, promoted_table, signed_if_wider as signed_kind_if_wider, width, wider as wider_kind};
+ghost use Rattle.c_ints.specs.Arithmetic.{binary_kind as binary_kind_of, unary_kind as unary_kind_of};
 ghost use Rattle.c_ints.specs.Number.{IsCongruent, converted, kind_of, promoted_number, reduced, value_of};
 
 use crate::int::Int;
 use crate::kind::Kind;
+use crate::operator::{BinOp, UnOp};
 
 /// What a value becomes at a kind.
 pub(crate) fn reduce(kind: Kind, value: i128) -> i128
@@ -57,6 +59,27 @@ pub fn common(a: Kind, b: Kind) -> Kind
         (true, false) => signed_if_wider(a, b),
         (false, true) => signed_if_wider(b, a),
         (true, true) | (false, false) => wider(a, b),
+    }
+}
+
+/// The kind of a binary operator's value, by the kinds of its operands (C11 6.5.5 to 6.5.12).
+pub fn binary_kind(op: BinOp, a: Kind, b: Kind) -> Kind
+    ensures { result ≡ binary_kind_of op a b }
+{
+    match op {
+        BinOp::Lt | BinOp::Gt | BinOp::Le | BinOp::Ge | BinOp::Eq | BinOp::Ne => Kind::I32,
+        BinOp::Shl | BinOp::Shr => a.promoted(),
+        _ => common(a, b),
+    }
+}
+
+/// The kind of a unary operator's value, by the kind of its operand (C11 6.5.3.3).
+pub fn unary_kind(op: UnOp, a: Kind) -> Kind
+    ensures { result ≡ unary_kind_of op a }
+{
+    match op {
+        UnOp::Not => Kind::I32,
+        UnOp::Plus | UnOp::Negate | UnOp::Complement => a.promoted(),
     }
 }
 

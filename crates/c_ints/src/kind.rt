@@ -94,8 +94,8 @@ impl Kind {
         self.least() <= value && value <= self.greatest()
     }
 
-    /// The kind that the integer promotions make of this one.
-    pub(crate) fn promoted(self) -> Kind
+    /// The kind that the integer promotions make of this one (C11 6.3.1.1).
+    pub fn promoted(self) -> Kind
         ensures { result ≡ promoted self }
     {
         match self {

@@ -20,7 +20,7 @@ mod wrapping;
 
 pub use arithmetic::{binary, unary};
 pub use constant::{LiteralFault, Radix, Suffix, literal};
-pub use conversion::{common, convert, promote};
+pub use conversion::{binary_kind, common, convert, promote, unary_kind};
 pub use int::Int;
 pub use kind::Kind;
 pub use operator::{ArithTrap, BinOp, SafeOp, UnOp};
