@@ -4,14 +4,14 @@ use Rattle.std.specs.Prelude.{slice_get}
 use Rattle.std.specs.Option.{is_some, option_and_then}
 use Rattle.std.proofs.lemmas.List.{length-map}
 use Rattle.std.proofs.lemmas.List.Elements.{All-nil, All-cons, All-append, All-head, All-tail}
-use Rattle.bytecode.specs.Skeleton.{Point, Skeleton, Call, Spawn, direct_use, kind_at}
+use Rattle.run_types.specs.Skeleton.{Point, Skeleton, Call, Spawn, direct_use, kind_at}
 use Rattle.c_tree.specs.BareExpr.{Bytes}
 use Rattle.c_tree.specs.BareDef.{BareDef}
 use Rattle.c_tree.specs.declared.name.CType.{CType}
 use Rattle.c_tree.specs.declared.def.Def.{Def}
-use Rattle.c_types.specs.Lookup.{Meaning, definition_of, meaning_in, name_of}
-use Rattle.c_types.specs.Lookup.Meaning.{AVariable, AnArray, AFunction, AMutex}
-use Rattle.c_types.specs.declared.fault.TypeKind.TheVariants.{NoMain}
+use Rattle.c_definitions.specs.Lookup.{Meaning, definition_of, meaning_in, name_of}
+use Rattle.c_definitions.specs.Lookup.Meaning.{AVariable, AnArray, AFunction, AMutex}
+use Rattle.c_expr_types.specs.declared.fault.TypeKind.TheVariants.{NoMain}
 use Rattle.c_types.specs.Definitions.{all_faults, defines_main, is_main, main_faults, name_place}
 use Rattle.c_semantics.specs.Texts.{definition, names}
 use Rattle.c_semantics.specs.Skeletons.{direct_uses, skeleton_of}

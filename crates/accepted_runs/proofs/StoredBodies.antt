@@ -5,8 +5,8 @@ use Rattle.std.specs.List.{cons_option, list_any}
 use Rattle.std.proofs.lemmas.List.{length-map}
 use Rattle.std.proofs.lemmas.List.Elements.{All-head, All-tail}
 use Rattle.std.proofs.lemmas.Option.{none-some, same_Some}
-use Rattle.bytecode.specs.Skeleton.{Point, PointKind, Skeleton, direct_use, kind_at, successors}
-use Rattle.bytecode.specs.Skeleton as kind
+use Rattle.run_types.specs.Skeleton.{Point, PointKind, Skeleton, direct_use, kind_at, successors}
+use Rattle.run_types.specs.Skeleton as kind
 use Rattle.name_sets.specs.NameLists.{is_among, name_set}
 use Rattle.c_tree.specs.BareExpr.{Bytes, BareType}
 use Rattle.c_tree.specs.BareStmt.{BareStmts}

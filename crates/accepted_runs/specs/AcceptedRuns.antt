@@ -1,6 +1,6 @@
 -- Runs whose texts are accepted.
 use Rattle.std.specs.Prelude.{◌≡◌, ℕ, false, List, Some}
-use Rattle.bytecode.specs.declared.run.Event.{Event}
+use Rattle.run_types.specs.declared.run.Event.{Event}
 use Rattle.effects.specs.Rows.{AreRows}
 use Rattle.source_model.specs.Guards.{Guard, Offer, Rules, Setup, offer_at}
 use Rattle.source_model.specs.Journals.{guard_after}

@@ -3,7 +3,7 @@ use Rattle.std.proofs.Common.{◌≡◌, ◌≢◌, ℕ, zero, suc, ◌<◌, len
 use Rattle.std.specs.Option.{option_and_then}
 use Rattle.std.proofs.lemmas.Bool.{false≢true}
 use Rattle.std.proofs.lemmas.Option.{none-some, same_Some}
-use Rattle.bytecode.specs.Skeleton.{Point, PointKind, Leads, CheckIn, Begin, End, Return, depth_after, direct_use, point_at, kind_at, successors}
+use Rattle.run_types.specs.Skeleton.{Point, PointKind, Leads, CheckIn, Begin, End, Return, depth_after, direct_use, point_at, kind_at, successors}
 use Rattle.c_tree.specs.BareExpr.{Bytes}
 use Rattle.c_semantics.specs.Skeletons.{is_check_in_kind}
 use Rattle.c_semantics.specs.Store.{Body}

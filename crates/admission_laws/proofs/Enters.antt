@@ -3,9 +3,9 @@ use Rattle.std.proofs.Common.{◌≡◌, ℕ, inl, inr, Bool, true, false, ◌&&
 use Rattle.std.specs.Option.{option_and_then}
 use Rattle.std.specs.Prelude.{nat_lt}
 use Rattle.std.proofs.lemmas.List.{length-map}
-use Rattle.bytecode.specs.CheckIns as check_in
-use Rattle.bytecode.specs.Skeleton as kind
-use Rattle.bytecode.specs.Skeleton.{CheckIn, direct_use, kind_at, point_at, entry}
+use Rattle.run_types.specs.CheckIns as check_in
+use Rattle.run_types.specs.Skeleton as kind
+use Rattle.run_types.specs.Skeleton.{CheckIn, direct_use, kind_at, point_at, entry}
 use Rattle.c_tree.specs.BareExpr.{Bytes}
 use Rattle.c_semantics.specs.Texts.{result_type}
 use Rattle.c_semantics.specs.Resolution.{resolved_body}

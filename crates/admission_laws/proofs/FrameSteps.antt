@@ -5,10 +5,10 @@ use Rattle.std.specs.Prelude.{nat_lt}
 use Rattle.std.proofs.lemmas.Bool.{false≢true}
 use Rattle.std.proofs.lemmas.List.Elements.{Contains-push}
 use Rattle.std.proofs.lemmas.Option.{none-some, same_Some}
-use Rattle.bytecode.specs.CheckIns.{CheckInKind}
-use Rattle.bytecode.specs.CheckIns as check_in
-use Rattle.bytecode.specs.Skeleton.{Skeleton, Point, PointKind, CheckIn, Leads, after, reached, reached_by, point_at, kind_at, check_in_at, check_in_of, check_in_after, successors, depth_after}
-use Rattle.bytecode.specs.Skeleton as kind
+use Rattle.run_types.specs.CheckIns.{CheckInKind}
+use Rattle.run_types.specs.CheckIns as check_in
+use Rattle.run_types.specs.Skeleton.{Skeleton, Point, PointKind, CheckIn, Leads, after, reached, reached_by, point_at, kind_at, check_in_at, check_in_of, check_in_after, successors, depth_after}
+use Rattle.run_types.specs.Skeleton as kind
 use Rattle.c_tree.specs.BareExpr.{Bytes}
 use Rattle.c_semantics.specs.Values.{Value}
 use Rattle.c_semantics.specs.Stops.{Stop, Call, Return, Join, kind_of}

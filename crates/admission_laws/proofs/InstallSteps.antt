@@ -4,7 +4,7 @@ use Rattle.std.specs.Option.{option_and_then}
 use Rattle.std.proofs.lemmas.Bool.{false≢true}
 use Rattle.std.proofs.lemmas.List.Elements.{All-weaker, All-contains, All-contains_itself}
 use Rattle.std.proofs.lemmas.Option.{same_Some}
-use Rattle.bytecode.specs.Skeleton.{Call, Return, direct_use, kind_at}
+use Rattle.run_types.specs.Skeleton.{Call, Return, direct_use, kind_at}
 use Rattle.c_tree.specs.BareExpr.{Bytes}
 use Rattle.c_tree.specs.BareDef.{BareDef, Function}
 use Rattle.c_semantics.specs.Changes.{changed, same_definition, agree}

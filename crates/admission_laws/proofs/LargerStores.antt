@@ -2,7 +2,7 @@
 use Rattle.std.proofs.Common.{◌≡◌, ℕ, zero, suc, Bool, true, List, [], ◌∷◌, ◌++◌, Some, None, refl, sym, ap, ◌∙◌}
 use Rattle.std.specs.Prelude.{Option, slice_get, option_map}
 use Rattle.std.specs.Option.{option_and_then}
-use Rattle.bytecode.specs.Skeleton.{Point, PointKind, Return, direct_use, point_at}
+use Rattle.run_types.specs.Skeleton.{Point, PointKind, Return, direct_use, point_at}
 use Rattle.c_tree.specs.BareExpr.{Bytes}
 use Rattle.c_semantics.specs.Store.{Body, Mark}
 use Rattle.effects.specs.Sites.{Site, IsOf, Passes, IsKind, IsReturn, IsEntry, Next, Uses, point_in, after_call}

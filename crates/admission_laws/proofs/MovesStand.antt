@@ -3,8 +3,8 @@ use Rattle.std.proofs.Common.{◌≡◌, ◌≢◌, ℕ, ◌<◌, ◌≤◌, inl
 use Rattle.std.specs.Prelude.{nat_lt, slice_index_or, slice_set}
 use Rattle.std.proofs.lemmas.Bool.{false≢true, cases_eq, or_parts, or_left, ne_eqb, eq-eqb}
 use Rattle.std.proofs.lemmas.Option.{none-some, same_Some}
-use Rattle.bytecode.specs.Skeleton.{PointKind, direct_use, kind_at}
-use Rattle.bytecode.specs.Skeleton as kind
+use Rattle.run_types.specs.Skeleton.{PointKind, direct_use, kind_at}
+use Rattle.run_types.specs.Skeleton as kind
 use Rattle.c_tree.specs.BareExpr.{Bytes}
 use Rattle.c_semantics.specs.SkeletonLaws.{GoesAlong}
 use Rattle.c_semantics.specs.SourceTexts.{Text}
@@ -13,7 +13,7 @@ use Rattle.c_semantics.specs.Store.{Start, store}
 use Rattle.c_semantics.specs.Threads.{Frame, Enter, Record, Thread}
 use Rattle.source_model.specs.Versions.{Table}
 use Rattle.source_model.specs.Uses.{IsConsistent, use_at, use_at_kind, use_of, is_right, recorded, recorded_at}
-use Rattle.bytecode.specs.declared.trap.TrapKind.TheVariants.{Depth}
+use Rattle.run_types.specs.declared.trap.TrapKind.TheVariants.{Depth}
 use Rattle.source_model.specs.Worlds.{World, Finish, Trapped, Slot, Free, Live, Over, in_slot, alive_in, is_finished, is_over, with_thread}
 use Rattle.source_model.specs.Moves.{Standing, frame_of, gone_on}
 use Rattle.source_model.specs.Guards.{Guard, Seat, seat_of, moved, move_leads, frames_lead, halt_leads, leads, seat_after, moved_seat}

@@ -2,8 +2,8 @@
 use Rattle.std.proofs.Common.{◌≡◌, ℕ, zero, suc, Bool, true, false, ◌⊎◌, inl, inr, List, [], ◌∷◌, ◌++◌, length, position, slice_get, slice_set, unwrap_or, unsigned_abs, Option, Some, None, is_some, length-set, refl, ap, subst, ◌∙◌, if◌then◌else◌}
 use Rattle.std.specs.Prelude.{◌==◌}
 use Rattle.std.proofs.lemmas.List.Quantifiers.{position-Some}
-use Rattle.bytecode.specs.declared.trap.TrapKind.{TrapKind}
-use Rattle.bytecode.specs.declared.trap.TrapKind.TheVariants.{Null, Stale, Index, Relock, Unlock as NotHeld, MutexHeld, Join as NotJoined}
+use Rattle.run_types.specs.declared.trap.TrapKind.{TrapKind}
+use Rattle.run_types.specs.declared.trap.TrapKind.TheVariants.{Null, Stale, Index, Relock, Unlock as NotHeld, MutexHeld, Join as NotJoined}
 use Rattle.c_ints.specs.Number.{value_of}
 use Rattle.c_tree.specs.BareExpr.{Bytes}
 use Rattle.c_semantics.specs.Values.{ThreadRef, Value, Number, Reference, Started, int_of}

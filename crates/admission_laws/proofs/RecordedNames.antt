@@ -3,8 +3,8 @@ use Rattle.std.proofs.Common.{◌≡◌, ℕ, zero, suc, ◌+◌, ◌<◌, ◌�
 use Rattle.std.specs.Prelude.{nat_lt}
 use Rattle.std.proofs.lemmas.Bool.{lt-ltb}
 use Rattle.std.proofs.lemmas.Option.{none-some, same_Some}
-use Rattle.bytecode.specs.Skeleton.{Point}
-use Rattle.bytecode.specs.Skeleton as kind
+use Rattle.run_types.specs.Skeleton.{Point}
+use Rattle.run_types.specs.Skeleton as kind
 use Rattle.c_tree.specs.BareExpr.{Bytes}
 use Rattle.c_semantics.specs.Store.{Body}
 use Rattle.c_semantics.specs.Threads.{Enter}

@@ -1,7 +1,7 @@
 -- What the frames of a thread may still use is in the concrete effect of the point where it stands, and changes little where
 -- the thread goes on.
 use Rattle.std.proofs.Common.{◌≡◌, ℕ, ◌⊎◌, inl, inr, List, [], ◌∷◌, refl, ◌∙◌}
-use Rattle.bytecode.specs.Skeleton.{Return}
+use Rattle.run_types.specs.Skeleton.{Return}
 use Rattle.c_tree.specs.BareExpr.{Bytes}
 use Rattle.c_semantics.specs.Store.{Body}
 use Rattle.effects.specs.Sites.{Site, IsOf, Uses, after_call}

@@ -5,8 +5,8 @@ use Rattle.std.proofs.lemmas.Bool.{false≢true, and_right}
 use Rattle.std.proofs.lemmas.Bool.Decides.{nat_tests}
 use Rattle.std.proofs.lemmas.List.Elements.{All-nil}
 use Rattle.std.proofs.lemmas.Option.{none-some, same_Some}
-use Rattle.bytecode.specs.Skeleton.{Point, PointKind, direct_use, check_in_after, depth_after, after}
-use Rattle.bytecode.specs.Skeleton as kind
+use Rattle.run_types.specs.Skeleton.{Point, PointKind, direct_use, check_in_after, depth_after, after}
+use Rattle.run_types.specs.Skeleton as kind
 use Rattle.c_tree.specs.BareExpr.{Bytes}
 use Rattle.c_semantics.specs.Stops.{Stop, Begin, End, kind_of}
 use Rattle.c_semantics.specs.SourceTexts.{Text}

@@ -12,8 +12,8 @@ use Rattle.effects.specs.Sites.{Site, IsOf, IsEntry, IsKind, Next, Uses, after_c
 use Rattle.effects.specs.Nested.{Nested, Inside}
 use Rattle.source_model.specs.Versions.{Table, current, in_version}
 use Rattle.source_model.specs.Uses.{HasVersion, use_of, recorded_at}
-use Rattle.bytecode.specs.Skeleton.{Return}
-use Rattle.bytecode.specs.Skeleton as kind
+use Rattle.run_types.specs.Skeleton.{Return}
+use Rattle.run_types.specs.Skeleton as kind
 use Rattle.admission_laws.specs.SoundTexts.{IsInForce, is_function, now_in}
 use Rattle.admission_laws.specs.Stacks.{Level, AtCall, Stacked}
 use Rattle.admission_laws.specs.Transactions.{HasDepth, Depth, Known}

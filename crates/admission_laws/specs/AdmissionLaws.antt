@@ -1,6 +1,6 @@
 -- Laws of admission, for each guard that a legal journal comes to, over rules whose rows are those of the effects.
 use Rattle.std.specs.Prelude.{◌≡◌, ℕ, true, false, List, [], ◌∷◌, All, Some, Option, slice_get}
-use Rattle.bytecode.specs.declared.run.Event.{Event}
+use Rattle.run_types.specs.declared.run.Event.{Event}
 use Rattle.c_tree.specs.BareExpr.{Bytes}
 use Rattle.name_sets.specs.NameLists.{is_among}
 use Rattle.c_semantics.specs.Standing.{stands_at}

@@ -1,7 +1,7 @@
 -- What a thread may still use until its outermost transaction ends: the actual frames, and the bodies now in force of what
 -- they call.
 use Rattle.std.specs.Prelude.{◌≡◌, ℕ, ◌<◌, true, List, ◌∷◌, Some, not}
-use Rattle.bytecode.specs.Skeleton.{PointKind, Call, Return, direct_use, kind_at}
+use Rattle.run_types.specs.Skeleton.{PointKind, Call, Return, direct_use, kind_at}
 use Rattle.c_tree.specs.BareExpr.{Bytes}
 use Rattle.c_semantics.specs.SourceTexts.{Text}
 use Rattle.c_semantics.specs.Store.{Body, store}

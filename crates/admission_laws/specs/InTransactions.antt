@@ -1,6 +1,6 @@
 -- What is known of a thread in a transaction: the names that it recorded, and versions that their entries share.
 use Rattle.std.specs.Prelude.{◌≡◌, ℕ, ◌+◌, ◌<◌, Bool, true, false, List, [], ◌∷◌, All, Option}
-use Rattle.bytecode.specs.Skeleton.{PointKind, Begin, End}
+use Rattle.run_types.specs.Skeleton.{PointKind, Begin, End}
 use Rattle.c_tree.specs.BareExpr.{Bytes}
 use Rattle.c_semantics.specs.SourceTexts.{Text}
 use Rattle.c_semantics.specs.Store.{Body, store}

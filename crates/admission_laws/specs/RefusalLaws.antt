@@ -1,7 +1,7 @@
 -- What a refusal names: the slot, and of the patch and of the slot's row the names for which that row doesn't admit it.
 use Rattle.std.specs.Prelude.{◌≡◌, ℕ, ◌<◌, true, false, List, ◌∷◌, ◌++◌, map, Some, slice_get}
-use Rattle.bytecode.specs.declared.run.Event.{Event}
-use Rattle.bytecode.specs.declared.run.Event.TheVariants.{Decide}
+use Rattle.run_types.specs.declared.run.Event.{Event}
+use Rattle.run_types.specs.declared.run.Event.TheVariants.{Decide}
 use Rattle.c_tree.specs.BareExpr.{Bytes}
 use Rattle.c_semantics.specs.Changes.{changed, interface}
 use Rattle.name_sets.specs.NameLists.{precedes, is_among}

@@ -1,7 +1,7 @@
 -- What is known of the texts of a run whose programs were accepted.
 use Rattle.std.specs.Prelude.{◌≡◌, ◌≢◌, ℕ, ◌<◌, Bool, true, false, List, [], ◌∷◌, ◌++◌, map, length, codes, slice_get, Option, Some, option_map}
 use Rattle.std.specs.Option.{is_some, option_and_then}
-use Rattle.bytecode.specs.Skeleton.{Skeleton, Point, PointKind, Call, Spawn, Return, End, Leads, depth_after, direct_use, kind_at, point_at, successors}
+use Rattle.run_types.specs.Skeleton.{Skeleton, Point, PointKind, Call, Spawn, Return, End, Leads, depth_after, direct_use, kind_at, point_at, successors}
 use Rattle.c_tree.specs.BareExpr.{Bytes}
 use Rattle.c_tree.specs.BareDef.{BareDef, Function}
 use Rattle.c_semantics.specs.Changes.{changed}

@@ -1,6 +1,6 @@
 -- The active frames of a thread as points of a store, and what the code still to run in them may use directly.
 use Rattle.std.specs.Prelude.{ℕ, List, [], ◌∷◌}
-use Rattle.bytecode.specs.Skeleton.{Return}
+use Rattle.run_types.specs.Skeleton.{Return}
 use Rattle.c_tree.specs.BareExpr.{Bytes}
 use Rattle.c_semantics.specs.Skeletons.{is_check_in_kind}
 use Rattle.c_semantics.specs.Store.{Body}

@@ -1,6 +1,6 @@
 -- Where the threads of a run stand in the store of its versions, and by which marks that is covered.
 use Rattle.std.specs.Prelude.{◌≡◌, ℕ, ◌≤◌, Bool, true, false, List, [], ◌∷◌, Option, Some, None, not, slice_get}
-use Rattle.bytecode.specs.Skeleton.{Call, Spawn, kind_at}
+use Rattle.run_types.specs.Skeleton.{Call, Spawn, kind_at}
 use Rattle.c_tree.specs.BareExpr.{Bytes, BareType}
 use Rattle.c_semantics.specs.Resolved.{Statements}
 use Rattle.c_semantics.specs.Skeletons.{skeleton, is_check_in_kind}

@@ -6,7 +6,7 @@ use Rattle.std.proofs.lemmas.List.{map_push, take_more}
 use Rattle.std.proofs.lemmas.List.Elements.{All-nil, All-cons, All-head, All-tail, All-weaker}
 use Rattle.std.proofs.lemmas.Option.{get_or_from_slice_get}
 use Rattle.name_sets.specs.Texts.{text_of}
-use Rattle.bytecode.specs.Skeleton.{Skeleton}
+use Rattle.run_types.specs.Skeleton.{Skeleton}
 use Rattle.c_tree.specs.BareExpr.{Bytes}
 use Rattle.c_tree.specs.Bare.{bare_function}
 use Rattle.c_tree.specs.declared.def.Function.{Function}

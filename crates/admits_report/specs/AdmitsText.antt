@@ -5,7 +5,7 @@ use Rattle.std.specs.Option.{is_none}
 use Rattle.std.specs.List.{flat_map, AllZip}
 use Rattle.std.specs.List.Sorted.{IsPermutation, IsNonDecreasingBy}
 use Rattle.std.specs.Fmt.{decimal}
-use Rattle.bytecode.specs.CheckIns.{CheckInKind}
+use Rattle.run_types.specs.CheckIns.{CheckInKind}
 use Rattle.con_freeness.specs.Rows.{Names, Row, obstacle}
 use Rattle.con_freeness.specs.Verdicts.{Effect}
 use Rattle.c_tree.specs.BareExpr.{Bytes}

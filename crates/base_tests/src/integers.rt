@@ -3,8 +3,8 @@
 mod tables;
 
 use c_ints::{
-    ArithTrap, Int, Kind, UnOp, binary, binary_kind, binary_wrap, common, convert, literal, promote,
-    unary, unary_kind, unary_wrap,
+    ArithTrap, Int, Kind, UnOp, binary, binary_kind, binary_wrap, common, convert, literal,
+    promote, unary, unary_kind, unary_wrap,
 };
 use std::alloc::{AllocError, Global};
 use tables::{BINARY, CONVERTED, LITERAL_FAULTS, LITERALS, TRAPS, UNARY, WRAPPED};
@@ -13,7 +13,10 @@ use tables::{BINARY, CONVERTED, LITERAL_FAULTS, LITERALS, TRAPS, UNARY, WRAPPED}
 fn binary_operators_give_what_c_gives(rt: HostRuntime) {
     for (row, (op, a, b, want)) in BINARY.iter().enumerate() {
         assert!(rt; binary(*op, *a, *b) == Ok(*want), "row {row}");
-        assert!(rt; binary_kind(*op, a.kind(), b.kind()) == want.kind(), "row {row}");
+        assert!(rt;
+            binary_kind(*op, a.kind(), b.kind()) == want.kind(),
+            "row {row}"
+        );
     }
 }
 

@@ -1,7 +1,7 @@
 //! What the calls answer with ample memory, and where a print ends whose sink fails.
-use bytecode::Event;
 use dsu_io::MemorySink;
 use dsu_journal::{JournalFault, print_journal, read_journal};
+use run_types::Event;
 use std::alloc::{AllocError, Global};
 
 /// Events of each kind, and their journal.

@@ -4,7 +4,7 @@
 //! - `containers`, `sinks`, `files`: `dsu_io`
 //! - `integers`: `c_ints`
 //! - `names`: `name_sets`
-//! - `traps`: `bytecode`
+//! - `traps`: `run_types`
 //! - `admission`: `con_freeness`
 //! - `counts`: `pass_lock`
 //! - `nets`: `set_constraints`

@@ -1,7 +1,7 @@
 //! Which trap of a run an operator's trap becomes.
 
-use bytecode::TrapKind;
 use c_ints::ArithTrap;
+use run_types::TrapKind;
 
 #[test]
 fn traps_of_operators(rt: HostRuntime) {

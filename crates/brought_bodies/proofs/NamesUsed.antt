@@ -13,7 +13,7 @@ use Rattle.std.proofs.lemmas.Slice.Eq.{bytes_eq-Decides}
 use Rattle.name_sets.specs.IdSet.{Holds}
 use Rattle.name_sets.specs.NameLists.{precedes, is_among, with_name, name_set}
 use Rattle.name_sets.specs.Texts.{text_of}
-use Rattle.bytecode.specs.Skeleton.{direct_use}
+use Rattle.run_types.specs.Skeleton.{direct_use}
 use Rattle.c_tree.specs.BareExpr.{Bytes}
 use Rattle.c_semantics.specs.Skeletons.{direct_uses}
 use Rattle.skeletons.specs.declared.point.Point.{Point}

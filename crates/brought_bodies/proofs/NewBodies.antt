@@ -8,7 +8,7 @@ use Rattle.std.proofs.lemmas.List.Elements.{All-push, All-weaker, Contains-get_o
 use Rattle.std.proofs.lemmas.List.Folds.{find-append}
 use Rattle.std.proofs.lemmas.Slice.Eq.{bytes_eq-Decides}
 use Rattle.std.proofs.lemmas.Option.{none-some, same_Some}
-use Rattle.bytecode.specs.Skeleton.{Skeleton}
+use Rattle.run_types.specs.Skeleton.{Skeleton}
 use Rattle.name_sets.specs.NameLists.{is_among}
 use Rattle.name_sets.specs.Texts.{text_of}
 use Rattle.c_tree.specs.BareExpr.{Bytes}
@@ -18,7 +18,7 @@ use Rattle.c_tree.specs.declared.def.Def.{Def}
 use Rattle.c_tree.specs.declared.def.DefKind.{DefKind}
 use Rattle.c_tree.specs.declared.def.DefKind.TheVariants as kind
 use Rattle.c_tree.specs.declared.def.Function.{Function}
-use Rattle.c_types.specs.Lookup.{definition_of, is_named, name_of}
+use Rattle.c_definitions.specs.Lookup.{definition_of, is_named, name_of}
 use Rattle.c_semantics.specs.SourceTexts.{Text, tokens_of_kind}
 use Rattle.c_semantics.specs.Texts.{names}
 use Rattle.c_semantics.specs.Changes.{changed, interface}
@@ -28,7 +28,7 @@ use Rattle.skeletons.specs.Meaning.{meant}
 use Rattle.code_store.specs.declared.body.StoredBody.{StoredBody}
 use Rattle.code_store.specs.Stored.{meant_body, IsNamed, AreDistinct}
 use Rattle.code_store.proofs.StoredBodies.{distinct_push}
-use Rattle.resolved_tree.specs.Known.{known_of}
+use Rattle.name_resolution.specs.Known.{known_of}
 use Rattle.brought_bodies.specs.Patches.{IsBodyIn, function_of}
 use Rattle.brought_bodies.specs.Unknown.{IsUnknownIn, HasUnknownFunction}
 

@@ -10,11 +10,11 @@ use Rattle.c_tree.specs.declared.def.Def.{Def}
 use Rattle.c_tree.specs.declared.def.DefKind.{DefKind}
 use Rattle.c_tree.specs.declared.def.DefKind.TheVariants as kind
 use Rattle.c_tree.specs.declared.def.Program.{Program}
-use Rattle.c_types.specs.declared.fault.Fault.{Fault}
-use Rattle.c_types.specs.declared.fault.TypeKind.TheVariants.{DeclaredTwice}
-use Rattle.c_types.specs.Faults.{unless}
+use Rattle.c_expr_types.specs.declared.fault.Fault.{Fault}
+use Rattle.c_expr_types.specs.declared.fault.TypeKind.TheVariants.{DeclaredTwice}
+use Rattle.c_expr_types.specs.Faults.{unless}
 use Rattle.c_types.specs.Statements.{hiding}
-use Rattle.c_types.specs.Lookup.{definition_of, is_named, name_of}
+use Rattle.c_definitions.specs.Lookup.{definition_of, is_named, name_of}
 use Rattle.c_types.specs.Definitions.{Types, all_faults, kind_faults, named_twice}
 use Rattle.c_semantics.specs.SourceTexts.{Tokens, tokens_of_kind}
 

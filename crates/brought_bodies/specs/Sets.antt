@@ -4,7 +4,7 @@ use Rattle.std.specs.Option.{option_map_or}
 use Rattle.name_sets.specs.Texts.{text_of}
 use Rattle.name_sets.specs.IdSet.{Holds}
 use Rattle.name_sets.specs.NameLists.{is_among}
-use Rattle.bytecode.specs.Skeleton.{direct_use}
+use Rattle.run_types.specs.Skeleton.{direct_use}
 use Rattle.c_tree.specs.BareExpr.{Bytes}
 use Rattle.skeletons.specs.declared.point.PointKind.{PointKind}
 use Rattle.skeletons.specs.Meaning.{kind_of}

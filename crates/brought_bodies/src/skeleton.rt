@@ -2,15 +2,15 @@
 ghost use Rattle.std.specs.Prelude.{◌≡◌, Some, length, IfOk, IsErrOf};
 ghost use Rattle.c_tree.specs.Bare.{bare_function};
 ghost use Rattle.c_semantics.specs.Skeletons.{skeleton_of as skeleton_by};
-ghost use Rattle.resolved_tree.specs.Known.{known_of};
+ghost use Rattle.name_resolution.specs.Known.{known_of};
 ghost use Rattle.skeletons.specs.Meaning.{meant};
 ghost use Rattle.skeleton_gen.specs.Naming.{AllKnown, HasUnknown};
 
+use c_definitions::Known;
 use c_tree::Function;
-use c_types::Known;
+use name_resolution::resolve_body;
 use name_sets::Names;
 use resolved_tree::Trees;
-use resolved_tree::resolve::resolve_body;
 use skeleton_gen::{SkeletonFault, skeleton_of};
 use skeletons::Skeleton;
 use std::alloc::Global;

@@ -25,14 +25,14 @@ use Rattle.c_expr_parser.specs.TypeNames.{TypeName}
 use Rattle.c_expr_parser.specs.Expressions.{Conditional}
 use Rattle.c_expr_parser.specs.Declarations.{Member, Members}
 use Rattle.c_expr_parser.specs.Definitions.{defs, ResultType, Parameter, ParameterList, FunctionDefinition, PrototypeParameters, PrototypeDeclaration, GlobalDeclarator, Item, ItemList}
-use Rattle.c_types.specs.declared.fault.TypeKind.TheVariants.{DeclaredTwice, WrongType, NoMain, OverLimit, BadTransformer}
-use Rattle.c_types.specs.declared.fault.Fault.{Fault}
-use Rattle.c_types.specs.declared.lookup.Position.TheVariants.{InInitialiser}
-use Rattle.c_types.specs.Faults.{unless}
-use Rattle.c_types.specs.Found.{required}
-use Rattle.c_types.specs.Lookup.{name_of, is_named, definition_of, defined, members_of}
-use Rattle.c_types.specs.Expressions.{fits, unknown_tag}
-use Rattle.c_types.specs.Need.{need, optional_need, greatest}
+use Rattle.c_expr_types.specs.declared.fault.TypeKind.TheVariants.{DeclaredTwice, WrongType, NoMain, OverLimit, BadTransformer}
+use Rattle.c_expr_types.specs.declared.fault.Fault.{Fault}
+use Rattle.c_definitions.specs.declared.lookup.Position.TheVariants.{InInitialiser}
+use Rattle.c_expr_types.specs.Faults.{unless}
+use Rattle.c_expr_types.specs.Found.{required}
+use Rattle.c_definitions.specs.Lookup.{name_of, is_named, definition_of, defined, members_of}
+use Rattle.c_expr_types.specs.Expressions.{fits, unknown_tag}
+use Rattle.c_expr_types.specs.Need.{need, optional_need, greatest}
 use Rattle.c_types.specs.Statements.{in_order, walk}
 use Rattle.c_types.specs.TransformSyntax.{transforms_struct, is_transforming, is_global, of_struct, of_global}
 use Rattle.name_sets.specs.Limit.{most_names}

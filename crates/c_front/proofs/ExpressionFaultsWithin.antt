@@ -10,16 +10,16 @@ use Rattle.c_tree.specs.declared.name.CType.TheVariants.{Integer, Handle, Thread
 use Rattle.c_tree.specs.declared.expr.ExprNode.{ExprNode}
 use Rattle.c_tree.specs.declared.expr.ExprNode.TheVariants.{Number, Character, Null, Success, Error, Variable, Unary, Step, Cast, Binary, And, Or, Choice, Assign, Update, Call, Element, Arrow, Dot, Print, Calloc, Free, Create, Join, JoinInto, InitMutex, Lock, Unlock}
 use Rattle.c_tree.specs.declared.def.Def.{Def}
-use Rattle.c_types.specs.declared.fault.TypeKind.TheVariants.{UnknownName, WrongType, WrongCount, BadFormat}
-use Rattle.c_types.specs.declared.found.Found.{Found}
-use Rattle.c_types.specs.declared.found.Found.TheVariants.{Value, Zero, Nothing}
-use Rattle.c_types.specs.declared.found.Part.{Part}
-use Rattle.c_types.specs.Faults.{fault}
-use Rattle.c_types.specs.Formats.{fits_format}
-use Rattle.c_types.specs.Found.{faults_of, wrong, is_integer, is_handle, int, has_value, is_value, is_evaluated, is_comparable, converts, required, place_required, type_of, kind_in, value_of_type}
-use Rattle.c_types.specs.Lookup.{Names, Meaning, meaning_of, is_tag}
-use Rattle.c_types.specs.Lookup.Meaning.{AVariable, AnArray, AFunction, AMutex}
-use Rattle.c_types.specs.Expressions.{is_condition, fits, is_equality, is_operand, is_unary_operand, is_assigned, conversion_faults, value_faults, argument_faults, is_thread, is_int, thread_parameter, is_thread_argument, parts, name_type, element_type, call_type, field_of, field_type, meeting, where_met, binary, spawn_type, mutex_call_type, unknown_tag, own, is_initialising, where_allowed, is_allowed, part}
+use Rattle.c_expr_types.specs.declared.fault.TypeKind.TheVariants.{UnknownName, WrongType, WrongCount, BadFormat}
+use Rattle.c_expr_types.specs.declared.found.Found.{Found}
+use Rattle.c_expr_types.specs.declared.found.Found.TheVariants.{Value, Zero, Nothing}
+use Rattle.c_expr_types.specs.declared.found.Part.{Part}
+use Rattle.c_expr_types.specs.Faults.{fault}
+use Rattle.c_expr_types.specs.Formats.{fits_format}
+use Rattle.c_expr_types.specs.Found.{faults_of, wrong, is_integer, is_handle, int, has_value, is_value, is_evaluated, is_comparable, converts, required, place_required, type_of, kind_in, value_of_type}
+use Rattle.c_definitions.specs.Lookup.{Names, Meaning, meaning_of, is_tag}
+use Rattle.c_definitions.specs.Lookup.Meaning.{AVariable, AnArray, AFunction, AMutex}
+use Rattle.c_expr_types.specs.Expressions.{is_condition, fits, is_equality, is_operand, is_unary_operand, is_assigned, conversion_faults, value_faults, argument_faults, is_thread, is_int, thread_parameter, is_thread_argument, parts, name_type, element_type, call_type, field_of, field_type, meeting, where_met, binary, spawn_type, mutex_call_type, unknown_tag, own, is_initialising, where_allowed, is_allowed, part}
 use Rattle.c_front.proofs.FaultsWithin.{Within, FoundWithin, PartWithin, within_append, within_unless, after_within, required_within, place_required_within}
 
 module _ (n : ℕ) where

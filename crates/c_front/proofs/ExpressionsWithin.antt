@@ -13,9 +13,9 @@ use Rattle.c_expr_parser.specs.declared.operators.Joint.TheVariants.{Operation, 
 use Rattle.c_expr_parser.specs.Operators.{joined}
 use Rattle.c_expr_parser.specs.TypeNames.{TypeName}
 use Rattle.c_expr_parser.specs.Expressions.{expr, Assignment, Conditional, Binary, Cast, Unary, Postfix, Primary, Arguments, Further}
-use Rattle.c_types.specs.declared.found.Part.{Part}
-use Rattle.c_types.specs.Lookup.{Names}
-use Rattle.c_types.specs.Expressions.{infer}
+use Rattle.c_expr_types.specs.declared.found.Part.{Part}
+use Rattle.c_definitions.specs.Lookup.{Names}
+use Rattle.c_expr_types.specs.Expressions.{infer}
 use Rattle.c_types.proofs.FoldsAtNode.{infer_at}
 use Rattle.c_front.proofs.FaultsWithin.{PartWithin}
 use Rattle.c_front.proofs.ExpressionFaultsWithin.{TypeWithin, PartsWithin, NodeWithin, part_within}

@@ -1,13 +1,13 @@
 -- Faults whose places are at most a number: lists of them, the first of them, and what is said of an expression.
 use Rattle.std.proofs.Common.{ℕ, ◌≤◌, Bool, true, false, List, [], ◌∷◌, ◌++◌, Option, Some, None, if◌then◌else◌}
-use Rattle.c_types.specs.declared.fault.Fault.{Fault}
-use Rattle.c_types.specs.declared.fault.TypeKind.{TypeKind}
-use Rattle.c_types.specs.declared.fault.TypeKind.TheVariants.{WrongType}
-use Rattle.c_types.specs.declared.found.Found.{Found}
-use Rattle.c_types.specs.declared.found.Found.TheVariants.{Wrong, Place}
-use Rattle.c_types.specs.declared.found.Part.{Part}
-use Rattle.c_types.specs.Faults.{unless, is_before, earlier, first}
-use Rattle.c_types.specs.Found.{faults_of, unless_wrong, after, misfit, required, misplaced, place_required}
+use Rattle.c_expr_types.specs.declared.fault.Fault.{Fault}
+use Rattle.c_expr_types.specs.declared.fault.TypeKind.{TypeKind}
+use Rattle.c_expr_types.specs.declared.fault.TypeKind.TheVariants.{WrongType}
+use Rattle.c_expr_types.specs.declared.found.Found.{Found}
+use Rattle.c_expr_types.specs.declared.found.Found.TheVariants.{Wrong, Place}
+use Rattle.c_expr_types.specs.declared.found.Part.{Part}
+use Rattle.c_expr_types.specs.Faults.{unless, is_before, earlier, first}
+use Rattle.c_expr_types.specs.Found.{faults_of, unless_wrong, after, misfit, required, misplaced, place_required}
 use Rattle.c_types.specs.Statements.{hiding}
 
 module _ (n : ℕ) where

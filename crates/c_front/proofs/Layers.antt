@@ -11,10 +11,10 @@ use Rattle.c_expr_parser.specs.Readings.{Reads, FaultAt, TooDeepAt}
 use Rattle.c_expr_parser.specs.Reading.{IsUnlessMemory}
 use Rattle.c_expr_parser.specs.Definitions.{TranslationUnit}
 use Rattle.c_parser.specs.Programs.{IsFault}
-use Rattle.c_types.specs.declared.fault.Fault.{Fault}
-use Rattle.c_types.specs.declared.fault.TypeFault.{TypeFault}
-use Rattle.c_types.specs.declared.fault.TypeFault.TheVariants as types
-use Rattle.c_types.specs.Faults.{first}
+use Rattle.c_expr_types.specs.declared.fault.Fault.{Fault}
+use Rattle.c_expr_types.specs.declared.fault.TypeFault.{TypeFault}
+use Rattle.c_expr_types.specs.declared.fault.TypeFault.TheVariants as types
+use Rattle.c_expr_types.specs.Faults.{first}
 use Rattle.c_types.specs.Definitions.{Types, first_fault}
 use Rattle.c_front.specs.declared.fault.FaultKind.{FaultKind}
 use Rattle.c_front.specs.declared.fault.FaultKind.TheVariants.{BadByte, BadLiteral, Directive, TooMany, Syntax, TooDeep, Kind}

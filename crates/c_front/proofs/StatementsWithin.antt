@@ -12,15 +12,15 @@ use Rattle.c_expr_parser.specs.Placed.{Placed, at, start}
 use Rattle.c_expr_parser.specs.Expressions.{Assignment}
 use Rattle.c_expr_parser.specs.Declarations.{Commas, Declarators, Variable, Variables}
 use Rattle.c_expr_parser.specs.Statements.{Ending, stmt, declares, Optional, First, Statement, Items}
-use Rattle.c_types.specs.declared.fault.TypeKind.TheVariants.{DeclaredTwice, WrongType, LeavesTransaction}
-use Rattle.c_types.specs.declared.found.Found.{Found}
-use Rattle.c_types.specs.declared.lookup.Position.TheVariants.{InFunction}
+use Rattle.c_expr_types.specs.declared.fault.TypeKind.TheVariants.{DeclaredTwice, WrongType, LeavesTransaction}
+use Rattle.c_expr_types.specs.declared.found.Found.{Found}
+use Rattle.c_definitions.specs.declared.lookup.Position.TheVariants.{InFunction}
 use Rattle.c_types.specs.declared.statement.Loop.{Loop}
 use Rattle.c_types.specs.declared.statement.Loop.TheVariants as loop
-use Rattle.c_types.specs.Faults.{unless}
-use Rattle.c_types.specs.Found.{is_evaluated}
-use Rattle.c_types.specs.Lookup.{Names, Scopes, declare, is_repeated}
-use Rattle.c_types.specs.Expressions.{is_condition, fits, unknown_tag, infer}
+use Rattle.c_expr_types.specs.Faults.{unless}
+use Rattle.c_expr_types.specs.Found.{is_evaluated}
+use Rattle.c_definitions.specs.Lookup.{Names, Scopes, declare, is_repeated}
+use Rattle.c_expr_types.specs.Expressions.{is_condition, fits, unknown_tag, infer}
 use Rattle.c_types.specs.Statements.{Around, Walked, in_block, in_loop, in_a_transaction, behind, part_in, expression_faults, optional_faults, walk_declaration, jump_faults, leaving_faults, return_faults, value_return_faults, in_order, for_faults, stmt_node, walk}
 use Rattle.c_types.proofs.FoldsAtNode.{walk_at}
 use Rattle.c_front.proofs.FaultsWithin.{Within, PartWithin, within_append, within_unless, within_hiding, required_within}

@@ -7,8 +7,8 @@ use Rattle.c_lexer.specs.Cut.{Lexes}
 use Rattle.c_tree.specs.declared.def.Program.{Program}
 use Rattle.c_expr_parser.specs.Placed.{Placed, tokens}
 use Rattle.c_expr_parser.specs.Definitions.{TranslationUnit}
-use Rattle.c_types.specs.declared.fault.Fault.{Fault}
-use Rattle.c_types.specs.Faults.{first}
+use Rattle.c_expr_types.specs.declared.fault.Fault.{Fault}
+use Rattle.c_expr_types.specs.Faults.{first}
 use Rattle.c_types.specs.Definitions.{faults_in}
 use Rattle.c_front.specs.Accepted.{IsReadAs, ending, FirstFault, byte, literal, directive, many, syntax_at, deep, type}
 use Rattle.c_front.specs.Laws.{FaultsWithinTexts}

@@ -6,8 +6,8 @@ use Rattle.c_lexer.specs.declared.token.LexFault.{LexFault}
 use Rattle.c_lexer.specs.declared.token.LexFault.TheVariants as lexer
 use Rattle.c_expr_parser.specs.declared.parser.SyntaxFault.{SyntaxFault}
 use Rattle.c_expr_parser.specs.declared.parser.SyntaxFault.TheVariants as parser
-use Rattle.c_types.specs.declared.fault.TypeFault.{TypeFault}
-use Rattle.c_types.specs.declared.fault.TypeFault.TheVariants as types
+use Rattle.c_expr_types.specs.declared.fault.TypeFault.{TypeFault}
+use Rattle.c_expr_types.specs.declared.fault.TypeFault.TheVariants as types
 use Rattle.c_front.specs.declared.fault.TextFault.{TextFault}
 use Rattle.c_front.specs.declared.fault.TextFault.TheVariants.{Refused, Memory}
 use Rattle.c_front.specs.declared.fault.FaultKind.TheVariants.{BadByte, BadLiteral, Directive, TooMany, Syntax, TooDeep, Kind}

@@ -5,9 +5,9 @@ use Rattle.std.specs.Prelude.{codes, replicate}
 use Rattle.std.specs.List.{range_with_len}
 use Rattle.c_ints.specs.declared.kind.Kind.TheVariants.{I32}
 use Rattle.c_ints.specs.Number.{number}
-use Rattle.bytecode.specs.CheckIns.{CheckInKind, Entry}
-use Rattle.bytecode.specs.CheckIns as check_in
-use Rattle.bytecode.specs.Skeleton.{PointKind, Point, CheckIn, Call, ReadGlobal, WriteGlobal, Lock, Return, Back, Begin, End, Update, point_at, reached}
+use Rattle.run_types.specs.CheckIns.{CheckInKind, Entry}
+use Rattle.run_types.specs.CheckIns as check_in
+use Rattle.run_types.specs.Skeleton.{PointKind, Point, CheckIn, Call, ReadGlobal, WriteGlobal, Lock, Return, Back, Begin, End, Update, point_at, reached}
 use Rattle.c_tree.specs.BareExpr.{Bytes}
 use Rattle.c_semantics.specs.Resolved.{Expression, Statement, Statements, NoExpressions, NoStatements, StatementThen}
 use Rattle.c_semantics.specs.Resolved as tree

@@ -1,9 +1,9 @@
 -- Local evaluation of a tree that is at its place in a skeleton stops at the tree's points, and then at those after it.
 use Rattle.std.proofs.Common.{◌≡◌, ◌≢◌, ℕ, zero, suc, ◌+◌, Bool, true, List, [], ◌∷◌, ◌++◌, Some, None, refl, subst, append_assoc, append-nil}
-use Rattle.bytecode.specs.CheckIns.{CheckInKind}
-use Rattle.bytecode.specs.CheckIns as check_in
-use Rattle.bytecode.specs.Skeleton.{PointKind, Point, Skeleton, check_in_after, depth_after}
-use Rattle.bytecode.specs.Skeleton as kind
+use Rattle.run_types.specs.CheckIns.{CheckInKind}
+use Rattle.run_types.specs.CheckIns as check_in
+use Rattle.run_types.specs.Skeleton.{PointKind, Point, Skeleton, check_in_after, depth_after}
+use Rattle.run_types.specs.Skeleton as kind
 use Rattle.c_semantics.specs.Values.{Number, int_of, converted_to}
 use Rattle.c_semantics.specs.Resolved.{Expression, Expressions, Place, Constant, Read, Unary, Binary, Convert, And, Or, Choice, Assign, Update, Postfix, Call, Print, New, Free, Create, Join, JoinInto, InitMutex, Lock, Unlock, NoExpressions, ExpressionThen, Local, Global, Element, Field}
 use Rattle.c_semantics.specs.Points.{reads, writes, of_expression, of_expressions, of_parts, size, size_all, size_parts, size_read}

@@ -1,9 +1,9 @@
 -- The same of statements: control goes on after them, to the end of a loop at a `break`, to its next turn at a `continue`.
 use Rattle.std.proofs.Common.{◌≡◌, ℕ, zero, suc, ◌+◌, Bool, true, false, ◌&&◌, List, [], ◌∷◌, ◌++◌, Option, Some, None, refl, sym, ◌∙◌, ap, subst, append_assoc, append-nil, add-zero}
 use Rattle.std.specs.Prelude.{◌==◌}
-use Rattle.bytecode.specs.CheckIns as check_in
-use Rattle.bytecode.specs.Skeleton.{PointKind, Point, Skeleton}
-use Rattle.bytecode.specs.Skeleton as kind
+use Rattle.run_types.specs.CheckIns as check_in
+use Rattle.run_types.specs.Skeleton.{PointKind, Point, Skeleton}
+use Rattle.run_types.specs.Skeleton as kind
 use Rattle.c_semantics.specs.Values.{zero_of}
 use Rattle.c_semantics.specs.Resolved.{Expression, Statement, Statements, Local, Block, Empty, Evaluate, Declare, If, IfElse, While, DoWhile, For, Break, Continue, Return, UpdatePoint, Transaction, NoStatements, StatementThen}
 use Rattle.c_semantics.specs.Points.{at_depth, evaluated, evaluated_if, of_statement, of_statements, size, size_if, size_stmt, size_stmts}

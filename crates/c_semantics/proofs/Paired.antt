@@ -2,10 +2,10 @@
 use Rattle.std.proofs.Common.{◌≡◌, ℕ, zero, suc, List, [], ◌∷◌, ◌++◌, map, Option, Some, None, refl, sym, ◌∙◌, ap, subst}
 use Rattle.std.specs.Prelude.{slice_get, option_map}
 use Rattle.std.specs.Option.{option_and_then}
-use Rattle.bytecode.specs.CheckIns.{CheckInKind}
-use Rattle.bytecode.specs.CheckIns as check_in
-use Rattle.bytecode.specs.Skeleton.{PointKind, Point, check_in_of, check_in_after, check_in_at, point_at, after}
-use Rattle.bytecode.specs.Skeleton as kind
+use Rattle.run_types.specs.CheckIns.{CheckInKind}
+use Rattle.run_types.specs.CheckIns as check_in
+use Rattle.run_types.specs.Skeleton.{PointKind, Point, check_in_of, check_in_after, check_in_at, point_at, after}
+use Rattle.run_types.specs.Skeleton as kind
 use Rattle.c_semantics.specs.Resolved.{Expression, Expressions, Place, Statement, Statements, Constant, Read, Unary, Binary, Convert, And, Or, Choice, Assign, Update, Postfix, Call, Print, New, Free, Create, Join, JoinInto, InitMutex, Lock, Unlock, NoExpressions, ExpressionThen, Local, Global, Element, Field, Block, Empty, Evaluate, Declare, If, IfElse, While, DoWhile, For, Break, Continue, Return, UpdatePoint, Transaction, NoStatements, StatementThen}
 use Rattle.c_semantics.specs.Points.{at_depth, reads, writes, of_expression, of_expressions, of_parts, evaluated, evaluated_if, of_statement, of_statements}
 use Rattle.c_semantics.specs.Skeletons.{skeleton}

@@ -1,9 +1,9 @@
 -- A function has as many places as points.
 use Rattle.std.proofs.Common.{◌≡◌, ℕ, suc, List, [], ◌∷◌, length, Option, Some, None, refl, sym, ◌∙◌, ap}
 use Rattle.std.specs.Prelude.{slice_index_or, drop, unwrap_or}
-use Rattle.bytecode.specs.CheckIns as check_in
-use Rattle.bytecode.specs.Skeleton.{PointKind, Point}
-use Rattle.bytecode.specs.Skeleton as kind
+use Rattle.run_types.specs.CheckIns as check_in
+use Rattle.run_types.specs.Skeleton.{PointKind, Point}
+use Rattle.run_types.specs.Skeleton as kind
 use Rattle.c_tree.specs.declared.expr.Expr.{Expr}
 use Rattle.c_tree.specs.declared.stmt.Stmt.{Stmt, out-Stmt}
 use Rattle.c_tree.specs.Bare.{bare_function}

@@ -1,7 +1,7 @@
 -- Parts of lists by their place, and what a skeleton has from a point on.
 use Rattle.std.proofs.Common.{◌≡◌, ℕ, suc, ◌+◌, List, [], ◌∷◌, ◌++◌, map, length, Some, refl, sym, ◌∙◌, ap, subst, append_assoc, arith, length-append, add-one}
 use Rattle.std.specs.Prelude.{slice_get, slice_index_or}
-use Rattle.bytecode.specs.Skeleton.{PointKind, Point, Skeleton, point_at, successors}
+use Rattle.run_types.specs.Skeleton.{PointKind, Point, Skeleton, point_at, successors}
 use Rattle.c_semantics.specs.Points.{at_depth}
 
 -- ys is in xs, from place n on

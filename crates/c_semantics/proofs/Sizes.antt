@@ -1,6 +1,6 @@
 -- A part of a tree has as many points as ways on from points.
 use Rattle.std.proofs.Common.{◌≡◌, ℕ, suc, ◌+◌, List, [], ◌∷◌, ◌++◌, length, Option, Some, None, refl, sym, ◌∙◌, zero-add, append-nil, append_assoc, arith, length-append}
-use Rattle.bytecode.specs.Skeleton.{PointKind}
+use Rattle.run_types.specs.Skeleton.{PointKind}
 use Rattle.c_semantics.specs.Resolved.{Expression, Expressions, Place, Statement, Statements, Constant, Read, Unary, Binary, Convert, And, Or, Choice, Assign, Update, Postfix, Call, Print, New, Free, Create, Join, JoinInto, InitMutex, Lock, Unlock, NoExpressions, ExpressionThen, Local, Global, Element, Field, Block, Empty, Evaluate, Declare, If, IfElse, While, DoWhile, For, Break, Continue, Return, UpdatePoint, Transaction, NoStatements, StatementThen}
 use Rattle.c_semantics.specs.Points.{reads, writes, of_expression, of_expressions, of_parts, evaluated, evaluated_if, of_statement, of_statements, size, size_if, size_stmt, size_stmts}
 use Rattle.c_semantics.specs.Skeletons.{Flow, Targets, union, on_to, guarded, loop, access, expression, expressions, parts, expression_if, statement, statements}

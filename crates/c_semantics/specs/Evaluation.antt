@@ -9,7 +9,7 @@ use Rattle.c_ints.specs.declared.operator.ArithTrap.{ArithTrap}
 use Rattle.c_ints.specs.declared.operator.BinOp.{BinOp}
 use Rattle.c_ints.specs.declared.operator.UnOp.{UnOp}
 use Rattle.c_ints.specs.Arithmetic.{truth}
-use Rattle.bytecode.specs.Trap.{trap_of}
+use Rattle.run_types.specs.Trap.{trap_of}
 use Rattle.c_tree.specs.BareExpr.{Bytes, BareType}
 use Rattle.c_semantics.specs.Values.{Value, Number, Started, int_of, zero_of, converted_to, is_true, binary_result, unary_result}
 use Rattle.c_semantics.specs.Resolved.{Expression, Expressions, Place, Statement, Statements, Constant, Read, Unary, Binary, Convert, And, Or, Choice, Assign, Update, Postfix, Call, Print, New, Free, Create, Join, JoinInto, InitMutex, Lock, Unlock, NoExpressions, ExpressionThen, Local, Global, Element, Field, Block, Empty, Evaluate, Declare, If, IfElse, While, DoWhile, For, Break, Continue, Return, UpdatePoint, Transaction, NoStatements, StatementThen}

@@ -1,6 +1,6 @@
 -- What a thread has still to evaluate, as a list of pieces of its function's tree.
 use Rattle.std.specs.Prelude.{ℕ, ◌+◌, List, Option}
-use Rattle.bytecode.specs.declared.trap.TrapKind.{TrapKind}
+use Rattle.run_types.specs.declared.trap.TrapKind.{TrapKind}
 use Rattle.c_ints.specs.declared.operator.BinOp.{BinOp}
 use Rattle.c_ints.specs.declared.operator.UnOp.{UnOp}
 use Rattle.c_tree.specs.BareExpr.{Bytes, BareType}

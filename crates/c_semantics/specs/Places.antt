@@ -5,7 +5,7 @@
 -- The tree with names resolved is followed along the tree with places. The first has conversions besides, and the second
 -- casts, which make no point.
 use Rattle.std.specs.Prelude.{ℕ, List, [], ◌∷◌, ◌++◌, map, slice_index_or, drop, Option, Some, None, unwrap_or}
-use Rattle.bytecode.specs.Skeleton.{PointKind}
+use Rattle.run_types.specs.Skeleton.{PointKind}
 use Rattle.c_tree.specs.declared.expr.Expr.{Expr, out-Expr, roll-Expr}
 use Rattle.c_tree.specs.declared.expr.Expr.TheFolds.{fold-Expr}
 use Rattle.c_tree.specs.declared.expr.ExprNode.{ExprNode}

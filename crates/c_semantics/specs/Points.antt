@@ -2,9 +2,9 @@
 -- begin and the end of a transaction and after update points.
 use Rattle.std.specs.Prelude.{ℕ, suc, List, [], ◌∷◌, ◌++◌, map, length, Option}
 use Rattle.std.specs.Option.{option_map_or}
-use Rattle.bytecode.specs.Skeleton.{PointKind, Point}
-use Rattle.bytecode.specs.Skeleton as kind
-use Rattle.bytecode.specs.CheckIns as check_in
+use Rattle.run_types.specs.Skeleton.{PointKind, Point}
+use Rattle.run_types.specs.Skeleton as kind
+use Rattle.run_types.specs.CheckIns as check_in
 use Rattle.c_semantics.specs.Names.{struct_name}
 use Rattle.c_semantics.specs.Resolved.{Expression, Expressions, Place, Statement, Statements, Constant, Read, Unary, Binary, Convert, And, Or, Choice, Assign, Update, Postfix, Call, Print, New, Free, Create, Join, JoinInto, InitMutex, Lock, Unlock, NoExpressions, ExpressionThen, Local, Global, Element, Field, Block, Empty, Evaluate, Declare, If, IfElse, While, DoWhile, For, Break, Continue, Return, UpdatePoint, Transaction, NoStatements, StatementThen}
 

@@ -1,7 +1,7 @@
 -- What ties the machine to skeletons: a thread goes through a function's body along the skeleton of the body.
 use Rattle.std.specs.Prelude.{◌≡◌, ◌≢◌, ℕ, ◌<◌, IsTrue, List, [], ◌∷◌, Some, length}
-use Rattle.bytecode.specs.CheckIns.{CheckInKind}
-use Rattle.bytecode.specs.Skeleton.{Skeleton, Leads, entry, after, reached, kind_at, point_at, check_in_at, check_in_after, depth_after, successors}
+use Rattle.run_types.specs.CheckIns.{CheckInKind}
+use Rattle.run_types.specs.Skeleton.{Skeleton, Leads, entry, after, reached, kind_at, point_at, check_in_at, check_in_after, depth_after, successors}
 use Rattle.c_tree.specs.BareExpr.{BareType}
 use Rattle.c_tree.specs.Bare.{bare_function}
 use Rattle.c_tree.specs.declared.def.Function.{Function}

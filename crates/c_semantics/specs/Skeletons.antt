@@ -2,7 +2,7 @@
 -- Each condition is taken both ways, also in `&&`, `||` and `?:`.
 use Rattle.std.specs.Prelude.{ℕ, ◌+◌, ◌==◌, nat_lt, Bool, List, [], ◌∷◌, ◌++◌, Option, Some, None, count_by, filter_map, if◌then◌else◌}
 use Rattle.std.specs.Option.{is_some}
-use Rattle.bytecode.specs.Skeleton.{PointKind, Skeleton, direct_use, check_in_of, after}
+use Rattle.run_types.specs.Skeleton.{PointKind, Skeleton, direct_use, check_in_of, after}
 use Rattle.c_tree.specs.BareExpr.{Bytes}
 use Rattle.c_tree.specs.BareDef.{BareDef}
 use Rattle.name_sets.specs.NameLists.{name_set}

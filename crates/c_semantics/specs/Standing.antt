@@ -1,6 +1,6 @@
 -- Where a thread stands, as a point of the body that its frame has entered.
 use Rattle.std.specs.Prelude.{ℕ, Option, Some, None}
-use Rattle.bytecode.specs.Skeleton.{Skeleton, reached}
+use Rattle.run_types.specs.Skeleton.{Skeleton, reached}
 use Rattle.c_semantics.specs.Threads.{Frame, Enter}
 
 -- the point of a thread in its innermost frame. Where an enter is due it is the call; else the frame's last stop, or the

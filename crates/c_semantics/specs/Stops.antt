@@ -1,7 +1,7 @@
 -- The stops of a thread.
 use Rattle.std.specs.Prelude.{ℕ}
-use Rattle.bytecode.specs.Skeleton.{PointKind}
-use Rattle.bytecode.specs.Skeleton as kind
+use Rattle.run_types.specs.Skeleton.{PointKind}
+use Rattle.run_types.specs.Skeleton as kind
 use Rattle.c_tree.specs.BareExpr.{Bytes}
 use Rattle.c_semantics.specs.Names.{struct_name}
 

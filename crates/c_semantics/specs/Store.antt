@@ -2,7 +2,7 @@
 use Rattle.std.specs.Prelude.{ℕ, suc, ◌==◌, max, nat_le, Bool, not, ◌&&◌, ◌||◌, List, [], ◌∷◌, ◌++◌, filter_map, find, sum_by, Option, Some, None, bytes_eq, take, count_by, if◌then◌else◌}
 use Rattle.std.specs.Option.{option_map_or}
 use Rattle.std.specs.List.{list_any}
-use Rattle.bytecode.specs.Skeleton.{Skeleton}
+use Rattle.run_types.specs.Skeleton.{Skeleton}
 use Rattle.name_sets.specs.NameLists.{is_among}
 use Rattle.c_tree.specs.BareExpr.{Bytes}
 use Rattle.c_tree.specs.BareDef.{BareDef, Function}

@@ -8,15 +8,15 @@ use Rattle.c_tree.specs.BareExpr.{Bytes}
 use Rattle.c_tree.specs.declared.name.CType.{CType}
 use Rattle.c_tree.specs.declared.def.Binding.{Binding}
 use Rattle.c_tree.specs.declared.def.Def.{Def}
-use Rattle.c_types.specs.declared.fault.Fault.{Fault}
-use Rattle.c_types.specs.declared.fault.TypeKind.TheVariants.{DeclaredTwice}
-use Rattle.c_types.specs.Faults.{first, sooner, unless}
-use Rattle.c_types.specs.Found.{same_type}
-use Rattle.c_types.specs.Lookup.{Scopes, declare, is_repeated}
-use Rattle.c_types.specs.Expressions.{unknown_tag}
+use Rattle.c_expr_types.specs.declared.fault.Fault.{Fault}
+use Rattle.c_expr_types.specs.declared.fault.TypeKind.TheVariants.{DeclaredTwice}
+use Rattle.c_expr_types.specs.Faults.{first, sooner, unless}
+use Rattle.c_expr_types.specs.Found.{same_type}
+use Rattle.c_definitions.specs.Lookup.{Scopes, declare, is_repeated}
+use Rattle.c_expr_types.specs.Expressions.{unknown_tag}
 use Rattle.c_types.specs.Definitions.{bindings, same_types, with_parameters}
-use Rattle.c_types.proofs.Firsts.{first_append, sooner_of_three}
-use Rattle.c_types.proofs.Index.{one_more, one_more_is, look_up_one_more}
+use Rattle.c_expr_types.proofs.Firsts.{first_append, sooner_of_three}
+use Rattle.c_definitions.proofs.Index.{one_more, one_more_is, look_up_one_more}
 
 -- what is wrong with one of them
 abbrev pub binding_faults : List Def → Scopes → Binding → List Fault

@@ -9,13 +9,13 @@ use Rattle.c_tree.specs.declared.def.Binding.{Binding}
 use Rattle.c_tree.specs.declared.def.Def.{Def}
 use Rattle.c_tree.specs.declared.def.DefKind.{DefKind}
 use Rattle.c_tree.specs.declared.def.DefKind.TheVariants as kind
-use Rattle.c_types.specs.declared.key.Key.{Key}
-use Rattle.c_types.specs.declared.key.Key.TheVariants as by
-use Rattle.c_types.specs.Lookup.{definition_of, members_of, members_in, struct_of}
-use Rattle.c_types.specs.Index.{is_key, key_of, keys, new_key}
+use Rattle.c_definitions.specs.declared.key.Key.{Key}
+use Rattle.c_definitions.specs.declared.key.Key.TheVariants as by
+use Rattle.c_definitions.specs.Lookup.{definition_of, members_of, members_in, struct_of}
+use Rattle.c_definitions.specs.Index.{is_key, key_of, keys, new_key}
 use Rattle.c_types.specs.Definitions.{name_added, names_of, cells_in, cells_of}
 use Rattle.c_types.specs.TransformSyntax.{of_struct, of_global}
-use Rattle.c_types.proofs.Index.{named_found, struct_found}
+use Rattle.c_definitions.proofs.Index.{named_found, struct_found}
 
 -- how many names
 distinct : List (Option Bytes) → ℕ

@@ -3,11 +3,11 @@ use Rattle.std.proofs.Common.{◌≡◌, ℕ, ◌+◌, ◌<◌, List, ◌++◌, 
 use Rattle.std.proofs.lemmas.List.{at_drop_more}
 use Rattle.std.proofs.lemmas.Option.{slice_get_read}
 use Rattle.c_tree.specs.declared.def.Def.{Def}
-use Rattle.c_types.specs.declared.fault.Fault.{Fault}
-use Rattle.c_types.specs.Faults.{first, sooner}
+use Rattle.c_expr_types.specs.declared.fault.Fault.{Fault}
+use Rattle.c_expr_types.specs.Faults.{first, sooner}
 use Rattle.c_types.specs.Definitions.{all_faults, kind_faults}
 use Rattle.c_types.proofs.Counts.{taken_more}
-use Rattle.c_types.proofs.Firsts.{first_append, sooner_of_three}
+use Rattle.c_expr_types.proofs.Firsts.{first_append, sooner_of_three}
 
 -- the definition at an index
 pub definition_at_index : (ds text : List Def) (i : ℕ) (d : Def) → ds ≡ text → i < length ds → d ≡ get_or ds i d → slice_get text i ≡ Some d

@@ -8,8 +8,8 @@ use Rattle.c_tree.specs.declared.name.CType.TheVariants.{Integer, Handle, Thread
 use Rattle.c_tree.specs.declared.expr.ExprNode.TheVariants as node
 use Rattle.c_tree.specs.declared.stmt.StmtNode.TheVariants as made
 use Rattle.c_tree.specs.declared.def.DefKind.TheVariants as kind
-use Rattle.c_types.specs.declared.fault.TypeKind.TheVariants.{UnknownName, BadFormat, LeavesTransaction}
-use Rattle.c_types.specs.Faults.{fault}
+use Rattle.c_expr_types.specs.declared.fault.TypeKind.TheVariants.{UnknownName, BadFormat, LeavesTransaction}
+use Rattle.c_expr_types.specs.Faults.{fault}
 use Rattle.c_types.specs.Definitions.{first_fault}
 use Rattle.c_types.proofs.Samples.{name, expr, stmt, variable, binding, field_value, function, def, program}
 use Rattle.c_types.proofs.FoldsAtNode.{infer_at, need_at, allowed_at, old_at, walk_at, stmt_need_at, variables_at}

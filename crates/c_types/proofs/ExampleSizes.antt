@@ -10,7 +10,7 @@ use Rattle.c_tree.specs.declared.expr.ExprNode.TheVariants as node
 use Rattle.c_tree.specs.declared.stmt.Stmt.{Stmt}
 use Rattle.c_tree.specs.declared.stmt.StmtNode.TheVariants as made
 use Rattle.c_tree.specs.declared.def.Function.{Function}
-use Rattle.c_types.specs.Need.{need, body_need}
+use Rattle.c_expr_types.specs.Need.{need, body_need}
 use Rattle.c_types.specs.Statements.{total, variables}
 use Rattle.c_types.specs.Definitions.{is_small}
 use Rattle.c_types.proofs.Samples.{name, expr, stmt, variable, function}

@@ -7,10 +7,10 @@ use Rattle.c_tree.specs.declared.stmt.Stmt.{Stmt}
 use Rattle.c_tree.specs.declared.stmt.Stmt.TheFolds.{fold-roll-Stmt, map-Stmt}
 use Rattle.c_tree.specs.declared.stmt.StmtNode.{StmtNode}
 use Rattle.c_tree.specs.declared.def.Def.{Def}
-use Rattle.c_types.specs.Lookup.{Names}
-use Rattle.c_types.specs.declared.found.Part.{Part}
-use Rattle.c_types.specs.Expressions.{part, infer}
-use Rattle.c_types.specs.Need.{node_need, need, stmt_node_need, stmt_need}
+use Rattle.c_definitions.specs.Lookup.{Names}
+use Rattle.c_expr_types.specs.declared.found.Part.{Part}
+use Rattle.c_expr_types.specs.Expressions.{part, infer}
+use Rattle.c_expr_types.specs.Need.{node_need, need, stmt_node_need, stmt_need}
 use Rattle.c_types.specs.Statements.{Around, Walked, stmt_node, walk, node_variables, variables}
 use Rattle.c_types.specs.TransformSyntax.{Form, allows, names_old, form, form_of}
 use Rattle.c_types.proofs.Samples.{expr, stmt}

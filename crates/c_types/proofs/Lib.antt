@@ -1,13 +1,9 @@
-pub mod Conversions
 pub mod Bindings
 pub mod Counts
-pub mod Firsts
 pub mod TransformedFields
 pub mod DefinitionsByIndex
-pub mod Index
-pub mod InferredByForm
 pub mod Measures
-pub mod Needs
+pub mod Hiding
 pub mod Samples
 pub mod FoldsAtNode
 pub mod StatementsByNode

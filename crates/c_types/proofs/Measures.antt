@@ -3,7 +3,7 @@ use Rattle.std.proofs.Common.{◌≡◌, ℕ, ◌+◌, min, max, ◌∙◌, ap, 
 use Rattle.c_tree.specs.declared.stmt.Stmt.{Stmt, out-Stmt}
 use Rattle.c_tree.specs.declared.stmt.Stmt.TheFolds.{fold_out-Stmt, map-Stmt}
 use Rattle.c_tree.specs.declared.stmt.StmtNode.{StmtNode}
-use Rattle.c_types.specs.Need.{stmt_need, stmt_node_need}
+use Rattle.c_expr_types.specs.Need.{stmt_need, stmt_node_need}
 use Rattle.c_types.specs.Statements.{variables, node_variables}
 
 pub capped_sum : (r a b x y : ℕ) → r ≡ min (a + b) 65 → a ≡ min x 65 → b ≡ min y 65 → r ≡ min (x + y) 65

@@ -8,12 +8,12 @@ use Rattle.c_tree.specs.declared.stmt.Stmt.{Stmt, out-Stmt}
 use Rattle.c_tree.specs.declared.stmt.Stmt.TheFolds.{fold_out-Stmt, map-Stmt}
 use Rattle.c_tree.specs.declared.stmt.StmtNode.{StmtNode}
 use Rattle.c_tree.specs.declared.stmt.StmtNode.TheVariants.{Block, Empty, Evaluate, Declare, If, IfElse, While, DoWhile, For, Break, Continue, Return, ReturnValue, Update, Transaction}
-use Rattle.c_types.specs.declared.fault.Fault.{Fault}
-use Rattle.c_types.specs.Faults.{sooner, first}
-use Rattle.c_types.proofs.Firsts.{sooner_of_three, first_append}
-use Rattle.c_types.specs.Lookup.{Scopes, is_repeated}
-use Rattle.c_types.specs.Expressions.{is_condition}
-use Rattle.c_types.specs.Found.{is_evaluated}
+use Rattle.c_expr_types.specs.declared.fault.Fault.{Fault}
+use Rattle.c_expr_types.specs.Faults.{sooner, first}
+use Rattle.c_expr_types.proofs.Firsts.{sooner_of_three, first_append}
+use Rattle.c_definitions.specs.Lookup.{Scopes, is_repeated}
+use Rattle.c_expr_types.specs.Expressions.{is_condition}
+use Rattle.c_expr_types.specs.Found.{is_evaluated}
 use Rattle.c_types.specs.Statements.{Around, Walked, behind, expression_faults, in_block, in_loop, in_order, optional_faults, stmt_node, walk}
 
 -- a statement by its node

@@ -7,10 +7,10 @@ use Rattle.c_tree.specs.BareExpr.{Bytes}
 use Rattle.c_tree.specs.declared.def.Binding.{Binding}
 use Rattle.c_tree.specs.declared.def.FieldValue.{FieldValue}
 use Rattle.c_tree.specs.declared.def.Def.{Def}
-use Rattle.c_types.specs.Expressions.{member}
+use Rattle.c_definitions.specs.Lookup.{member}
 use Rattle.c_types.specs.TransformSyntax.{transforms_fields, is_transforming}
 use Rattle.c_types.proofs.Bindings.{some_of_two}
-use Rattle.c_types.proofs.Index.{one_more, one_more_is, look_up_one_more}
+use Rattle.c_definitions.proofs.Index.{one_more, one_more_is, look_up_one_more}
 
 -- the fields of some, the last first
 pub later_of : List FieldValue → List (Bytes × Bool)

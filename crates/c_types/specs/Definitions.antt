@@ -20,16 +20,16 @@ use Rattle.c_tree.specs.declared.def.Def.{Def}
 use Rattle.c_tree.specs.declared.def.DefKind.{DefKind}
 use Rattle.c_tree.specs.declared.def.DefKind.TheVariants as kind
 use Rattle.c_tree.specs.declared.def.Program.{Program}
-use Rattle.c_types.specs.declared.fault.TypeKind.TheVariants.{DeclaredTwice, WrongType, NoMain, OverLimit, BadTransformer}
-use Rattle.c_types.specs.declared.fault.Fault.{Fault}
-use Rattle.c_types.specs.Faults.{fault, unless, first}
-use Rattle.c_types.specs.Lookup.{Meaning, Scopes, name_of, meaning_in, definition_of, defined, members_of, types_of, declare}
-use Rattle.c_types.specs.Lookup.Meaning.{AFunction}
-use Rattle.c_types.specs.declared.lookup.Position.TheVariants.{InInitialiser}
-use Rattle.c_types.specs.declared.found.Part.{Part}
-use Rattle.c_types.specs.Found.{required, same_type}
-use Rattle.c_types.specs.Expressions.{is_int, fits, unknown_tag, infer}
-use Rattle.c_types.specs.Need.{need, optional_need, greatest, body_need}
+use Rattle.c_expr_types.specs.declared.fault.TypeKind.TheVariants.{DeclaredTwice, WrongType, NoMain, OverLimit, BadTransformer}
+use Rattle.c_expr_types.specs.declared.fault.Fault.{Fault}
+use Rattle.c_expr_types.specs.Faults.{fault, unless, first}
+use Rattle.c_definitions.specs.Lookup.{Meaning, Scopes, name_of, meaning_in, definition_of, defined, members_of, types_of, declare}
+use Rattle.c_definitions.specs.Lookup.Meaning.{AFunction}
+use Rattle.c_definitions.specs.declared.lookup.Position.TheVariants.{InInitialiser}
+use Rattle.c_expr_types.specs.declared.found.Part.{Part}
+use Rattle.c_expr_types.specs.Found.{required, same_type}
+use Rattle.c_expr_types.specs.Expressions.{is_int, fits, unknown_tag, infer}
+use Rattle.c_expr_types.specs.Need.{need, optional_need, greatest, body_need}
 use Rattle.c_types.specs.Statements.{Around, hiding, in_order, walk, total, variables}
 use Rattle.c_types.specs.declared.statement.Loop.TheVariants.{Outside}
 use Rattle.c_types.specs.TransformSyntax.{transforms_struct, is_transforming, is_global, of_struct, of_global}

@@ -1,11 +1,4 @@
-pub mod Faults
-pub mod Lookup
-pub mod Found
-pub mod Formats
-pub mod Expressions
-pub mod Need
 pub mod Statements
 pub mod Views
 pub mod TransformSyntax
-pub mod Index
 pub mod Definitions

@@ -9,17 +9,17 @@ use Rattle.c_tree.specs.declared.stmt.Stmt.TheFolds.{fold-Stmt}
 use Rattle.c_tree.specs.declared.stmt.StmtNode.{StmtNode}
 use Rattle.c_tree.specs.declared.stmt.StmtNode.TheVariants.{Block, Empty, Evaluate, Declare, If, IfElse, While, DoWhile, For, Break, Continue, Return, ReturnValue, Update, Transaction}
 use Rattle.c_tree.specs.declared.def.Def.{Def}
-use Rattle.c_types.specs.declared.fault.TypeKind.TheVariants.{DeclaredTwice, WrongType, OutsideLoop, LeavesTransaction}
-use Rattle.c_types.specs.declared.fault.Fault.{Fault}
-use Rattle.c_types.specs.Faults.{fault, unless}
-use Rattle.c_types.specs.Lookup.{Scopes, declare, is_repeated}
-use Rattle.c_types.specs.declared.lookup.Position.TheVariants.{InFunction}
+use Rattle.c_expr_types.specs.declared.fault.TypeKind.TheVariants.{DeclaredTwice, WrongType, OutsideLoop, LeavesTransaction}
+use Rattle.c_expr_types.specs.declared.fault.Fault.{Fault}
+use Rattle.c_expr_types.specs.Faults.{fault, unless}
+use Rattle.c_definitions.specs.Lookup.{Scopes, declare, is_repeated}
+use Rattle.c_definitions.specs.declared.lookup.Position.TheVariants.{InFunction}
 use Rattle.c_types.specs.declared.statement.Loop.{Loop}
 use Rattle.c_types.specs.declared.statement.Loop.TheVariants.{Outside, Within, Beyond}
-use Rattle.c_types.specs.declared.found.Found.{Found}
-use Rattle.c_types.specs.declared.found.Part.{Part}
-use Rattle.c_types.specs.Found.{required, is_evaluated}
-use Rattle.c_types.specs.Expressions.{is_condition, fits, unknown_tag, infer}
+use Rattle.c_expr_types.specs.declared.found.Found.{Found}
+use Rattle.c_expr_types.specs.declared.found.Part.{Part}
+use Rattle.c_expr_types.specs.Found.{required, is_evaluated}
+use Rattle.c_expr_types.specs.Expressions.{is_condition, fits, unknown_tag, infer}
 
 -- what surrounds a statement
 pub record Around : Type 0 where

@@ -12,9 +12,10 @@ use Rattle.c_tree.specs.declared.def.FieldValue.{FieldValue}
 use Rattle.c_tree.specs.declared.def.Def.{Def}
 use Rattle.c_tree.specs.declared.def.DefKind.{DefKind}
 use Rattle.c_tree.specs.declared.def.DefKind.TheVariants as kind
-use Rattle.c_types.specs.Lookup.{Meaning, is_known}
-use Rattle.c_types.specs.Lookup.Meaning.{AVariable, AnArray}
-use Rattle.c_types.specs.Expressions.{is_safe, member}
+use Rattle.c_definitions.specs.Lookup.{Meaning, is_known}
+use Rattle.c_definitions.specs.Lookup.Meaning.{AVariable, AnArray}
+use Rattle.c_expr_types.specs.Expressions.{is_safe}
+use Rattle.c_definitions.specs.Lookup.{member}
 
 -- an expression of a transformer: whether its operators and names are allowed, and whether it is the name `old`
 pub record Form : Type 0 where

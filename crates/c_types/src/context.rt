@@ -1,15 +1,14 @@
 ghost use Rattle.std.specs.Prelude.{◌≡◌, ◌≤◌, ◌+◌, Some, min, take, if◌then◌else◌};
 ghost use Rattle.std.specs.List.{list_any, slice_get};
-ghost use Rattle.c_types.specs.declared.fault.TypeKind.TheVariants.{OverLimit};
+ghost use Rattle.c_expr_types.specs.declared.fault.TypeKind.TheVariants.{OverLimit};
 ghost use Rattle.c_types.specs.Definitions.{cells_in, cells_of, many_cells, many_names, name_added, named_twice, names_of, tagged_twice};
-ghost use Rattle.c_types.specs.Faults.{first, unless};
-ghost use Rattle.c_types.specs.Index.{key_of, keys, new_key};
+ghost use Rattle.c_expr_types.specs.Faults.{first, unless};
+ghost use Rattle.c_definitions.specs.Index.{key_of, keys, new_key};
 ghost use Rattle.c_types.specs.TransformSyntax.{of_global, of_struct};
 
-use crate::fault::{Fault, TypeKind, unless};
-use crate::key::{Key, key_of};
-use crate::known::Known;
 use crate::limits::MOST_CELLS;
+use c_definitions::{Key, Known, key_of};
+use c_expr_types::{Fault, TypeKind, unless};
 use c_tree::{Def, DefKind, Name};
 use name_sets::MOST_NAMES;
 

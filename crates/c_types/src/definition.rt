@@ -1,15 +1,12 @@
 ghost use Rattle.std.specs.Prelude.{◌≡◌, ◌&&◌, IfOk};
-ghost use Rattle.c_types.specs.declared.fault.TypeKind.TheVariants.{BadTransformer};
+ghost use Rattle.c_expr_types.specs.declared.fault.TypeKind.TheVariants.{BadTransformer};
 ghost use Rattle.c_types.specs.Definitions.{array_faults, forward_faults, function_faults, global_faults, global_transform_faults, kind_faults, mutex_faults, prototype_faults, struct_faults, struct_transform_faults};
-ghost use Rattle.c_types.specs.Faults.{first, unless};
+ghost use Rattle.c_expr_types.specs.Faults.{first, unless};
 ghost use Rattle.c_types.specs.Views.{before_seen};
 
 use crate::context::Context;
-use crate::expression::unknown_tag;
-use crate::fault::{Fault, TypeKind, sooner, unless};
 use crate::initial::{initial, initialisers_fault, initialisers_of, is_small_array};
 use crate::limits::MOST_FIELDS;
-use crate::lookup::defined;
 use crate::parameter::{agrees, bind, bindings_fault, parameters, result_fault};
 use crate::size;
 use crate::size::is_small;
@@ -17,6 +14,8 @@ use crate::statement::{Around, Loop, hiding};
 use crate::struct_transformer::transforms_struct;
 use crate::transformer::{are_light, is_global, is_light, is_transforming};
 use crate::walk::statements;
+use c_definitions::defined;
+use c_expr_types::{Fault, TypeKind, sooner, unknown_tag, unless};
 use c_scope::Scopes;
 use c_tree::{
     Array, Binding, Declaration, DefKind, Expr, Function, Name, Prototype, StructTransform,
@@ -25,7 +24,7 @@ use dsu_io::List;
 use std::alloc::{AllocError, Global};
 
 /// What is wrong with `struct T { .. };`.
-#[tactic(auto, using(crate::proofs::Firsts::first_append, crate::proofs::Firsts::first_hiding))]
+#[tactic(auto, using(c_expr_types::proofs::Firsts::first_append, crate::proofs::Hiding::first_hiding))]
 fn struct_fault(
     alloc: Global,
     at: &Context,
@@ -56,7 +55,7 @@ fn mutex_fault(at: &Context, name: &Name) -> Option<Fault>
 }
 
 /// What is wrong with a function.
-#[tactic(auto, using(crate::proofs::Firsts::first_append, crate::proofs::Firsts::first_hiding))]
+#[tactic(auto, using(c_expr_types::proofs::Firsts::first_append, crate::proofs::Hiding::first_hiding))]
 fn function_fault(
     alloc: Global,
     at: &Context,
@@ -83,7 +82,7 @@ fn function_fault(
 }
 
 /// What is wrong with a prototype.
-#[tactic(auto, using(crate::proofs::Firsts::first_append, crate::proofs::Firsts::first_hiding))]
+#[tactic(auto, using(c_expr_types::proofs::Firsts::first_append, crate::proofs::Hiding::first_hiding))]
 fn prototype_fault(
     alloc: Global,
     at: &Context,
@@ -102,7 +101,7 @@ fn prototype_fault(
 }
 
 /// What is wrong with a global variable.
-#[tactic(auto, using(crate::proofs::Firsts::first_append, crate::proofs::Firsts::first_hiding))]
+#[tactic(auto, using(c_expr_types::proofs::Firsts::first_append, crate::proofs::Hiding::first_hiding))]
 fn global_fault(
     alloc: Global,
     at: &Context,
@@ -121,7 +120,7 @@ fn global_fault(
 }
 
 /// What is wrong with an array.
-#[tactic(auto, using(crate::proofs::Firsts::first_append, crate::proofs::Firsts::first_hiding))]
+#[tactic(auto, using(c_expr_types::proofs::Firsts::first_append, crate::proofs::Hiding::first_hiding))]
 fn array_fault(alloc: Global, at: &Context, array: &Array) -> Result<Option<Fault>, AllocError>
     ensures { IfOk result (λ fault. fault ≡ first (array_faults at.now.known.now (before_seen at.now) at.now.definition.now array.now)) }
 {

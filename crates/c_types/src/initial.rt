@@ -1,16 +1,12 @@
 ghost use Rattle.std.specs.Prelude.{◌≡◌, IfOk};
 ghost use Rattle.std.specs.List.{flat_map};
 ghost use Rattle.c_types.specs.Definitions.{initial, initialiser_faults, initialiser, is_small_array, initialisers_of};
-ghost use Rattle.c_types.specs.Faults.{first};
+ghost use Rattle.c_expr_types.specs.Faults.{first};
 
-use crate::expression::fits;
-use crate::fault::{Fault, sooner};
-use crate::found::Part;
-use crate::infer::infer;
-use crate::known::Known;
-use crate::limits::{LONGEST_ARRAY, MOST_NEED};
-use crate::lookup::{Names, Position};
+use crate::limits::LONGEST_ARRAY;
 use crate::size::greatest_need;
+use c_definitions::{Known, Names, Position};
+use c_expr_types::{Fault, MOST_NEED, Part, fits, infer, sooner};
 use c_scope::Scopes;
 use c_tree::{Array, CType, Expr};
 use dsu_io::List;

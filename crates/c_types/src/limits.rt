@@ -13,9 +13,6 @@ pub(crate) const MOST_VARIABLES: usize = 64;
 /// Fields of a struct.
 pub(crate) const MOST_FIELDS: usize = 16;
 
-/// The operand need of an expression.
-pub(crate) const MOST_NEED: u32 = 64;
-
 /// Cells of all globals and arrays of a text.
 pub(crate) const MOST_CELLS: u64 = 65_536;
 

@@ -1,9 +1,9 @@
 ghost use Rattle.std.specs.Prelude.{◌≡◌, ◌+◌, ◌≤◌, min, map};
-ghost use Rattle.c_types.specs.Need.{body_need, optional_need, stmt_need};
+ghost use Rattle.c_expr_types.specs.Need.{body_need, optional_need, stmt_need};
 ghost use Rattle.c_types.specs.Statements.{total, variables};
 
 use crate::limits::MOST_VARIABLES;
-use crate::need::need;
+use c_expr_types::need;
 use c_tree::{Expr, Stmt, StmtNode as Node};
 
 /// More than any number that is allowed; greater numbers aren't told apart.

@@ -1,25 +1,22 @@
 ghost use Rattle.std.specs.Prelude.{◌≡◌, ◌++◌, ◌&&◌, [], ◌∷◌, IfOk, OnOk, not, option_map};
 ghost use Rattle.std.specs.List.{flat_map};
-ghost use Rattle.c_types.specs.declared.fault.TypeKind.TheVariants.{DeclaredTwice};
+ghost use Rattle.c_expr_types.specs.declared.fault.TypeKind.TheVariants.{DeclaredTwice};
 ghost use Rattle.c_types.specs.Definitions.{agrees, bindings, parameter_types, parameters, result_faults, same_result, same_types, with_parameters};
-ghost use Rattle.c_types.specs.Expressions.{unknown_tag};
-ghost use Rattle.c_types.specs.Faults.{first, unless};
-ghost use Rattle.c_types.specs.Found.{same_type};
-ghost use Rattle.c_types.specs.Lookup.{declare, is_repeated, types_of};
-ghost use Rattle.c_types.specs.Views.{meaning_seen};
+ghost use Rattle.c_expr_types.specs.Expressions.{unknown_tag};
+ghost use Rattle.c_expr_types.specs.Faults.{first, unless};
+ghost use Rattle.c_expr_types.specs.Found.{same_type};
+ghost use Rattle.c_definitions.specs.Lookup.{declare, is_repeated, types_of};
+ghost use Rattle.c_definitions.specs.Views.{meaning_seen};
 
-use crate::expression::unknown_tag;
-use crate::fault::{Fault, TypeKind, sooner, unless};
-use crate::found::same;
-use crate::known::Known;
-use crate::lookup::Meaning;
 use crate::statement::declare_variable;
+use c_definitions::{Known, Meaning};
+use c_expr_types::{Fault, TypeKind, same, sooner, unknown_tag, unless};
 use c_scope::Scopes;
 use c_tree::{Binding, CType, Parameters};
 use std::alloc::{AllocError, Global};
 
 /// Adds a name with a type to the innermost block, unless that has one of its name; tells what is wrong with it.
-#[tactic(auto, using(crate::proofs::Firsts::first_append))]
+#[tactic(auto, using(c_expr_types::proofs::Firsts::first_append))]
 fn bind_one(
     known: &Known,
     scopes: &mut Scopes<CType>,

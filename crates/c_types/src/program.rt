@@ -1,19 +1,17 @@
 ghost use Rattle.std.specs.Prelude.{◌≡◌, [], ◌⊎◌, Some, IfOk, IfErr, codes, option_map};
-ghost use Rattle.c_types.specs.declared.fault.Fault.{Fault as AFault};
-ghost use Rattle.c_types.specs.declared.fault.TypeFault.TheVariants.{Refused, Memory};
+ghost use Rattle.c_expr_types.specs.declared.fault.Fault.{Fault as AFault};
+ghost use Rattle.c_expr_types.specs.declared.fault.TypeFault.TheVariants.{Refused, Memory};
 ghost use Rattle.c_types.specs.Definitions.{Types, all_faults, defines_main, first_fault, is_main, main_faults, name_place, names_of};
-ghost use Rattle.c_types.specs.Faults.{first};
-ghost use Rattle.c_types.specs.Lookup.{definition_of, name_of};
+ghost use Rattle.c_expr_types.specs.Faults.{first};
+ghost use Rattle.c_definitions.specs.Lookup.{definition_of, name_of};
 ghost use Rattle.c_types.specs.Statements.{hiding};
-ghost use Rattle.c_types.specs.Views.{meaning_seen};
+ghost use Rattle.c_definitions.specs.Views.{meaning_seen};
 
 use crate::context::{Context, more_cells, name_added};
 use crate::definition::kind_fault;
-use crate::fault::{Fault, TypeFault, TypeKind, sooner, unless};
-use crate::found::same;
-use crate::known::Known;
-use crate::lookup::{Meaning, meaning_in, name_of};
 use crate::statement::hiding;
+use c_definitions::{Known, Meaning, meaning_in, name_of};
+use c_expr_types::{Fault, TypeFault, TypeKind, same, sooner, unless};
 use c_ints::Kind;
 use c_tree::{CType, DefKind, Program};
 use std::alloc::{AllocError, Global};
@@ -146,7 +144,7 @@ fn examine_definitions(alloc: Global, known: &Known) -> Result<Findings, AllocEr
 }
 
 /// What is found in a text with an end: faults of its definitions hide that of `main`.
-#[tactic(auto, using(crate::proofs::Firsts::first_hiding))]
+#[tactic(auto, using(crate::proofs::Hiding::first_hiding))]
 fn examine_text(alloc: Global, known: &Known, end: usize) -> Result<Findings, AllocError>
     ensures fault { IfOk result (λ found. found.fault
         ≡ first (hiding (all_faults known.now [] known.now) (main_faults end (definition_of known.now (codes "main"))))) }

@@ -1,10 +1,10 @@
 ghost use Rattle.std.specs.Prelude.{◌≡◌, min, map, nat_le};
 ghost use Rattle.c_types.specs.Definitions.{is_small, max_need};
-ghost use Rattle.c_types.specs.Need.{greatest, need, optional_need};
+ghost use Rattle.c_expr_types.specs.Need.{greatest, need, optional_need};
 
-use crate::limits::{MOST_NEED, MOST_PARAMETERS, MOST_TOKENS, MOST_VARIABLES};
+use crate::limits::{MOST_PARAMETERS, MOST_TOKENS, MOST_VARIABLES};
 use crate::measure::{body_need, optional_need, variables};
-use crate::need::need;
+use c_expr_types::{MOST_NEED, need};
 use c_tree::{Expr, Function};
 
 /// Whether the need of an expression that may be absent is within the limit.

@@ -1,18 +1,14 @@
 ghost use Rattle.std.specs.Prelude.{◌≡◌, ◌++◌, IfOk, OnOk, not};
 ghost use Rattle.std.specs.Option.{option_or};
-ghost use Rattle.c_types.specs.Expressions.{fits, is_condition};
-ghost use Rattle.c_types.specs.Faults.{first};
-ghost use Rattle.c_types.specs.Found.{is_evaluated};
-ghost use Rattle.c_types.specs.Lookup.{declare, is_repeated};
+ghost use Rattle.c_expr_types.specs.Expressions.{fits, is_condition};
+ghost use Rattle.c_expr_types.specs.Faults.{first};
+ghost use Rattle.c_expr_types.specs.Found.{is_evaluated};
+ghost use Rattle.c_definitions.specs.Lookup.{declare, is_repeated};
 ghost use Rattle.c_types.specs.Statements.{walk_declaration, expression_faults, jump_faults, leaving_faults, optional_faults, part_in, return_faults, value_return_faults};
 ghost use Rattle.c_types.specs.Views.{around_seen};
 
-use crate::expression::{fits, unknown_tag};
-use crate::fault::{Fault, TypeKind, sooner, unless};
-use crate::found::Part;
-use crate::infer::infer;
-use crate::known::Known;
-use crate::lookup::{Names, Position};
+use c_definitions::{Known, Names, Position};
+use c_expr_types::{Fault, Part, TypeKind, fits, infer, sooner, unknown_tag, unless};
 use c_scope::Scopes;
 use c_tree::{CType, Declaration, Expr};
 use std::alloc::{AllocError, Global};
@@ -177,7 +173,7 @@ fn initialiser_fault(
 
 /// What is wrong with a declaration in a block. After it the innermost block has the variable, unless
 /// it had one of that name.
-#[tactic(auto, using(crate::proofs::Firsts::first_append, crate::proofs::Firsts::first_hiding))]
+#[tactic(auto, using(c_expr_types::proofs::Firsts::first_append, crate::proofs::Hiding::first_hiding))]
 pub(crate) fn declaration_fault(
     alloc: Global,
     around: &Around,

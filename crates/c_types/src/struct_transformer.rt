@@ -1,11 +1,11 @@
 ghost use Rattle.std.specs.Prelude.{◌≡◌, ◌&&◌, true, not, IfOk, OnOk, is_some, option_and_then, if◌then◌else◌};
 ghost use Rattle.c_scope.specs.Tables.{declared, look_up_first};
-ghost use Rattle.c_types.specs.Expressions.{member};
-ghost use Rattle.c_types.specs.Lookup.{members_of};
+ghost use Rattle.c_definitions.specs.Lookup.{member};
+ghost use Rattle.c_definitions.specs.Lookup.{members_of};
 ghost use Rattle.c_types.specs.TransformSyntax.{is_transforming, transforms_struct};
 
-use crate::known::Known;
 use crate::transformer::is_transforming;
+use c_definitions::Known;
 use c_scope::Scopes;
 use c_tree::FieldValue;
 use std::alloc::{AllocError, Global};

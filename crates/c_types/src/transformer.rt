@@ -1,16 +1,13 @@
 ghost use Rattle.std.specs.Prelude.{◌≡◌, ◌&&◌, IfOk, OnOk, map, min, nat_le, option_map};
 ghost use Rattle.c_types.specs.Definitions.{max_need};
-ghost use Rattle.c_types.specs.Expressions.{member};
-ghost use Rattle.c_types.specs.Lookup.{members_of};
-ghost use Rattle.c_types.specs.Need.{greatest, need};
+ghost use Rattle.c_definitions.specs.Lookup.{member};
+ghost use Rattle.c_definitions.specs.Lookup.{members_of};
+ghost use Rattle.c_expr_types.specs.Need.{greatest, need};
 ghost use Rattle.c_types.specs.TransformSyntax.{transforms_fields, form_of, is_global, is_transforming, transforms_struct};
-ghost use Rattle.c_types.specs.Views.{meaning_seen};
+ghost use Rattle.c_definitions.specs.Views.{meaning_seen};
 
-use crate::expression::is_safe;
-use crate::known::Known;
-use crate::limits::MOST_NEED;
-use crate::lookup::Meaning;
-use crate::need::need;
+use c_definitions::{Known, Meaning};
+use c_expr_types::{MOST_NEED, is_safe, need};
 use c_scope::Scopes;
 use c_tree::{Expr, ExprNode as Node, FieldValue};
 use dsu_io::Boxed;

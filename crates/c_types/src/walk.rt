@@ -1,15 +1,15 @@
 ghost use Rattle.std.specs.Prelude.{◌≡◌, ◌++◌, IfOk, OnOk, map};
-ghost use Rattle.c_types.specs.Expressions.{is_condition};
-ghost use Rattle.c_types.specs.Faults.{first};
-ghost use Rattle.c_types.specs.Found.{is_evaluated};
+ghost use Rattle.c_expr_types.specs.Expressions.{is_condition};
+ghost use Rattle.c_expr_types.specs.Faults.{first};
+ghost use Rattle.c_expr_types.specs.Found.{is_evaluated};
 ghost use Rattle.c_types.specs.Statements.{beyond, expression_faults, in_a_transaction, in_block, in_loop, in_order, optional_faults, walk};
 ghost use Rattle.c_types.specs.Views.{around_seen};
 
-use crate::fault::{Fault, sooner};
 use crate::statement::{
     Around, Loop, condition_fault, declaration_fault, evaluation_fault, jump_fault, return_fault,
     value_return_fault,
 };
+use c_expr_types::{Fault, sooner};
 use c_scope::Scopes;
 use c_tree::{CType, Expr, Stmt, StmtNode as Node};
 use dsu_io::Boxed;

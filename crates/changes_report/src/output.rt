@@ -11,8 +11,9 @@ ghost use Rattle.changes_report.specs.Writing.{Writes};
 use crate::lines::add_names;
 use crate::refused::{fault_text, kind_text};
 use crate::transforms::add_changes;
+use c_definitions::Known;
 use c_tree::Program;
-use c_types::{Known, Typed};
+use c_types::Typed;
 use dsu_io::{Sink, put};
 use dsu_report::ReportFault;
 use patch_compare::{Changes, CompareFault, compare};
@@ -22,9 +23,8 @@ use type_transformers::{Change, transforms};
 
 /// Writes what changes from one typed text to another. `new_text` has the bytes of the newer one.
 ///
-/// `Memory` is also the answer where a transformer's fault has a place that isn't in `new_text` or is 2^32 - 1 or more, or
-/// where a variable or an array of a newer text has the name of a struct: none of these occurs in a typed text and its bytes,
-/// but that isn't proved.
+/// `Memory` is also the answer where a variable or an array of the newer text has the name of a struct. No typed text has
+/// one, but that isn't proved.
 pub fn write_changes<S: Sink>(
     alloc: Global,
     old: &Typed,

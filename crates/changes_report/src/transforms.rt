@@ -9,8 +9,8 @@ ghost use Rattle.changes_report.specs.ChangesText.{global_line};
 ghost use Rattle.changes_report.specs.Shown.{change_text, fields_text, has_cells, is_of, is_struct};
 
 use crate::lines::{add_fields, add_global};
+use c_definitions::Known;
 use c_tree::{Binding, Def, DefKind};
-use c_types::Known;
 use dsu_io::Text;
 use std::alloc::{AllocError, Global};
 use type_transformers::{Change, GlobalChange};

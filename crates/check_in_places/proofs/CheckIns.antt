@@ -7,9 +7,9 @@ use Rattle.std.proofs.lemmas.List.{length-map, get_or-map}
 use Rattle.std.proofs.lemmas.List.Elements.{All-nil, All-cons, All-append}
 use Rattle.std.proofs.lemmas.List.Sums.{count_by_more_yes, count_by_more_no}
 use Rattle.std.proofs.lemmas.Option.{slice_get-map, slice_get-get_or, get_or_from_slice_get}
-use Rattle.bytecode.specs.CheckIns.{CheckInKind}
-use Rattle.bytecode.specs.Skeleton.{check_in_of, check_in_at}
-use Rattle.bytecode.specs.Skeleton as meaning
+use Rattle.run_types.specs.CheckIns.{CheckInKind}
+use Rattle.run_types.specs.Skeleton.{check_in_of, check_in_at}
+use Rattle.run_types.specs.Skeleton as meaning
 use Rattle.c_semantics.specs.Skeletons.{is_check_in_kind}
 use Rattle.skeletons.specs.declared.point.Point.{Point}
 use Rattle.skeletons.specs.declared.skeleton.Skeleton.{Skeleton}

@@ -1,7 +1,7 @@
 -- The bodies of a text: the flow of all of them, and for each its check-ins.
 use Rattle.std.specs.Prelude.{◌≡◌, ℕ, ◌+◌, ◌-◌, ◌^◌, ◌<◌, ◌≤◌, List, [], ◌∷◌, length, map, take, count_by, All, slice_get, Some, ⊤}
 use Rattle.std.specs.List.Sorted.{IsPermutation, IsNonDecreasingBy}
-use Rattle.bytecode.specs.Skeleton.{Skeleton}
+use Rattle.run_types.specs.Skeleton.{Skeleton}
 use Rattle.c_tree.specs.BareExpr.{Bytes}
 use Rattle.c_tree.specs.Bare.{bare_function}
 use Rattle.c_tree.specs.declared.def.Function.{Function}

@@ -1,8 +1,8 @@
 -- The functions of a text and the check-ins of their bodies, and the words by which a line names a check-in.
 use Rattle.std.specs.Prelude.{ℕ, zero, suc, List, [], ◌∷◌, ◌++◌, length, slice_index, filter_map, codes, Option, Some, None}
 use Rattle.std.specs.Fmt.{decimal}
-use Rattle.bytecode.specs.CheckIns.{CheckInKind, Entry, Call, Begin, End, Update}
-use Rattle.bytecode.specs.Skeleton.{Skeleton, check_in_at}
+use Rattle.run_types.specs.CheckIns.{CheckInKind, Entry, Call, Begin, End, Update}
+use Rattle.run_types.specs.Skeleton.{Skeleton, check_in_at}
 use Rattle.c_tree.specs.BareExpr.{Bytes}
 use Rattle.c_tree.specs.declared.def.DefKind.{DefKind}
 use Rattle.c_tree.specs.declared.def.DefKind.TheVariants.{Function}

@@ -4,19 +4,19 @@ ghost use Rattle.name_sets.specs.Texts.{IsTable};
 ghost use Rattle.c_tree.specs.declared.def.Function.{Function as FunctionTree};
 ghost use Rattle.c_semantics.specs.Texts.{definition};
 ghost use Rattle.c_semantics.specs.SourceTexts.{Text, text_of};
-ghost use Rattle.resolved_tree.specs.Known.{known_of};
+ghost use Rattle.name_resolution.specs.Known.{known_of};
 ghost use Rattle.check_in_places.specs.CheckIns.{function_of, functions, functions_in};
 ghost use Rattle.check_in_places.specs.Bodies.{IsOutline, AreBodiesOf};
 
 use crate::section::{Bodies, Outline};
 use crate::spots::section_of;
+use c_definitions::Known;
 use c_tree::{Def, DefKind, Function, Program};
-use c_types::Known;
 use effect_flow::Flow;
+use name_resolution::resolve_body;
 use name_sets::Names;
 use point_places::places_of;
 use resolved_tree::Trees;
-use resolved_tree::resolve::resolve_body;
 use skeleton_gen::skeleton_of;
 use std::alloc::{AllocError, Global};
 

@@ -1,6 +1,6 @@
 //! The check-ins of a body.
 ghost use Rattle.std.specs.Prelude.{◌≡◌, ◌+◌, ◌++◌, ◌^◌, ◌<◌, ℕ, List, All, length, map, IfOk, OnOk};
-ghost use Rattle.bytecode.specs.Skeleton.{check_in_of as check_in_of_kind};
+ghost use Rattle.run_types.specs.Skeleton.{check_in_of as check_in_of_kind};
 ghost use Rattle.skeletons.specs.Meaning.{kind_of, meant};
 ghost use Rattle.check_in_places.specs.CheckIns.{check_in_if, check_ins_in};
 ghost use Rattle.check_in_places.specs.Bodies.{shown, IsCounted, IsSpotOf, IsSectionOf};

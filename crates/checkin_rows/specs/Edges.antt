@@ -3,7 +3,7 @@
 -- id: the entries of a function, the entries at which a thread starts, and the points after the calls of a function.
 use Rattle.std.specs.Prelude.{ℕ, ◌+◌, ◌==◌, Bool, true, ◌&&◌, not, List, [], ◌∷◌, ◌++◌, Option, Some, None, slice_get, if◌then◌else◌}
 use Rattle.std.specs.Option.{is_some, option_to_list}
-use Rattle.bytecode.specs.Skeleton.{check_in_of}
+use Rattle.run_types.specs.Skeleton.{check_in_of}
 use Rattle.skeletons.specs.declared.point.PointKind.{PointKind}
 use Rattle.skeletons.specs.Meaning.{called_at, kind_of}
 use Rattle.effect_flow.specs.declared.flow.FlowPoint.{FlowPoint}

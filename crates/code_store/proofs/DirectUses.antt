@@ -6,7 +6,7 @@ use Rattle.std.proofs.lemmas.Option.{same_Some, slice_get-get_or}
 use Rattle.std.proofs.lemmas.Bool.Decides.{Decides-eqb}
 use Rattle.std.proofs.lemmas.List.Elements.{All-head, All-tail, Contains-push, Contains-push_cases, Contains-append_left, Contains-append_right, Contains-append_cases}
 use Rattle.name_sets.specs.Texts.{IsTable, text_of}
-use Rattle.bytecode.specs.Skeleton.{direct_use}
+use Rattle.run_types.specs.Skeleton.{direct_use}
 use Rattle.skeletons.specs.Meaning.{used_at, point_of}
 use Rattle.skeletons.specs.declared.point.Point.{Point as CodePoint}
 use Rattle.c_tree.specs.BareExpr.{Bytes}

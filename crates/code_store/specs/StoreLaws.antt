@@ -1,7 +1,7 @@
 -- What a store says of the bodies of the definitions.
 use Rattle.std.specs.Prelude.{◌≡◌, ℕ, ◌<◌, ◌↔◌, List, ◌++◌, length, Some, Contains}
 use Rattle.name_sets.specs.Texts.{IsTable, text_of}
-use Rattle.bytecode.specs.Skeleton.{Point, direct_use}
+use Rattle.run_types.specs.Skeleton.{Point, direct_use}
 use Rattle.c_tree.specs.BareExpr.{Bytes}
 use Rattle.c_semantics.specs.Store.{Body}
 use Rattle.code_store.specs.declared.body.StoredBody.{StoredBody}

@@ -1,6 +1,6 @@
 -- What a call that came to nothing answers.
 use Rattle.std.proofs.Common.{◌≡◌, ◌⊎◌, inl, inr, Bool, false, ℕ, List, [], ◌∷◌, Option, refl, sym, ◌∙◌, ap, subst, arith}
-use Rattle.bytecode.specs.declared.run.Event.{Event}
+use Rattle.run_types.specs.declared.run.Event.{Event}
 use Rattle.c_tree.specs.declared.def.Program.{Program}
 use Rattle.dsu_io.specs.Causes.{FailedReads, NoneFailed, ReadFailed}
 use Rattle.dsu_cli.specs.declared.job.Job.{Job}

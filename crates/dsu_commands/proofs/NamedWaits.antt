@@ -6,7 +6,7 @@ use Rattle.std.proofs.lemmas.Grind.{flat_map-append}
 use Rattle.std.proofs.lemmas.List.{drop_more, take-append-drop}
 use Rattle.std.proofs.lemmas.List.Concat.{flat_map-cons}
 use Rattle.std.proofs.lemmas.List.FromFn.{get_or-range_with_len, length-range_with_len}
-use Rattle.bytecode.specs.declared.run.Ending.TheVariants.{Deadlock}
+use Rattle.run_types.specs.declared.run.Ending.TheVariants.{Deadlock}
 use Rattle.c_semantics.specs.Threads.{Thread}
 use Rattle.source_model.specs.Worlds.{World, Live, in_slot, is_over}
 use Rattle.source_model.specs.Waits.{Waiting, waits_for}

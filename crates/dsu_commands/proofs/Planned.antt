@@ -2,7 +2,7 @@
 use Rattle.std.proofs.Common.{ℕ, List, Option, IsTrue, subst}
 use Rattle.std.specs.Prelude.{reverse}
 use Rattle.std.proofs.lemmas.List.{reverse-reverse}
-use Rattle.bytecode.specs.declared.run.Event.{Event}
+use Rattle.run_types.specs.declared.run.Event.{Event}
 use Rattle.source_model.specs.Guards.{Guard, Setup}
 use Rattle.source_model.specs.Schedules.{is_prompt}
 use Rattle.source_model.specs.ScheduleLaws.{SoloIsPrompt}

@@ -1,7 +1,7 @@
 -- A run of an engine that was reported is one to which a call came.
 use Rattle.std.proofs.Common.{◌≡◌, inl, inr, ℕ, Bool, List, [], Option, Some, None, refl, ◌∙◌, ap, subst}
 use Rattle.std.specs.Prelude.{length, option_map}
-use Rattle.bytecode.specs.declared.run.Ending.{Ending}
+use Rattle.run_types.specs.declared.run.Ending.{Ending}
 use Rattle.source_model.specs.declared.answer.OfferAnswer.{OfferAnswer}
 use Rattle.source_model.specs.Guards.{Guard, Setup}
 use Rattle.source_model.specs.Endings.{ending as ending_of}

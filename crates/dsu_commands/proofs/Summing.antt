@@ -2,8 +2,8 @@
 use Rattle.std.proofs.Common.{◌≡◌, ◌⊎◌, inl, inr, ℕ, List, [], ◌∷◌, Option, Some, refl, sym, ◌∙◌, ap, subst}
 use Rattle.std.specs.Prelude.{false, length}
 use Rattle.dsu_io.specs.Causes.{FailedReads, NoneFailed}
-use Rattle.bytecode.specs.declared.run.Event.{Event}
-use Rattle.bytecode.specs.declared.run.Ending.{Ending}
+use Rattle.run_types.specs.declared.run.Event.{Event}
+use Rattle.run_types.specs.declared.run.Ending.{Ending}
 use Rattle.c_tree.specs.declared.def.Program.{Program}
 use Rattle.program_gen.specs.Generated.{program_text, offer_text}
 use Rattle.source_model.specs.Endings.{ending as ending_of}

@@ -1,7 +1,7 @@
 -- What a job came to.
 use Rattle.std.specs.Prelude.{◌≡◌, ◌⊎◌, ◌≤◌, ℕ, false, List, [], Some}
 use Rattle.dsu_io.specs.Causes.{FailedReads, NoneFailed}
-use Rattle.bytecode.specs.declared.run.Event.{Event}
+use Rattle.run_types.specs.declared.run.Event.{Event}
 use Rattle.c_tree.specs.declared.def.Program.{Program}
 use Rattle.c_types.specs.Definitions.{names_of}
 use Rattle.dsu_cli.specs.declared.job.Job.{Job}

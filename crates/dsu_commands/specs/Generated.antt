@@ -1,8 +1,8 @@
 -- The run of a generated program with its offer, the summary that `gen` prints of it, and what the command came to.
 use Rattle.std.specs.Prelude.{◌≡◌, ℕ, ◌+◌, ◌/◌, ◌==◌, List, [], ◌∷◌, ◌++◌, count_by, nat_lt, codes, Some, if◌then◌else◌, false}
 use Rattle.std.specs.Fmt.{decimal}
-use Rattle.bytecode.specs.declared.run.Event.{Event}
-use Rattle.bytecode.specs.declared.run.Ending.{Ending}
+use Rattle.run_types.specs.declared.run.Event.{Event}
+use Rattle.run_types.specs.declared.run.Ending.{Ending}
 use Rattle.c_tree.specs.declared.def.Program.{Program}
 use Rattle.program_gen.specs.Generated.{offer_text}
 use Rattle.source_model.specs.Endings.{ending as ending_of}

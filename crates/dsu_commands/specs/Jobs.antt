@@ -2,7 +2,7 @@
 use Rattle.std.specs.Prelude.{◌≡◌, ◌⊎◌, ◌≤◌, ◌<◌, ℕ, ⊤, Bool, true, List, [], ◌∷◌, length, map, codes, Option, Some, Ok, Err}
 use Rattle.std.specs.Option.{is_none}
 use Rattle.dsu_io.specs.Causes.{FailedReads, NoneFailed, ReadFailed}
-use Rattle.bytecode.specs.declared.run.Event.{Event}
+use Rattle.run_types.specs.declared.run.Event.{Event}
 use Rattle.c_tree.specs.declared.def.Program.{Program}
 use Rattle.c_front.specs.Accepted.{Accepted}
 use Rattle.source_model.specs.Guards.{Rules}

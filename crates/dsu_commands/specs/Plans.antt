@@ -1,6 +1,6 @@
 -- In which order the events of a run are made: by the solo schedule, or those of a journal.
 use Rattle.std.specs.Prelude.{◌≡◌, ℕ, ◌≤◌, IsTrue, List, length, reverse, slice_get, take, Option, Some, None}
-use Rattle.bytecode.specs.declared.run.Event.{Event}
+use Rattle.run_types.specs.declared.run.Event.{Event}
 use Rattle.source_model.specs.Guards.{Guard, Rules, Setup}
 use Rattle.source_model.specs.Journals.{happens}
 use Rattle.source_model.specs.Schedules.{Solo, is_prompt, move_count}

@@ -1,7 +1,7 @@
 -- What the private functions say that go on with a job once a file of it was read.
 use Rattle.std.specs.Prelude.{◌≡◌, ◌⊎◌, ℕ, Bool, false, List, []}
 use Rattle.dsu_io.specs.Causes.{FailedReads, NoneFailed}
-use Rattle.bytecode.specs.declared.run.Event.{Event}
+use Rattle.run_types.specs.declared.run.Event.{Event}
 use Rattle.c_tree.specs.declared.def.Program.{Program}
 use Rattle.dsu_cli.specs.declared.job.Offer.{Offer}
 use Rattle.dsu_cli.specs.declared.job.ReplayJob.{ReplayJob}

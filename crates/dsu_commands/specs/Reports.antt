@@ -3,9 +3,9 @@ use Rattle.std.specs.Prelude.{◌≡◌, ℕ, Bool, List, [], ◌++◌, length, 
 use Rattle.std.specs.Fmt.{decimal}
 use Rattle.std.specs.List.{flat_map, range_with_len}
 use Rattle.std.specs.Option.{option_map_or}
-use Rattle.bytecode.specs.declared.run.Event.{Event}
-use Rattle.bytecode.specs.declared.run.Ending.{Ending}
-use Rattle.bytecode.specs.declared.run.Ending.TheVariants.{Finished, Trap, Deadlock, Cut}
+use Rattle.run_types.specs.declared.run.Event.{Event}
+use Rattle.run_types.specs.declared.run.Ending.{Ending}
+use Rattle.run_types.specs.declared.run.Ending.TheVariants.{Finished, Trap, Deadlock, Cut}
 use Rattle.c_semantics.specs.Threads.{Thread}
 use Rattle.source_model.specs.Answers.{Answer}
 use Rattle.source_model.specs.Worlds.{World, Live, in_slot}

@@ -1,6 +1,6 @@
 -- What a call made of a run: its events, what the source machine comes to by them, and how the call ended.
 use Rattle.std.specs.Prelude.{◌≡◌, ℕ, Bool, List, [], length, map, Option, Some}
-use Rattle.bytecode.specs.declared.run.Event.{Event}
+use Rattle.run_types.specs.declared.run.Event.{Event}
 use Rattle.source_model.specs.declared.answer.OfferAnswer.{OfferAnswer}
 use Rattle.source_model.specs.Answers.{answer_seen}
 use Rattle.source_model.specs.Runs.{Result, source_run}

@@ -14,10 +14,10 @@ ghost use Rattle.dsu_commands.specs.declared.outcome.InForce.{InForce};
 
 use crate::report::write_run;
 use accepted_runs::accepted_runs_are_version_consistent;
-use bytecode::Ending;
 use dsu_io::{List, Sink};
 use dsu_report::{FaultLine, LineWord, ending_status, write_fault};
 use dsu_runs::{Engine, Ran, StopCause, rules_exist};
+use run_types::Ending;
 use source_model::{journal_is_a_run, seats_fit_their_slots};
 use typed_journals::{deadlocked_threads_wait, mains_result_is_an_int};
 

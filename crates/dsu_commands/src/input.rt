@@ -1,6 +1,6 @@
 ghost use Rattle.std.specs.Prelude.{◌≡◌, ◌⊎◌, ℕ, List, IfOk, IfErr, IsErrOf, MatchResult, OnOk};
 ghost use Rattle.dsu_io.specs.Causes.{NoneFailed};
-ghost use Rattle.bytecode.specs.declared.run.Event.{Event as Made};
+ghost use Rattle.run_types.specs.declared.run.Event.{Event as Made};
 ghost use Rattle.c_tree.specs.declared.def.Program.{Program};
 ghost use Rattle.dsu_report.specs.declared.fault.FaultLine.{FaultLine as Line};
 ghost use Rattle.input_files.specs.Files.{IsShort};
@@ -9,11 +9,11 @@ ghost use Rattle.input_files.specs.Sources.{HoldsProgram, IsSource};
 ghost use Rattle.dsu_commands.specs.Jobs.{IsJournalFault, IsKnownJournal, IsKnownProgram, IsProgramFault, KnownJournalFault, KnownProgramFault};
 ghost use Rattle.dsu_commands.specs.Remaining.{OutOfMemory};
 
-use bytecode::Event;
 use c_types::Typed;
 use dsu_io::Files;
 use dsu_report::FaultLine;
 use input_files::{Source, journal_of, source_of};
+use run_types::Event;
 use std::alloc::Global;
 
 /// The text of a file and its program.

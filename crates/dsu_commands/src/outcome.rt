@@ -2,8 +2,8 @@ ghost use Rattle.std.specs.Prelude.{◌≡◌, [], None};
 ghost use Rattle.dsu_commands.specs.Schedules.{IsKept};
 
 use crate::finish::Finish;
-use bytecode::{Ending, Event};
 use name_sets::Names;
+use run_types::{Ending, Event};
 use source_model::OfferAnswer;
 use std::alloc::Global;
 

@@ -1,5 +1,5 @@
 ghost use Rattle.std.specs.Prelude.{◌⊎◌, ◌≡◌, ◌≤◌, ℕ, List as ListOf, [], Option, false, length};
-ghost use Rattle.bytecode.specs.declared.run.Event.{Event as Made};
+ghost use Rattle.run_types.specs.declared.run.Event.{Event as Made};
 ghost use Rattle.c_tree.specs.declared.def.Program.{Program};
 ghost use Rattle.c_front.specs.Accepted.{Accepted};
 ghost use Rattle.source_model.specs.declared.answer.OfferAnswer.{OfferAnswer};
@@ -25,7 +25,6 @@ use crate::input::{events_of, program_of};
 use crate::offers::{Offers, offers_in};
 use crate::outcome::{InForce, Outcome, outcome_of};
 use crate::stopped::stop;
-use bytecode::Event;
 use c_types::Typed;
 use dsu_cli::ReplayJob;
 use dsu_io::{Files, List, Sink};
@@ -33,6 +32,7 @@ use dsu_report::FaultLine;
 use dsu_runs::{Engine, Ran, replay, rules_exist};
 use frame_bodies::texts_of_programs_are_accepted;
 use plain_engine::PlainEngine;
+use run_types::Event;
 use std::alloc::Global;
 
 /// Makes the events of a journal on the program of a file, with the offers of the job. What it prints goes to `out` as it is

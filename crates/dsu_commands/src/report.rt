@@ -7,12 +7,12 @@ ghost use Rattle.dsu_report.specs.Answers.{answers_text};
 ghost use Rattle.dsu_runs.specs.Engines.{waiting_of};
 ghost use Rattle.dsu_commands.specs.Reports.{ending_text, names_line, run_text, wait_in, wait_line, waits_text};
 
-use bytecode::{Ending, Event};
 use dsu_io::{Failed, List, Sink, put_all};
 use dsu_journal::print_journal;
 use dsu_report::{write_answers, write_ending, write_mutex_wait, write_thread_wait};
 use dsu_runs::{Engine, Waiting};
 use itoa::Buffer;
+use run_types::{Ending, Event};
 
 /// Writes the line of a text's number of names. It takes no memory.
 pub(crate) fn write_names<S: Sink>(names: usize, sink: &mut S) -> Result<(), Failed>

@@ -4,9 +4,9 @@ ghost use Rattle.dsu_report.specs.Faults.{fault_line};
 ghost use Rattle.dsu_commands.specs.Calls.{Stopped, call_of, output_of, Writes};
 
 use crate::outcome::{Outcome, without_end};
-use bytecode::Event;
 use dsu_io::Sink;
 use dsu_report::{FaultLine, write_fault};
+use run_types::Event;
 use std::alloc::Global;
 
 /// Reports a fault, by which a command comes to nothing. Standard output stays as it was.

@@ -5,9 +5,9 @@ ghost use Rattle.dsu_commands.specs.Generated.{summary_text, unmarked};
 ghost use Rattle.dsu_commands.specs.Reports.{run_text};
 
 use crate::report::write_run;
-use bytecode::Ending;
 use dsu_io::{List, StdSink};
 use dsu_runs::Engine;
+use run_types::Ending;
 use std::alloc::{AllocError, Global};
 
 /// How long the mark `# ` is with which each line of a report begins.

@@ -1,6 +1,6 @@
 -- Events that were found, before what is read after them.
 use Rattle.std.proofs.Common.{◌≡◌, ℕ, List, [], ◌∷◌, ◌++◌, Some, None, Result, Ok, Err, refl, ap, sym, append_assoc, append-nil, true, false}
-use Rattle.bytecode.specs.declared.run.Event.{Event}
+use Rattle.run_types.specs.declared.run.Event.{Event}
 use Rattle.dsu_journal.specs.Journals.{event_of, event_then, events_from, is_comment, line_then, lines}
 
 -- what was found so far, before what is read after it

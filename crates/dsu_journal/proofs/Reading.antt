@@ -2,7 +2,7 @@
 use Rattle.std.proofs.Common.{◌≡◌, ℕ, suc, ◌+◌, List, [], ◌∷◌, map, codes, Ok, refl, ap, ◌∙◌, arith, append_assoc}
 use Rattle.std.specs.Prelude.{IsTrue}
 use Rattle.std.specs.List.{All, enumerate_from}
-use Rattle.bytecode.specs.declared.run.Event.{Event}
+use Rattle.run_types.specs.declared.run.Event.{Event}
 use Rattle.dsu_journal.specs.Journals.{as_journal, event_line, event_lines, events_from, journal_in, journal_text, line_then, lines, may_be_in_journal}
 use Rattle.dsu_journal.proofs.EventLines.{event_reads, in_one_line, not_comment}
 use Rattle.dsu_journal.proofs.Newlines.{line_ends}

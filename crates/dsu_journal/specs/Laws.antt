@@ -1,7 +1,7 @@
 -- Laws of journals: what is printed is read, and nothing else is an event.
 use Rattle.std.specs.Prelude.{◌≡◌, ℕ, ◌↔◌, IsTrue, List, Some, Ok}
 use Rattle.std.specs.List.{All, enumerate_from}
-use Rattle.bytecode.specs.declared.run.Event.{Event}
+use Rattle.run_types.specs.declared.run.Event.{Event}
 use Rattle.dsu_journal.specs.Journals.{event_line, event_of, journal_in, journal_text, may_be_in_journal}
 
 -- a line is an event exactly if it is the event's line and the event may be in a journal

@@ -2,8 +2,8 @@
 ghost use Rattle.std.specs.Prelude.{◌≡◌, ◌<◌, ◌∷◌, length};
 ghost use Rattle.dsu_journal.specs.Journals.{event_of, event_with, in_range, is_comment, is_digit, lines, number};
 
-use bytecode::Event;
 use memchr::memchr;
+use run_types::Event;
 
 /// The first line of a text without its newline, and the text after it.
 pub(crate) fn split_line(text: &[u8]) -> (&[u8], &[u8])

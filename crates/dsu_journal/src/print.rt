@@ -4,9 +4,9 @@ ghost use Rattle.dsu_io.specs.Causes.{HasCause};
 ghost use Rattle.dsu_io.specs.Sinks.{PutAppends};
 ghost use Rattle.dsu_journal.specs.Journals.{event_line, event_lines, journal_text};
 
-use bytecode::Event;
 use dsu_io::{Failed, Sink, put};
 use itoa::Buffer;
+use run_types::Event;
 
 /// The most events whose lines are put at once.
 const PAGE_EVENTS: usize = 1024;

@@ -4,7 +4,7 @@ ghost use Rattle.dsu_journal.specs.Journals.{as_journal, events_from, journal_in
 
 use crate::fault::JournalFault;
 use crate::line::{event_of, is_comment, split_line};
-use bytecode::Event;
+use run_types::Event;
 use std::alloc::Global;
 
 /// The events of a journal's text, each with its line's number, or the text's first fault. It goes over the bytes

@@ -1,10 +1,10 @@
 -- What standard error has for the ending of a run.
 use Rattle.std.specs.Prelude.{ℕ, List, ◌++◌, codes}
 use Rattle.std.specs.Fmt.{decimal, signed_decimal}
-use Rattle.bytecode.specs.declared.trap.TrapKind.{TrapKind}
-use Rattle.bytecode.specs.declared.trap.TrapKind.TheVariants.{Overflow, Divide, Shift, Null, Stale, Index, Depth, Relock, Unlock, MutexHeld, Join}
-use Rattle.bytecode.specs.declared.run.Ending.{Ending}
-use Rattle.bytecode.specs.declared.run.Ending.TheVariants.{Finished, Trap, Deadlock, Cut}
+use Rattle.run_types.specs.declared.trap.TrapKind.{TrapKind}
+use Rattle.run_types.specs.declared.trap.TrapKind.TheVariants.{Overflow, Divide, Shift, Null, Stale, Index, Depth, Relock, Unlock, MutexHeld, Join}
+use Rattle.run_types.specs.declared.run.Ending.{Ending}
+use Rattle.run_types.specs.declared.run.Ending.TheVariants.{Finished, Trap, Deadlock, Cut}
 
 -- a trap's word
 abbrev pub trap_word : TrapKind → List ℕ

@@ -1,8 +1,8 @@
 -- What standard error has for a fault.
 use Rattle.std.specs.Prelude.{ℕ, List, ◌++◌, codes}
 use Rattle.std.specs.Fmt.{decimal}
-use Rattle.c_types.specs.declared.fault.TypeKind.{TypeKind}
-use Rattle.c_types.specs.declared.fault.TypeKind.TheVariants.{UnknownName, DeclaredTwice, WrongType, WrongCount, NotPlace, OutsideLoop, NoMain, BadFormat, LeavesTransaction, OverLimit, UnknownField, BadTransformer}
+use Rattle.c_expr_types.specs.declared.fault.TypeKind.{TypeKind}
+use Rattle.c_expr_types.specs.declared.fault.TypeKind.TheVariants.{UnknownName, DeclaredTwice, WrongType, WrongCount, NotPlace, OutsideLoop, NoMain, BadFormat, LeavesTransaction, OverLimit, UnknownField, BadTransformer}
 use Rattle.c_front.specs.declared.fault.FaultKind.{FaultKind}
 use Rattle.c_front.specs.declared.fault.FaultKind.TheVariants.{BadByte, BadLiteral, Directive, TooMany, Syntax, TooDeep, Kind}
 use Rattle.dsu_report.specs.declared.fault.LineWord.{LineWord}

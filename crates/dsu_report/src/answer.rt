@@ -9,7 +9,7 @@ ghost use Rattle.dsu_io.specs.Sinks.{PutAppends};
 ghost use Rattle.dsu_report.specs.Answers.{answer_line, answer_words, answers_text, cause_words, effect_words};
 ghost use Rattle.dsu_report.specs.Places.{line_at, column_at};
 
-use crate::place::counted;
+use crate::place::line_and_column;
 use con_freeness::{Effect, Refusal};
 use dsu_io::{Failed, List, Sink, put, put_all};
 use itoa::Buffer;
@@ -209,28 +209,4 @@ fn write_place<S: Sink>(text: &[u8], at: usize, sink: &mut S) -> Result<(), Fail
     let line = lines.format(line).as_bytes();
     let column = columns.format(column).as_bytes();
     put_all(sink, &[b"not a patch: transform ", line, b":", column])
-}
-
-/// The line and the column of a byte. A place past the end is counted as one in the last line.
-fn line_and_column(text: &[u8], at: usize) -> (usize, u128)
-    ensures line { result.0 ≡ line_at text.now at }
-    ensures column { result.1 ≡ column_at text.now at }
-{
-    if at <= text.len() {
-        let (line, column) = counted(text, at);
-        (line, column as u128)
-    } else {
-        past_the_end(text, at)
-    }
-}
-
-/// The line and the column of a place past the end.
-fn past_the_end(text: &[u8], at: usize) -> (usize, u128)
-    requires { length text.now < at }
-    ensures line { result.0 ≡ line_at text.now at }
-    ensures column { result.1 ≡ column_at text.now at }
-{
-    let end = text.len();
-    let (line, column) = counted(text, end);
-    (line, column as u128 + (at - end) as u128)
 }

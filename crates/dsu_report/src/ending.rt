@@ -4,9 +4,9 @@ ghost use Rattle.dsu_io.specs.Causes.{HasCause};
 ghost use Rattle.dsu_io.specs.Sinks.{PutAppends};
 ghost use Rattle.dsu_report.specs.Endings.{report_text, trap_word};
 
-use bytecode::{Ending, TrapKind};
 use dsu_io::{Failed, Sink, put, put_all};
 use itoa::Buffer;
+use run_types::{Ending, TrapKind};
 
 /// The word that reports a trap.
 pub fn trap_word(kind: TrapKind) -> &'static str

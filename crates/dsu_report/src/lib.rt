@@ -24,7 +24,7 @@ mod write;
 pub use answer::write_answers;
 pub use ending::{trap_word, write_ending};
 pub use fault::{FaultLine, LineWord, ReportFault};
-pub use place::{Place, place_of};
+pub use place::{Place, line_and_column, place_of};
 pub use status::ending_status;
 pub use wait::{write_mutex_wait, write_thread_wait};
 pub use write::{USAGE, write_fault};

@@ -24,8 +24,32 @@ pub fn place_of(text: &[u8], at: usize) -> Place
     }
 }
 
+/// The line and the column of a byte. A place past the end is counted as one in the last line.
+pub fn line_and_column(text: &[u8], at: usize) -> (usize, u128)
+    ensures line { result.0 ≡ line_at text.now at }
+    ensures column { result.1 ≡ column_at text.now at }
+{
+    if at <= text.len() {
+        let (line, column) = counted(text, at);
+        (line, column as u128)
+    } else {
+        past_the_end(text, at)
+    }
+}
+
+/// The line and the column of a place past the end.
+fn past_the_end(text: &[u8], at: usize) -> (usize, u128)
+    requires { length text.now < at }
+    ensures line { result.0 ≡ line_at text.now at }
+    ensures column { result.1 ≡ column_at text.now at }
+{
+    let end = text.len();
+    let (line, column) = counted(text, end);
+    (line, column as u128 + (at - end) as u128)
+}
+
 /// The line and the column of a byte, or of the end of the text, in numbers that hold any.
-pub(crate) fn counted(text: &[u8], at: usize) -> (usize, usize)
+fn counted(text: &[u8], at: usize) -> (usize, usize)
     requires within { at ≤ length text.now }
     ensures line { result.0 ≡ line_at text.now at }
     ensures column { result.1 ≡ column_at text.now at }

@@ -3,7 +3,7 @@ ghost use Rattle.std.specs.Prelude.{◌≡◌};
 ghost use Rattle.dsu_report.specs.Statuses.{status_of_ending};
 
 use crate::fault::FaultLine;
-use bytecode::Ending;
+use run_types::Ending;
 
 impl FaultLine {
     ghost use Rattle.std.specs.Prelude.{◌≡◌};

@@ -5,8 +5,8 @@ use Rattle.std.specs.Option.{is_some, option_or}
 use Rattle.std.proofs.Math.Nat.{le-min, min-le_left, min-le_right}
 use Rattle.std.proofs.lemmas.Bool.{false≢true}
 use Rattle.dsu_io.specs.Causes.{Rose}
-use Rattle.bytecode.specs.declared.run.Event.{Event}
-use Rattle.bytecode.specs.declared.run.Event.TheVariants.{Move, CheckIn}
+use Rattle.run_types.specs.declared.run.Event.{Event}
+use Rattle.run_types.specs.declared.run.Event.TheVariants.{Move, CheckIn}
 use Rattle.source_model.specs.Guards.{Guard, Setup, seat_of}
 use Rattle.source_model.specs.Schedules.{act_of, makes_move}
 use Rattle.dsu_runs.specs.declared.running.Running.{Running}

@@ -5,7 +5,7 @@ use Rattle.std.specs.Option.{option_and_then}
 use Rattle.std.specs.Io.KnownBytes.{Appends}
 use Rattle.std.proofs.lemmas.List.{append-nil}
 use Rattle.dsu_io.specs.Causes.{Rose}
-use Rattle.bytecode.specs.declared.run.Event.{Event}
+use Rattle.run_types.specs.declared.run.Event.{Event}
 use Rattle.source_model.specs.Guards.{Guard, Rules, Setup, first_guard}
 use Rattle.source_model.specs.Journals.{guard_after, happens, play}
 use Rattle.source_model.specs.Schedules.{makes_move}

@@ -5,8 +5,8 @@ use Rattle.std.specs.Option.{is_none, option_or}
 use Rattle.std.proofs.lemmas.Bool.{false≢true}
 use Rattle.std.proofs.lemmas.Bool.Decides.{nat_tests}
 use Rattle.std.proofs.lemmas.Option.{none-some}
-use Rattle.bytecode.specs.declared.run.Event.{Event}
-use Rattle.bytecode.specs.declared.run.Event.TheVariants.{Decide, Offer}
+use Rattle.run_types.specs.declared.run.Event.{Event}
+use Rattle.run_types.specs.declared.run.Event.TheVariants.{Decide, Offer}
 use Rattle.source_model.specs.Guards.{Guard, Setup, has_ended}
 use Rattle.source_model.specs.Schedules.{due, first_act, move_count, slots_after, solo_next}
 use Rattle.source_model.specs.Endings.{ending, ends, is_stuck, no_offer_waits, run_ending}

@@ -5,7 +5,7 @@ use Rattle.std.specs.Option.{is_none, is_some, option_map_or}
 use Rattle.std.proofs.lemmas.Bool.{true≢false, false≢true}
 use Rattle.std.proofs.lemmas.Bool.Decides.{nat_tests}
 use Rattle.std.proofs.lemmas.Option.{none-some, same_Some}
-use Rattle.bytecode.specs.declared.run.Event.TheVariants.{Move, CheckIn, Offer, Withdraw}
+use Rattle.run_types.specs.declared.run.Event.TheVariants.{Move, CheckIn, Offer, Withdraw}
 use Rattle.effects.proofs.RowsExist.{each_has_a_row}
 use Rattle.source_model.specs.Worlds.{World}
 use Rattle.source_model.specs.Moves.{move}

@@ -4,8 +4,8 @@ use Rattle.std.specs.Prelude.{◌==◌, length, vec_capacity, if◌then◌else�
 use Rattle.std.proofs.lemmas.Bool.{false≢true}
 use Rattle.std.proofs.lemmas.Bool.Decides.{nat_tests}
 use Rattle.dsu_io.specs.Causes.{Rose}
-use Rattle.bytecode.specs.declared.run.Event.{Event}
-use Rattle.bytecode.specs.declared.run.Event.TheVariants.{Decide, Offer, Withdraw}
+use Rattle.run_types.specs.declared.run.Event.{Event}
+use Rattle.run_types.specs.declared.run.Event.TheVariants.{Decide, Offer, Withdraw}
 use Rattle.source_model.specs.Guards.{Guard, Setup, has_ended}
 use Rattle.source_model.specs.Schedules.{due, first_act, slots_after}
 use Rattle.dsu_runs.specs.declared.running.Running.{Running}

@@ -3,9 +3,9 @@ use Rattle.std.proofs.Common.{◌≡◌, ℕ, zero, suc, ◌+◌, ◌<◌, ◌�
 use Rattle.std.specs.Prelude.{length, slice_get, slice_index_or}
 use Rattle.std.proofs.lemmas.Option.{none-some, same_Some}
 use Rattle.std.proofs.lemmas.List.{length-map, length-take-le, take_all}
-use Rattle.bytecode.specs.declared.run.Event.{Event}
-use Rattle.bytecode.specs.declared.run.Event.TheVariants.{Move}
-use Rattle.bytecode.specs.declared.run.Ending.{Ending}
+use Rattle.run_types.specs.declared.run.Event.{Event}
+use Rattle.run_types.specs.declared.run.Event.TheVariants.{Move}
+use Rattle.run_types.specs.declared.run.Ending.{Ending}
 use Rattle.source_model.specs.Guards.{Guard, Setup, first_guard}
 use Rattle.source_model.specs.Journals.{guard_after}
 use Rattle.source_model.specs.Endings.{ending, int_ending}

@@ -5,8 +5,8 @@ use Rattle.std.specs.Option.{is_none}
 use Rattle.std.proofs.lemmas.Bool.{false≢true}
 use Rattle.std.proofs.lemmas.Bool.Decides.{nat_tests}
 use Rattle.std.proofs.lemmas.Option.{slice_get_within}
-use Rattle.bytecode.specs.declared.run.Event.{Event}
-use Rattle.bytecode.specs.declared.run.Event.TheVariants.{Move, CheckIn, Offer, Decide, Withdraw}
+use Rattle.run_types.specs.declared.run.Event.{Event}
+use Rattle.run_types.specs.declared.run.Event.TheVariants.{Move, CheckIn, Offer, Decide, Withdraw}
 use Rattle.c_semantics.specs.Store.{Body}
 use Rattle.con_freeness.specs.Rows.{Names}
 use Rattle.source_model.specs.Worlds.{World, alive_in, in_slot}

@@ -5,8 +5,8 @@ use Rattle.std.specs.Option.{is_some, option_or}
 use Rattle.std.specs.List.{list_any, range_with_len}
 use Rattle.std.proofs.lemmas.Bool.{true≢false, false≢true}
 use Rattle.std.proofs.lemmas.Bool.Decides.{nat_tests}
-use Rattle.bytecode.specs.declared.run.Event.TheVariants.{Move, CheckIn}
-use Rattle.bytecode.specs.declared.run.Ending.{Ending}
+use Rattle.run_types.specs.declared.run.Event.TheVariants.{Move, CheckIn}
+use Rattle.run_types.specs.declared.run.Ending.{Ending}
 use Rattle.source_model.specs.Worlds.{Finish, Free, Slot, World, is_over}
 use Rattle.source_model.specs.Worlds as world
 use Rattle.source_model.specs.Runs.{can_move, some_can_move}

@@ -1,8 +1,8 @@
 -- What an engine says of a run, by the guard that it is at.
 use Rattle.std.specs.Prelude.{◌≡◌, ℕ, ◌≤◌, ◌<◌, Bool, List, ◌++◌, length, take, Option, Some, None, if◌then◌else◌}
-use Rattle.bytecode.specs.declared.run.Event.{Event}
-use Rattle.bytecode.specs.declared.run.Ending.{Ending}
-use Rattle.bytecode.specs.declared.run.Ending.TheVariants.{Trap, Finished}
+use Rattle.run_types.specs.declared.run.Event.{Event}
+use Rattle.run_types.specs.declared.run.Ending.{Ending}
+use Rattle.run_types.specs.declared.run.Ending.TheVariants.{Trap, Finished}
 use Rattle.source_model.specs.Worlds.{Finish, World, is_over}
 use Rattle.source_model.specs.Worlds as world
 use Rattle.source_model.specs.Waits.{ForMutex, ForThread, waits_for}

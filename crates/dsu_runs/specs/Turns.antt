@@ -4,8 +4,8 @@ use Rattle.std.specs.declared.alloc.AllocError.{AllocError}
 use Rattle.std.specs.Option.{option_or}
 use Rattle.std.specs.Vec.{vec_capacity}
 use Rattle.dsu_io.specs.Causes.{Rose}
-use Rattle.bytecode.specs.declared.run.Event.{Event}
-use Rattle.bytecode.specs.declared.run.Event.TheVariants.{Decide, Offer}
+use Rattle.run_types.specs.declared.run.Event.{Event}
+use Rattle.run_types.specs.declared.run.Event.TheVariants.{Decide, Offer}
 use Rattle.source_model.specs.Guards.{Guard, Setup, has_ended}
 use Rattle.source_model.specs.Schedules.{MayStand, acted_by, due, first_act, makes_move, move_count, slots_after}
 use Rattle.source_model.specs.Endings.{is_stuck}

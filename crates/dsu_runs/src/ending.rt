@@ -4,7 +4,7 @@ ghost use Rattle.source_model.specs.Guards.{Guard, Setup, has_ended, seat_of};
 ghost use Rattle.source_model.specs.Endings.{ending as ending_of, int_ending, seats_wait};
 
 use crate::{Engine, Stands};
-use bytecode::Ending;
+use run_types::Ending;
 
 /// How a run ends that ends as it is.
 pub(crate) fn ending<E: Engine>(engine: &E) -> Ending

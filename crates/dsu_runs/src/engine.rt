@@ -1,6 +1,6 @@
-ghost use Rattle.std.specs.Prelude.{◌≡◌, ◌≢◌, ◌≤◌, ◌&&◌, not, List, Option, option_map, ℕ, false, length, map, IfOk, Ok, OnErr};
+ghost use Rattle.std.specs.Prelude.{◌≡◌, ◌≢◌, ◌≤◌, ◌&&◌, not, List, Option, option_map, ℕ, false, true, length, map, IfOk, Ok, Err, OnErr};
 ghost use Rattle.dsu_io.specs.Causes.{Rose};
-ghost use Rattle.bytecode.specs.declared.run.Event.TheVariants.{Move, CheckIn, Offer, Decide, Withdraw};
+ghost use Rattle.run_types.specs.declared.run.Event.TheVariants.{Move, CheckIn, Offer, Decide, Withdraw};
 ghost use Rattle.source_model.specs.Answers.{answer_seen};
 ghost use Rattle.source_model.specs.Runs.{can_move};
 ghost use Rattle.source_model.specs.Guards.{Guard, Setup, can_open, has_ended};
@@ -8,8 +8,8 @@ ghost use Rattle.source_model.specs.Journals.{answers};
 ghost use Rattle.source_model.specs.Schedules.{due};
 ghost use Rattle.dsu_runs.specs.Engines.{MakesAt, finish_of, standing_of, waiting_of, waits_in};
 
-use bytecode::Ending;
 use name_sets::Names;
+use run_types::Ending;
 use source_model::OfferAnswer;
 use std::alloc::AllocError;
 
@@ -22,6 +22,26 @@ pub enum Made {
     CannotHappen,
     /// It was made and printed something, but not all of that could be written. The engine makes no further event.
     SinkFailed,
+}
+
+/// Why an open offer isn't decided.
+#[derive(Clone, Copy, Debug, PartialEq, Eq)]
+pub enum Undecided {
+    /// Out of memory.
+    Memory,
+    /// A definition was misused, so no thread moves any more. No run of accepted texts comes there.
+    Misused,
+}
+
+impl From<AllocError> for Undecided {
+    ghost use Rattle.std.specs.Prelude.{◌≡◌};
+    ghost use Rattle.dsu_runs.specs.declared.engine.Undecided.TheVariants.{Memory};
+
+    ghost from_gives = { λ _ why. why ≡ Memory };
+
+    fn from(_: AllocError) -> Undecided {
+        Undecided::Memory
+    }
 }
 
 /// How the thread in a slot stands.
@@ -114,15 +134,17 @@ pub trait Engine {
         ensures later { faults self.old ≤ faults self.new }
         ensures written { result ≢ Made.SinkFailed };
 
-    /// Decides the open offer: it is installed, refused, or no patch. Nothing is printed. Out of memory: nothing changed,
-    /// and the offer is still open.
-    fn decide(&mut self, k: u8) -> Result<Made, AllocError>
+    /// Decides the open offer: it is installed, refused, or no patch. Nothing is printed. Where it isn't decided nothing
+    /// changed, and the offer is still open.
+    fn decide(&mut self, k: u8) -> Result<Made, Undecided>
         ensures made { (setup : Setup) (g : Guard) → is_at setup g self.old → IfOk result
             (MakesAt (λ x. is_at setup x self.new) setup (Decide k) g (told self.old) (told self.new)) }
         ensures stays { OnErr result ((setup : Setup) (g : Guard) → is_at setup g self.old → is_at setup g self.new) }
         ensures silent { OnErr result (told self.new ≡ told self.old) }
         ensures later { faults self.old ≤ faults self.new }
-        ensures written { result ≢ Ok Made.SinkFailed };
+        ensures written { result ≢ Ok Made.SinkFailed }
+        ensures misused { result ≡ Err Undecided.Misused → (setup : Setup) (g : Guard) → is_at setup g self.old
+            → g.world.misused ≡ true };
 
     /// Closes the open offer with nothing changed. Nothing is printed.
     fn withdraw(&mut self, k: u8) -> Made

@@ -20,7 +20,7 @@ mod running;
 mod solo_run;
 
 pub use book::Book;
-pub use engine::{Engine, Made, Stands, Waiting};
+pub use engine::{Engine, Made, Stands, Undecided, Waiting};
 pub use laws::rules_exist;
 pub use ran::{Ran, StopCause};
 pub use replay_run::replay;

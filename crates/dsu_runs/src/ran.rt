@@ -1,4 +1,4 @@
-use bytecode::{Ending, Event};
+use run_types::{Ending, Event};
 
 /// Why a schedule made no further event.
 #[derive(Clone, Copy, Debug, PartialEq, Eq)]

@@ -3,7 +3,7 @@ ghost use Rattle.dsu_runs.specs.Replays.{Replayed};
 
 use crate::running::{Running, Step};
 use crate::{Engine, Ran, StopCause};
-use bytecode::Event;
+use run_types::Event;
 use source_model::seats_fit_their_slots;
 use std::alloc::Global;
 

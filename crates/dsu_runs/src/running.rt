@@ -1,7 +1,8 @@
-ghost use Rattle.std.specs.Prelude.{◌≡◌, ◌≤◌, ◌<◌, length, [], ◌∷◌, ◌++◌, true, false, IfOk, OnErr, Ok};
+ghost use Rattle.std.specs.Prelude.{◌≡◌, ◌≢◌, ◌≤◌, ◌<◌, length, [], ◌∷◌, ◌++◌, true, false, IfOk, OnErr, Ok};
 ghost use Rattle.std.specs.Vec.{vec_capacity};
 ghost use Rattle.dsu_io.specs.Causes.{Rose};
 ghost use Rattle.source_model.specs.Guards.{Guard, Setup};
+ghost use Rattle.run_types.specs.declared.run.Event.TheVariants.{Decide};
 ghost use Rattle.source_model.specs.Schedules.{makes_move};
 ghost use Rattle.source_model.specs.Endings.{ending as ending_of, int_ending};
 ghost use Rattle.dsu_runs.specs.Engines.{MakesAt};
@@ -9,7 +10,7 @@ ghost use Rattle.dsu_runs.specs.Turns.{Steps, history_after, ran_of, step_by};
 
 use crate::ending::ending;
 use crate::{Engine, Made, Ran, StopCause};
-use bytecode::Event;
+use run_types::Event;
 use std::alloc::AllocError;
 
 /// What came of an event.
@@ -86,6 +87,21 @@ fn step_of(made: Result<Made, AllocError>) -> Step
     }
 }
 
+/// Has an engine decide an offer. No run of accepted texts misuses a definition, so there memory alone can be lacking.
+fn decide<E: Engine>(engine: &mut E, k: u8) -> Result<Made, AllocError>
+    ensures made { (setup : Setup) (g : Guard) → E.is_at setup g engine.old → IfOk result
+        (MakesAt (λ x. E.is_at setup x engine.new) setup (Decide k) g (E.told engine.old) (E.told engine.new)) }
+    ensures stays { OnErr result ((setup : Setup) (g : Guard) → E.is_at setup g engine.old → E.is_at setup g engine.new) }
+    ensures silent { OnErr result (E.told engine.new ≡ E.told engine.old) }
+    ensures later { E.faults engine.old ≤ E.faults engine.new }
+    ensures written { result ≢ Ok Made.SinkFailed }
+{
+    match engine.decide(k) {
+        Ok(made) => Ok(made),
+        Err(_) => Err(AllocError),
+    }
+}
+
 /// Has an engine make an event. Only a move that wants memory leaves the engine as it can't be used any more.
 fn make<E: Engine>(engine: &mut E, event: Event) -> Result<Made, AllocError>
     ensures made { (setup : Setup) (g : Guard) → E.is_at setup g engine.old → IfOk result
@@ -101,7 +117,7 @@ fn make<E: Engine>(engine: &mut E, event: Event) -> Result<Made, AllocError>
         Event::Move(slot) => engine.act(slot),
         Event::CheckIn(slot) => Ok(engine.check_in(slot)),
         Event::Offer(k) => Ok(engine.offer(k)),
-        Event::Decide(k) => engine.decide(k),
+        Event::Decide(k) => decide(engine, k),
         Event::Withdraw(k) => Ok(engine.withdraw(k)),
     }
 }

@@ -1,7 +1,7 @@
 ghost use Rattle.std.specs.Prelude.{◌≡◌, ◌-◌, ◌==◌, ◌&&◌, not, length, ◌<◌, ℕ, true, false, Option, Some};
 ghost use Rattle.std.specs.List.{range_with_len};
 ghost use Rattle.std.specs.Vec.{vec_capacity};
-ghost use Rattle.bytecode.specs.declared.run.Event.TheVariants.{Decide};
+ghost use Rattle.run_types.specs.declared.run.Event.TheVariants.{Decide};
 ghost use Rattle.source_model.specs.Guards.{Guard, Setup, first_guard, has_ended, seat_of};
 ghost use Rattle.source_model.specs.Schedules.{act_of, first_act, slots_after};
 ghost use Rattle.source_model.specs.Endings.{is_stuck as stuck_at};
@@ -11,7 +11,7 @@ ghost use Rattle.dsu_runs.specs.Solo.{RanSolo};
 use crate::ending::is_stuck;
 use crate::running::{Running, Step};
 use crate::{Engine, Ran, Stands, StopCause};
-use bytecode::Event;
+use run_types::Event;
 use source_model::{seats_fit_their_slots, solo_schedule_goes_to_the_end};
 use std::alloc::Global;
 

@@ -4,7 +4,7 @@ use Rattle.std.specs.Prelude.{IfSome}
 use Rattle.std.proofs.lemmas.List.{append-nil, append_assoc, map-append, length-map, length-append}
 use Rattle.std.proofs.lemmas.List.Elements.{All-nil, All-cons, All-head, All-tail, All-append, All-same}
 use Rattle.name_sets.specs.Texts.{IsTable, text_of}
-use Rattle.bytecode.specs.Skeleton.{Point}
+use Rattle.run_types.specs.Skeleton.{Point}
 use Rattle.skeletons.specs.Meaning.{used_at, point_of}
 use Rattle.skeletons.specs.declared.point.Point.{Point as CodePoint}
 use Rattle.skeletons.specs.declared.skeleton.Skeleton.{Skeleton as Code}

@@ -5,8 +5,8 @@ use Rattle.std.specs.Option.{option_and_then}
 use Rattle.std.proofs.lemmas.List.{length-map}
 use Rattle.std.proofs.lemmas.Option.{slice_get_within, slice_get-get_or, slice_get-map, get_or_from_slice_get, same_Some}
 use Rattle.name_sets.specs.Texts.{text_of}
-use Rattle.bytecode.specs.Skeleton.{Point, direct_use, point_at, after}
-use Rattle.bytecode.specs.Skeleton as seen
+use Rattle.run_types.specs.Skeleton.{Point, direct_use, point_at, after}
+use Rattle.run_types.specs.Skeleton as seen
 use Rattle.skeletons.specs.Meaning.{used_at, called_at, kind_of, point_of}
 use Rattle.skeletons.specs.declared.point.Use.{Use}
 use Rattle.skeletons.specs.declared.point.Use.TheVariants.{ReadGlobal, WriteGlobal, ReadElement, WriteElement, ReadField, WriteField, New, Free, InitMutex, Lock, Unlock, Spawn, Call}

@@ -3,8 +3,8 @@ use Rattle.std.proofs.Common.{◌≡◌, ℕ, ◌<◌, Bool, true, false, List, 
 use Rattle.std.specs.Prelude.{◌==◌, ◌&&◌, nat_lt, option_map}
 use Rattle.std.proofs.lemmas.Bool.Decides.{nat_tests}
 use Rattle.name_sets.specs.Texts.{text_of}
-use Rattle.bytecode.specs.Skeleton.{direct_use}
-use Rattle.bytecode.specs.Skeleton as seen
+use Rattle.run_types.specs.Skeleton.{direct_use}
+use Rattle.run_types.specs.Skeleton as seen
 use Rattle.skeletons.specs.Meaning.{used_at, called_at, use_of, kind_of, point_of}
 use Rattle.skeletons.specs.declared.point.Use.{Use}
 use Rattle.skeletons.specs.declared.point.Use.TheVariants.{ReadGlobal, WriteGlobal, ReadElement, WriteElement, ReadField, WriteField, New, Free, InitMutex, Lock, Unlock, Spawn, Call}

@@ -4,7 +4,7 @@ use Rattle.std.specs.Prelude.{Contains, nat_lt, slice_get, slice_index_or, if◌
 use Rattle.std.proofs.lemmas.Bool.Decides.{nat_tests}
 use Rattle.std.proofs.lemmas.List.Elements.{Contains-append_left, Contains-append_right, Contains-append_cases}
 use Rattle.std.proofs.lemmas.Option.{slice_get_within, same_Some}
-use Rattle.bytecode.specs.Skeleton.{successors}
+use Rattle.run_types.specs.Skeleton.{successors}
 use Rattle.c_semantics.specs.Store.{Body}
 use Rattle.effects.specs.Sites.{Site, Next}
 use Rattle.effect_flow.specs.declared.flow.Way.{Way}

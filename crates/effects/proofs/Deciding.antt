@@ -4,7 +4,7 @@ use Rattle.std.specs.Prelude.{Option, is_none, bytes_eq, slice_get, option_map}
 use Rattle.std.specs.Option.{option_and_then}
 use Rattle.std.specs.Bool.{Decides}
 use Rattle.std.proofs.lemmas.Slice.Eq.{bytes_eq-Decides}
-use Rattle.bytecode.specs.Skeleton.{PointKind, Point, Call, point_at}
+use Rattle.run_types.specs.Skeleton.{PointKind, Point, Call, point_at}
 use Rattle.c_tree.specs.BareExpr.{Bytes}
 use Rattle.c_semantics.specs.Store.{Body}
 use Rattle.effects.specs.Sites.{Site, IsOf, IsKind, IsCall, Passes, point_in, function_in, is_enclosed}

@@ -2,9 +2,9 @@
 use Rattle.std.proofs.Common.{◌≡◌, ℕ, suc, true, not, List, [], ◌∷◌, ◌++◌, map, Some, refl, sym, subst, arith}
 use Rattle.std.specs.Prelude.{codes, Contains, slice_get, option_map}
 use Rattle.std.specs.List.{range_with_len}
-use Rattle.bytecode.specs.CheckIns.{Entry}
-use Rattle.bytecode.specs.CheckIns as check_in
-use Rattle.bytecode.specs.Skeleton.{Point, CheckIn, Call, Print, Return, Begin, End, point_at, successors}
+use Rattle.run_types.specs.CheckIns.{Entry}
+use Rattle.run_types.specs.CheckIns as check_in
+use Rattle.run_types.specs.Skeleton.{Point, CheckIn, Call, Print, Return, Begin, End, point_at, successors}
 use Rattle.c_tree.specs.BareExpr.{Bytes}
 use Rattle.c_semantics.specs.Resolved.{Expression, Statement, Statements, NoExpressions, NoStatements, StatementThen, ExpressionThen}
 use Rattle.c_semantics.specs.Resolved as tree

@@ -5,7 +5,7 @@ use Rattle.std.specs.Option.{option_and_then}
 use Rattle.std.proofs.lemmas.Bool.{cases_eq}
 use Rattle.std.proofs.lemmas.Bool.Decides.{Decides-eqb}
 use Rattle.std.proofs.lemmas.Map.Made.{is_member-Decides}
-use Rattle.bytecode.specs.Skeleton.{Point, PointKind, Skeleton, Leads, Call, Return, direct_use, entry, point_at, successors}
+use Rattle.run_types.specs.Skeleton.{Point, PointKind, Skeleton, Leads, Call, Return, direct_use, entry, point_at, successors}
 use Rattle.c_tree.specs.BareExpr.{Bytes}
 use Rattle.c_semantics.specs.Skeletons.{is_check_in_kind}
 use Rattle.c_semantics.specs.Store.{Body, check_in_number}

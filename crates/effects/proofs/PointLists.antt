@@ -6,7 +6,7 @@ use Rattle.std.specs.List.{list_any}
 use Rattle.std.proofs.lemmas.Slice.Eq.{bytes_eq-Decides}
 use Rattle.name_sets.specs.NameLists.{is_among}
 use Rattle.con_freeness.specs.Rows.{Names}
-use Rattle.bytecode.specs.Skeleton.{Point, PointKind, Return, Call, direct_use, successors}
+use Rattle.run_types.specs.Skeleton.{Point, PointKind, Return, Call, direct_use, successors}
 use Rattle.c_tree.specs.BareExpr.{Bytes}
 use Rattle.c_semantics.specs.Store.{Body}
 use Rattle.effects.specs.Sites.{Site, IsOf, IsCall, IsReturn, Next, Passes, Uses, point_in, function_in}

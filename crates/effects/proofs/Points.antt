@@ -2,7 +2,7 @@
 use Rattle.std.proofs.Common.{◌≡◌, Bool, true, List, Some, None, refl, ap, sym, subst, ◌∙◌, ◌⊎◌, ◌↔◌, inl, inr, not}
 use Rattle.std.specs.Prelude.{Option, option_map, slice_get}
 use Rattle.std.specs.Option.{option_and_then}
-use Rattle.bytecode.specs.Skeleton.{Point, PointKind, direct_use, point_at}
+use Rattle.run_types.specs.Skeleton.{Point, PointKind, direct_use, point_at}
 use Rattle.c_tree.specs.BareExpr.{Bytes}
 use Rattle.c_semantics.specs.Store.{Body}
 use Rattle.effects.specs.Sites.{Site, IsOf, IsKind, Next, Passes, Uses, point_in, is_enclosed, is_outer_end}

@@ -1,8 +1,8 @@
 -- What check-ins of the text cover, and what is in their rows.
 use Rattle.std.proofs.Common.{◌≡◌, ◌↔◌, true, false, not, List, [], ◌∷◌, Some, refl, sym, subst, ap, ◌∙◌, inl, inr, arith}
 use Rattle.std.specs.Prelude.{codes}
-use Rattle.bytecode.specs.CheckIns.{Entry}
-use Rattle.bytecode.specs.Skeleton.{PointKind, CheckIn, Call, Return, Begin}
+use Rattle.run_types.specs.CheckIns.{Entry}
+use Rattle.run_types.specs.Skeleton.{PointKind, CheckIn, Call, Return, Begin}
 use Rattle.c_semantics.specs.Skeletons.{is_check_in_kind}
 use Rattle.c_semantics.specs.Store.{Mark, Start, CheckInOf}
 use Rattle.effects.specs.Sites.{Site, IsKind, Passes, stays}

@@ -4,7 +4,7 @@ use Rattle.std.specs.Prelude.{Option, option_map, slice_get}
 use Rattle.std.specs.Option.{option_and_then}
 use Rattle.std.proofs.lemmas.Bool.{cases_eq}
 use Rattle.std.proofs.lemmas.Option.{slice_get_within}
-use Rattle.bytecode.specs.Skeleton.{Point, PointKind, Call, direct_use, point_at}
+use Rattle.run_types.specs.Skeleton.{Point, PointKind, Call, direct_use, point_at}
 use Rattle.c_tree.specs.BareExpr.{Bytes}
 use Rattle.c_semantics.specs.Store.{Body}
 use Rattle.effects.specs.Sites.{Site, IsOf, IsCall, Uses, point_in, function_in, after_call}

@@ -5,7 +5,7 @@ use Rattle.std.specs.List.{list_any}
 use Rattle.std.proofs.lemmas.Bool.Decides.{Decides-eqb}
 use Rattle.name_sets.specs.NameLists.{is_among}
 use Rattle.con_freeness.specs.Rows.{Names}
-use Rattle.bytecode.specs.Skeleton.{Call, entry}
+use Rattle.run_types.specs.Skeleton.{Call, entry}
 use Rattle.c_tree.specs.BareExpr.{Bytes}
 use Rattle.c_semantics.specs.Store.{Body}
 use Rattle.effects.specs.Sites.{Site, IsOf, IsCall, IsReturn, IsEntry, Next, Uses, after_call, is_enclosed, is_outer_end}

@@ -2,7 +2,7 @@
 use Rattle.std.proofs.Common.{◌≡◌, Bool, true, false, not, List, Some, None, refl, sym, subst, ap, ◌∙◌, ◌⊎◌, inl, inr}
 use Rattle.std.specs.Prelude.{Option, ◌==◌, ◌&&◌, option_map, slice_get}
 use Rattle.std.specs.Option.{option_and_then}
-use Rattle.bytecode.specs.Skeleton.{PointKind, Point, Return, point_at}
+use Rattle.run_types.specs.Skeleton.{PointKind, Point, Return, point_at}
 use Rattle.c_tree.specs.BareExpr.{Bytes}
 use Rattle.c_semantics.specs.Store.{Body}
 use Rattle.effects.specs.Sites.{Site, IsOf, point_in, is_end, is_outer_end}

@@ -1,7 +1,7 @@
 -- The points of a store, and what is said of one by its own body alone.
 use Rattle.std.specs.Prelude.{◌≡◌, ℕ, nat_lt, ◌==◌, Bool, true, false, ◌&&◌, List, Option, Some, slice_get, option_map}
 use Rattle.std.specs.Option.{option_and_then}
-use Rattle.bytecode.specs.Skeleton.{PointKind, Point, Leads, Call, Return, End, direct_use, point_at, entry, after}
+use Rattle.run_types.specs.Skeleton.{PointKind, Point, Leads, Call, Return, End, direct_use, point_at, entry, after}
 use Rattle.c_tree.specs.BareExpr.{Bytes}
 use Rattle.c_semantics.specs.Store.{Body}
 

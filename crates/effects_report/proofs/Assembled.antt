@@ -6,8 +6,8 @@ use Rattle.std.specs.Option.{option_map, option_and_then}
 use Rattle.std.proofs.lemmas.List.Elements.{All-nil, All-cons, All-head, All-tail, All-weaker}
 use Rattle.std.proofs.lemmas.List.Sorted.{All-permutation}
 use Rattle.std.proofs.lemmas.Option.{none-some, same_Some, slice_get-map, slice_get_within, get_or_from_slice_get}
-use Rattle.bytecode.specs.CheckIns.{CheckInKind}
-use Rattle.bytecode.specs.Skeleton.{Point, point_at, check_in_of, check_in_at}
+use Rattle.run_types.specs.CheckIns.{CheckInKind}
+use Rattle.run_types.specs.Skeleton.{Point, point_at, check_in_of, check_in_at}
 use Rattle.c_tree.specs.BareExpr.{Bytes}
 use Rattle.c_tree.specs.Bare.{bare_function}
 use Rattle.c_tree.specs.declared.def.Function.{Function}

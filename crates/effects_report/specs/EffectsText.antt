@@ -2,8 +2,8 @@
 use Rattle.std.specs.Prelude.{◌≡◌, ℕ, suc, List, [], ◌∷◌, ◌++◌, codes, Some, ⊤}
 use Rattle.std.specs.List.{flat_map, AllZip}
 use Rattle.std.specs.List.Sorted.{IsPermutation, IsNonDecreasingBy}
-use Rattle.bytecode.specs.CheckIns.{CheckInKind}
-use Rattle.bytecode.specs.Skeleton.{Skeleton}
+use Rattle.run_types.specs.CheckIns.{CheckInKind}
+use Rattle.run_types.specs.Skeleton.{Skeleton}
 use Rattle.con_freeness.specs.Rows.{Names, Row}
 use Rattle.c_tree.specs.BareExpr.{Bytes}
 use Rattle.c_tree.specs.Bare.{bare_function}

@@ -1,11 +1,11 @@
 //! The points of the `main` of a text. What is owned on the way is owned by a function of its own, which lends it on.
+use c_definitions::Known;
 use c_front::read_text;
 use c_tree::{DefKind, Function, Program};
-use c_types::Known;
+use name_resolution::resolve_body;
 use name_sets::Names;
 use point_places::places_of;
 use resolved_tree::Trees;
-use resolved_tree::resolve::resolve_body;
 use skeleton_gen::{SkeletonFault, skeleton_of};
 use skeletons::Skeleton;
 use std::alloc::Global;

@@ -1,8 +1,8 @@
 //! Calls with the wrong number of arguments, and formats that don't fit theirs.
-use crate::draft::Draft;
 use c_lexer::{Token, TokenKind};
 use c_tree::{DefKind, Program};
 use std::alloc::{AllocError, Global};
+use type_notes::Draft;
 
 /// How many arguments a function takes and how many a call of it gives. The token of the number is the function's name.
 pub(crate) fn wrong_count(

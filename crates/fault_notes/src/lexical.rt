@@ -1,8 +1,8 @@
 //! What is wrong with bytes that are no token.
 ghost use Rattle.std.specs.Prelude.{◌≤◌, length};
 
-use crate::draft::Draft;
 use std::alloc::{AllocError, Global};
+use type_notes::Draft;
 
 /// What a bad byte is.
 pub(crate) fn bad_byte(alloc: Global, rest: &[u8]) -> Result<Draft, AllocError> {

@@ -9,13 +9,14 @@
 //! Memory is needed for the tokens and the tree of the text, which are made once more. The time is linear in the length of the
 //! text, but for the tokens that could have come: each of a few is tried, in linear time.
 //!
-//! Read in this order: `lines` (lines after a mark), `draft` (a message that is put together), `excerpt` (the line of the text
-//! and the caret), `lexical`, `syntax` (with `following`, the tokens that fit), `names`, `calls`, `limits` and `types` (messages
-//! by the kind of fault), `notes` (the whole).
+//! Which types met where one is wrong is said by `type_notes`, whose messages are put together here too.
+//!
+//! Read in this order: `lines` (lines after a mark), `excerpt` (the line of the text and the caret), `lexical`, `syntax` (with
+//! `following`, the tokens that fit), `names`, `calls`, `limits` and `types` (messages by the kind of fault), `notes` (the
+//! whole).
 #![tactic(auto)]
 
 mod calls;
-mod draft;
 mod excerpt;
 mod following;
 mod lexical;

@@ -1,7 +1,7 @@
 //! Definitions that are larger than a limit allows.
-use crate::draft::Draft;
 use c_tree::{Array, DefKind, Function, Program};
 use std::alloc::{AllocError, Global};
+use type_notes::Draft;
 
 const MOST_TOKENS: usize = 4096;
 

@@ -1,10 +1,10 @@
 //! Names that nothing declares, and those that are declared twice.
-use crate::draft::Draft;
 use c_lexer::{Token, TokenKind};
 use c_tree::{DefKind, Program};
 use dsu_report::place_of;
 use std::alloc::{AllocError, Global};
 use strsim::levenshtein;
+use type_notes::Draft;
 
 /// Names of more bytes than this aren't compared.
 const LONGEST_COMPARED: usize = 64;

@@ -2,7 +2,6 @@
 ghost use Rattle.std.specs.Prelude.{IfOk};
 ghost use Rattle.fault_notes.specs.Notes.{AreNotes};
 
-use crate::draft::Draft;
 use crate::excerpt::excerpt_of;
 use crate::lexical::{bad_byte, bad_literal, directive};
 use crate::lines::add_line;
@@ -10,6 +9,7 @@ use crate::syntax::syntax;
 use crate::types::types;
 use c_front::FaultKind;
 use std::alloc::{AllocError, Global};
+use type_notes::Draft;
 
 /// Explains the first fault of a text, at a byte of it or at its end: the line of the text, a caret below the place, and what
 /// is wrong there. Each line begins with the mark.

@@ -1,9 +1,9 @@
 //! What could have come in place of a token.
-use crate::draft::Draft;
 use crate::following::expected;
 use c_lexer::{Token, TokenKind, lex};
 use c_parser::parse;
 use std::alloc::{AllocError, Global};
+use type_notes::Draft;
 
 /// The tokens that are tried at the place of a fault: one of each sort.
 const CANDIDATES: &[u8] =

@@ -1,6 +1,5 @@
 //! What is wrong with a tree.
 use crate::calls::{bad_format, wrong_count};
-use crate::draft::Draft;
 use crate::limits::over_limit;
 use crate::names::{declared_twice, unknown_field, unknown_name};
 use crate::syntax::number_at;
@@ -9,6 +8,7 @@ use c_parser::parse;
 use c_tree::Program;
 use c_types::TypeKind;
 use std::alloc::{AllocError, Global};
+use type_notes::{Draft, wrong_type};
 
 /// The tokens and the tree of a text.
 #[derive(Drop)]
@@ -44,8 +44,8 @@ pub(crate) fn types(
         TypeKind::BadFormat => bad_format(alloc, &read.tokens, number),
         TypeKind::OverLimit => over_limit(alloc, &read.program, at),
         TypeKind::UnknownField => unknown_field(alloc, &read.tokens, number),
-        TypeKind::WrongType
-        | TypeKind::NotPlace
+        TypeKind::WrongType => wrong_type(alloc, &read.program, at),
+        TypeKind::NotPlace
         | TypeKind::OutsideLoop
         | TypeKind::NoMain
         | TypeKind::LeavesTransaction
@@ -61,12 +61,12 @@ fn of_word(alloc: Global, kind: TypeKind, found: Option<&Token>) -> Result<Draft
         return Ok(draft);
     };
     draft.word(token.text.as_str())?;
-    draft.say(rule_of(kind, token.text.as_str()))?;
+    draft.say(rule_of(kind))?;
     Ok(draft)
 }
 
 /// The rule that is broken, said of the word at the place.
-fn rule_of(kind: TypeKind, word: &str) -> &'static str {
+fn rule_of(kind: TypeKind) -> &'static str {
     match kind {
         TypeKind::NotPlace =>
             " begins no variable, element or field: only these can be assigned and stepped",
@@ -76,15 +76,6 @@ fn rule_of(kind: TypeKind, word: &str) -> &'static str {
         TypeKind::BadTransformer => {
             " begins a transformer of nothing that the text defines, or one with a name other than old or an operator that may trap"
         }
-        _ => of_type(word),
-    }
-}
-
-/// What a wrong type is at a word.
-fn of_type(word: &str) -> &'static str {
-    match word {
-        "return" => " has a value exactly if the function has a result",
-        "struct" => " has no definition in the text, or a type other than the one expected",
-        _ => " begins an expression, or a prototype, of a type other than the one expected",
+        _ => " can't be here",
     }
 }

@@ -1,9 +1,9 @@
 -- In a sound body what is called and spawned at the points has the property that it has in the text.
 use Rattle.std.proofs.Common.{◌≡◌, ℕ, zero, suc, true, List, [], ◌∷◌, ◌++◌, map, option_map, unwrap_or, Option, Some, None, sym, subst}
 use Rattle.std.specs.Prelude.{slice_get}
-use Rattle.bytecode.specs.CheckIns as check_in
-use Rattle.bytecode.specs.Skeleton.{PointKind, Point, IsCall, kind_at}
-use Rattle.bytecode.specs.Skeleton as kind
+use Rattle.run_types.specs.CheckIns as check_in
+use Rattle.run_types.specs.Skeleton.{PointKind, Point, IsCall, kind_at}
+use Rattle.run_types.specs.Skeleton as kind
 use Rattle.c_ints.specs.declared.operator.BinOp.{BinOp}
 use Rattle.c_tree.specs.declared.expr.StepOp.{StepOp}
 use Rattle.c_tree.specs.declared.expr.StepOp.TheVariants.{PreIncrement, PreDecrement, PostIncrement, PostDecrement}

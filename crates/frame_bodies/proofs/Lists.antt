@@ -3,7 +3,7 @@ use Rattle.std.proofs.Common.{◌≡◌, ℕ, Bool, true, false, List, [], ◌�
 use Rattle.std.specs.List.{cons_option}
 use Rattle.std.proofs.lemmas.Slice.Eq.{bytes_eq-Decides}
 use Rattle.name_sets.specs.NameLists.{name_set, with_name, precedes}
-use Rattle.bytecode.specs.Skeleton.{PointKind, Point, Skeleton, direct_use}
+use Rattle.run_types.specs.Skeleton.{PointKind, Point, Skeleton, direct_use}
 use Rattle.c_tree.specs.BareExpr.{Bytes}
 use Rattle.c_semantics.specs.Points.{at_depth}
 use Rattle.c_semantics.specs.Skeletons.{direct_uses}

@@ -7,8 +7,8 @@ use Rattle.c_tree.specs.Bare.{bare_def, bare_kind}
 use Rattle.c_tree.specs.declared.def.Def.{Def}
 use Rattle.c_tree.specs.declared.def.DefKind.{DefKind}
 use Rattle.c_tree.specs.declared.def.DefKind.TheVariants.{Struct, Forward, Mutex, Function, Prototype, Global, Array, TransformStruct, TransformGlobal}
-use Rattle.c_types.specs.declared.fault.TypeKind.TheVariants.{DeclaredTwice}
-use Rattle.c_types.specs.Lookup.{Meaning, defined, definition_of, is_named, meaning_in, members_of, name_of}
+use Rattle.c_expr_types.specs.declared.fault.TypeKind.TheVariants.{DeclaredTwice}
+use Rattle.c_definitions.specs.Lookup.{Meaning, defined, definition_of, is_named, meaning_in, members_of, name_of}
 use Rattle.c_types.specs.Definitions.{all_faults, kind_faults, named_twice, result_faults}
 use Rattle.c_semantics.specs.Names.{struct_name}
 use Rattle.c_semantics.specs.Texts.{defines}

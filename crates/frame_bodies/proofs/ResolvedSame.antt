@@ -1,8 +1,8 @@
 -- Two definitions that say the same of what a body uses resolve it alike.
 use Rattle.std.proofs.Common.{◌≡◌, ℕ, suc, List, [], ◌∷◌, ◌++◌, map, option_map, unwrap_or, Option, Some, None, refl, sym, ap, ap₂, subst, ◌∙◌}
-use Rattle.bytecode.specs.Skeleton.{PointKind, Point}
-use Rattle.bytecode.specs.Skeleton as kind
-use Rattle.bytecode.specs.CheckIns as check_in
+use Rattle.run_types.specs.Skeleton.{PointKind, Point}
+use Rattle.run_types.specs.Skeleton as kind
+use Rattle.run_types.specs.CheckIns as check_in
 use Rattle.c_ints.specs.declared.operator.BinOp.{BinOp}
 use Rattle.c_tree.specs.declared.expr.StepOp.{StepOp}
 use Rattle.c_tree.specs.declared.expr.StepOp.TheVariants.{PreIncrement, PreDecrement, PostIncrement, PostDecrement}

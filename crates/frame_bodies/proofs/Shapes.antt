@@ -3,10 +3,10 @@ use Rattle.std.proofs.Common.{◌≡◌, ◌≢◌, ℕ, zero, suc, pred, ◌+�
 use Rattle.std.specs.Prelude.{◌==◌, nat_lt, slice_get, slice_index_or, if◌then◌else◌}
 use Rattle.std.proofs.lemmas.Bool.Decides.{nat_tests}
 use Rattle.std.proofs.lemmas.Option.{none-some, same_Some}
-use Rattle.bytecode.specs.CheckIns.{CheckInKind}
-use Rattle.bytecode.specs.CheckIns as check_in
-use Rattle.bytecode.specs.Skeleton.{PointKind, Point, after, check_in_after, depth_after, kind_at, point_at, successors}
-use Rattle.bytecode.specs.Skeleton as kind
+use Rattle.run_types.specs.CheckIns.{CheckInKind}
+use Rattle.run_types.specs.CheckIns as check_in
+use Rattle.run_types.specs.Skeleton.{PointKind, Point, after, check_in_after, depth_after, kind_at, point_at, successors}
+use Rattle.run_types.specs.Skeleton as kind
 use Rattle.c_semantics.specs.Resolved.{Expression, Expressions, Place, Statement, Statements, Constant, Read, Unary, Binary, Convert, And, Or, Choice, Assign, Update, Postfix, Call, Print, New, Free, Create, Join, JoinInto, InitMutex, Lock, Unlock, NoExpressions, ExpressionThen, Local, Global, Element, Field, Block, Empty, Evaluate, Declare, If, IfElse, While, DoWhile, For, Break, Continue, Return, UpdatePoint, Transaction, NoStatements, StatementThen}
 use Rattle.c_semantics.specs.Points.{at_depth, evaluated, evaluated_if, of_body, of_expression, of_expressions, of_parts, of_statement, of_statements, reads, size, size_if, size_stmt, size_stmts, writes}
 use Rattle.c_semantics.specs.Skeletons.{Flow, Part, Targets, ◌then_part◌, access, expression_if, goes, guarded, loop, on_to, skeleton, union, with_point}

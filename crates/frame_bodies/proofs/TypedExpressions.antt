@@ -17,18 +17,18 @@ use Rattle.c_tree.specs.declared.expr.ExprNode.TheVariants.{Number, Character, N
 use Rattle.c_tree.specs.declared.def.Def.{Def}
 use Rattle.c_tree.specs.declared.def.DefKind.{DefKind}
 use Rattle.c_tree.specs.declared.def.DefKind.TheVariants as kind
-use Rattle.c_types.specs.declared.fault.Fault.{Fault}
-use Rattle.c_types.specs.declared.fault.TypeKind.TheVariants.{WrongType, WrongCount, UnknownName, BadFormat}
-use Rattle.c_types.specs.declared.found.Found.{Found}
-use Rattle.c_types.specs.declared.found.Found.TheVariants.{Place, Value, Zero, Nothing}
-use Rattle.c_types.specs.declared.found.Part.{Part}
-use Rattle.c_types.specs.Faults.{first}
-use Rattle.c_types.specs.Found.{faults_of, has_value, is_handle, is_integer, kind_in, wrong, int, is_comparable, type_of, is_evaluated, place_required, required, unless_wrong, value_of_type}
-use Rattle.c_types.specs.Formats.{fits_format}
-use Rattle.c_types.specs.Lookup.{Meaning, Names, defined, definition_of, hidden_by, is_tag, meaning_in, meaning_of}
-use Rattle.c_types.specs.Lookup.Meaning.{AVariable, AnArray, AFunction, AMutex}
+use Rattle.c_expr_types.specs.declared.fault.Fault.{Fault}
+use Rattle.c_expr_types.specs.declared.fault.TypeKind.TheVariants.{WrongType, WrongCount, UnknownName, BadFormat}
+use Rattle.c_expr_types.specs.declared.found.Found.{Found}
+use Rattle.c_expr_types.specs.declared.found.Found.TheVariants.{Place, Value, Zero, Nothing}
+use Rattle.c_expr_types.specs.declared.found.Part.{Part}
+use Rattle.c_expr_types.specs.Faults.{first}
+use Rattle.c_expr_types.specs.Found.{faults_of, has_value, is_handle, is_integer, kind_in, wrong, int, is_comparable, type_of, is_evaluated, place_required, required, unless_wrong, value_of_type}
+use Rattle.c_expr_types.specs.Formats.{fits_format}
+use Rattle.c_definitions.specs.Lookup.{Meaning, Names, defined, definition_of, hidden_by, is_tag, meaning_in, meaning_of}
+use Rattle.c_definitions.specs.Lookup.Meaning.{AVariable, AnArray, AFunction, AMutex}
 use Rattle.c_scope.specs.Tables.{innermost}
-use Rattle.c_types.specs.Expressions.{binary, call_type, is_condition, is_operand, is_unary_operand, is_assigned, is_thread, is_int, is_thread_argument, fits, infer, is_equality, meeting, mutex_call_type, number_type, own, part, parts, print_faults, spawn_type, thread_parameter, unknown_tag, where_met}
+use Rattle.c_expr_types.specs.Expressions.{binary, call_type, is_condition, is_operand, is_unary_operand, is_assigned, is_thread, is_int, is_thread_argument, fits, infer, is_equality, meeting, mutex_call_type, number_type, own, part, parts, print_faults, spawn_type, thread_parameter, unknown_tag, where_met}
 use Rattle.typed_uses.proofs.Faultless.{Clean, built, is_place, meets, none_after, none_before}
 use Rattle.typed_uses.proofs.SoundTexts.{Facts}
 use Rattle.typed_uses.proofs.Lookups.{found_as, look}

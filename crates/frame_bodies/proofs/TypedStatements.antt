@@ -14,14 +14,14 @@ use Rattle.c_tree.specs.declared.stmt.StmtNode.TheVariants.{Block, Empty, Evalua
 use Rattle.c_tree.specs.declared.def.Def.{Def}
 use Rattle.c_tree.specs.declared.def.DefKind.{DefKind}
 use Rattle.c_tree.specs.declared.def.DefKind.TheVariants as kind
-use Rattle.c_types.specs.declared.fault.TypeKind.TheVariants.{LeavesTransaction}
-use Rattle.c_types.specs.declared.found.Found.{Found}
-use Rattle.c_types.specs.declared.lookup.Position.TheVariants.{InFunction}
+use Rattle.c_expr_types.specs.declared.fault.TypeKind.TheVariants.{LeavesTransaction}
+use Rattle.c_expr_types.specs.declared.found.Found.{Found}
+use Rattle.c_definitions.specs.declared.lookup.Position.TheVariants.{InFunction}
 use Rattle.c_types.specs.declared.statement.Loop.{Loop}
 use Rattle.c_types.specs.declared.statement.Loop.TheVariants.{Outside, Within, Beyond}
-use Rattle.c_types.specs.Found.{is_evaluated}
-use Rattle.c_types.specs.Lookup.{Scopes, declare}
-use Rattle.c_types.specs.Expressions.{fits, is_condition}
+use Rattle.c_expr_types.specs.Found.{is_evaluated}
+use Rattle.c_definitions.specs.Lookup.{Scopes, declare}
+use Rattle.c_expr_types.specs.Expressions.{fits, is_condition}
 use Rattle.c_types.specs.Definitions.{inside}
 use Rattle.c_types.specs.Statements.{Around, Walked, behind, beyond, expression_faults, in_a_transaction, in_block, in_loop, in_order, jump_faults, leaving_faults, optional_faults, part_in, return_faults, stmt_node, value_return_faults, walk}
 use Rattle.c_semantics.specs.Texts.{Definitions, defines, int}

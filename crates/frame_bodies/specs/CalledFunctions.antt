@@ -1,6 +1,6 @@
 -- In an accepted text each name that is called or spawned is a function.
 use Rattle.std.specs.Prelude.{◌≡◌, ℕ, true, Some}
-use Rattle.bytecode.specs.Skeleton.{Skeleton, IsCall, Spawn, kind_at}
+use Rattle.run_types.specs.Skeleton.{Skeleton, IsCall, Spawn, kind_at}
 use Rattle.c_tree.specs.BareExpr.{Bytes}
 use Rattle.c_semantics.specs.Skeletons.{skeleton_of}
 use Rattle.c_semantics.specs.SourceTexts.{Text}

@@ -1,7 +1,7 @@
 -- The shape of a skeleton: where a body begins and ends, and from which of its points control goes on.
 use Rattle.std.specs.Prelude.{◌≡◌, ◌≢◌, ℕ, suc, ◌<◌, IsTrue, [], ◌∷◌, length, Some, option_map}
-use Rattle.bytecode.specs.CheckIns.{CheckInKind, Entry}
-use Rattle.bytecode.specs.Skeleton.{PointKind, Point, Skeleton, CheckIn, Return, End, Leads, after, check_in_after, depth_after, entry, kind_at, point_at, successors}
+use Rattle.run_types.specs.CheckIns.{CheckInKind, Entry}
+use Rattle.run_types.specs.Skeleton.{PointKind, Point, Skeleton, CheckIn, Return, End, Leads, after, check_in_after, depth_after, entry, kind_at, point_at, successors}
 use Rattle.c_semantics.specs.Leaving.{leaves_at_ends}
 use Rattle.c_semantics.specs.Resolved.{Statements}
 use Rattle.c_semantics.specs.Skeletons.{skeleton}

@@ -2,8 +2,9 @@
 //! the rules finds it.
 
 use crate::reading::{Reading, all_are_read, are_read, program_in};
+use c_definitions::Known;
 use c_tree::Def;
-use c_types::{Known, Typed, check};
+use c_types::{Typed, check};
 use std::alloc::Global;
 
 /// Takes what threads may share.

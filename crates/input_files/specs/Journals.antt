@@ -1,7 +1,7 @@
 -- How long a journal may be, when a file holds one, and what is answered for a file whose events aren't read.
 use Rattle.std.specs.Prelude.{◌≡◌, ◌⊎◌, ◌≤◌, ◌*◌, ℕ, List, length, Option, Ok, Err}
 use Rattle.dsu_io.specs.Files.{IsContent}
-use Rattle.bytecode.specs.declared.run.Event.{Event}
+use Rattle.run_types.specs.declared.run.Event.{Event}
 use Rattle.dsu_journal.specs.Journals.{journal_in}
 use Rattle.dsu_journal.specs.declared.fault.JournalFault.{JournalFault}
 use Rattle.dsu_journal.specs.declared.fault.JournalFault.TheVariants as journal

@@ -1,16 +1,16 @@
 ghost use Rattle.std.specs.Prelude.{◌≡◌, ◌⊎◌, ◌≤◌, ℕ, List, length, IfOk, IfErr, IsErrOf, MatchResult, Some, Ok, Err};
 ghost use Rattle.dsu_io.specs.Causes.{NoneFailed, ReadFailed};
-ghost use Rattle.bytecode.specs.declared.run.Event.{Event as Made};
+ghost use Rattle.run_types.specs.declared.run.Event.{Event as Made};
 ghost use Rattle.dsu_journal.specs.Journals.{journal_in};
 ghost use Rattle.dsu_journal.specs.declared.fault.JournalFault.{JournalFault as Fault};
 ghost use Rattle.input_files.specs.Files.{Exceeds, IsShort};
 ghost use Rattle.input_files.specs.Journals.{HoldsEvents, IsOfJournal, journal_limit, line_of_journal};
 
 use crate::bytes::bytes_of;
-use bytecode::Event;
 use dsu_io::Files;
 use dsu_journal::{JournalFault, read_journal};
 use dsu_report::{FaultLine, LineWord};
+use run_types::Event;
 use std::alloc::Global;
 
 /// How many bytes a journal may have.

@@ -2,8 +2,8 @@
 use Rattle.std.proofs.Common.{◌≡◌, ◌==◌, true, false, List, [], ◌∷◌, ◌++◌, map, Option, Some, None, refl, sym, ap, subst, ◌∙◌, if◌then◌else◌, option_map}
 use Rattle.std.specs.Prelude.{pos, codes}
 use Rattle.std.specs.Fmt.{digits}
-use Rattle.bytecode.specs.declared.run.Event.{Event}
-use Rattle.bytecode.specs.declared.run.Event.TheVariants.{Move}
+use Rattle.run_types.specs.declared.run.Event.{Event}
+use Rattle.run_types.specs.declared.run.Event.TheVariants.{Move}
 use Rattle.c_semantics.specs.Store.{Body, Mark, Start, CheckInOf}
 use Rattle.con_freeness.specs.Rows.{Row, empty_row}
 use Rattle.effects.specs.GrowthLaws.{RowsGrow}

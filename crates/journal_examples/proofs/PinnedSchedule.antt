@@ -2,7 +2,7 @@
 use Rattle.std.proofs.Common.{◌≡◌, ℕ, zero, suc, List, [], ◌∷◌, Option, Some, None, refl}
 use Rattle.std.specs.Option.{option_or}
 use Rattle.std.specs.Fmt.{digits}
-use Rattle.bytecode.specs.declared.run.Event.{Event}
+use Rattle.run_types.specs.declared.run.Event.{Event}
 use Rattle.source_model.specs.Guards.{Guard, first_guard}
 use Rattle.source_model.specs.Journals.{happens}
 use Rattle.source_model.specs.Schedules.{acted_by, solo_next}

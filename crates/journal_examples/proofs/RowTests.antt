@@ -8,7 +8,7 @@ use Rattle.std.proofs.lemmas.Bool.Decides.{Decides-eqb}
 use Rattle.std.proofs.lemmas.Slice.Eq.{bytes_eq-Decides}
 use Rattle.name_sets.specs.NameLists.{is_among, name_set}
 use Rattle.con_freeness.specs.Rows.{Names, Row}
-use Rattle.bytecode.specs.Skeleton.{Call, entry}
+use Rattle.run_types.specs.Skeleton.{Call, entry}
 use Rattle.c_tree.specs.BareExpr.{Bytes}
 use Rattle.c_semantics.specs.Skeletons.{is_check_in_kind}
 use Rattle.c_semantics.specs.Store.{Body, Mark, CheckInOf, check_in_number}

@@ -1,8 +1,8 @@
 -- A journal depends on rows only where an offer is decided, and there on the rows in force alone.
 use Rattle.std.proofs.Common.{◌≡◌, ℕ, suc, length, Bool, true, false, ◌&&◌, ◌||◌, not, List, [], ◌∷◌, ◌++◌, map, Option, Some, None, refl, sym, ap, ap₂, ◌∙◌, if◌then◌else◌, option_map, option_and_then}
 use Rattle.std.proofs.lemmas.Bool.{and_parts}
-use Rattle.bytecode.specs.declared.run.Event.{Event}
-use Rattle.bytecode.specs.declared.run.Event.TheVariants.{Move, CheckIn, Offer, Decide, Withdraw}
+use Rattle.run_types.specs.declared.run.Event.{Event}
+use Rattle.run_types.specs.declared.run.Event.TheVariants.{Move, CheckIn, Offer, Decide, Withdraw}
 use Rattle.c_semantics.specs.Changes.{changed, interface}
 use Rattle.c_semantics.specs.SourceTexts.{Text}
 use Rattle.c_semantics.specs.Store.{Body}

@@ -4,7 +4,7 @@ use Rattle.std.specs.Prelude.{Contains, slice_get, option_map}
 use Rattle.std.proofs.lemmas.Bool.{and_parts}
 use Rattle.std.proofs.lemmas.Bool.Decides.{Decides-eqb}
 use Rattle.std.specs.Option.{is_some, option_map_or}
-use Rattle.bytecode.specs.Skeleton.{Point, point_at, successors}
+use Rattle.run_types.specs.Skeleton.{Point, point_at, successors}
 use Rattle.c_tree.specs.BareExpr.{Bytes}
 use Rattle.c_semantics.specs.Store.{Body}
 use Rattle.effects.specs.Sites.{Site, Next, after_call, point_in, is_outer_end}

@@ -1,7 +1,7 @@
 -- A run of these texts with three offers: what it prints and answers, for all rules whose rows are those of the effects.
 use Rattle.std.specs.Prelude.{◌≡◌, ℕ, Bool, true, false, List, [], ◌∷◌, ◌++◌, map, Option, Some, None, option_map, pos, codes}
-use Rattle.bytecode.specs.declared.run.Event.{Event}
-use Rattle.bytecode.specs.declared.run.Event.TheVariants.{Move, CheckIn, Offer, Decide}
+use Rattle.run_types.specs.declared.run.Event.{Event}
+use Rattle.run_types.specs.declared.run.Event.TheVariants.{Move, CheckIn, Offer, Decide}
 use Rattle.con_freeness.specs.Verdicts.{Pinned}
 use Rattle.con_freeness.specs.Rows.{Row, InForce}
 use Rattle.effects.specs.Rows.{AreRows}

@@ -17,9 +17,9 @@ use crate::scopes::{look_up, store};
 use crate::stack::{pop, push, put};
 use crate::value::Value;
 use crate::work::{End, Work};
-use bytecode::TrapKind;
 use c_ints::{ArithTrap, BinOp, UnOp};
 use resolved_tree::{Place, Trees, ValueType};
+use run_types::TrapKind;
 use std::alloc::AllocError;
 
 /// An operator's value, or its trap.

@@ -4,8 +4,8 @@ ghost use Rattle.local_evaluation.specs.Ends.{halt_of, own_stop, shared_read, sh
 
 use crate::piece::{Piece, Stop};
 use crate::value::Value;
-use bytecode::TrapKind;
 use resolved_tree::{Place, Word};
+use run_types::TrapKind;
 
 /// A part of the scopes of a frame.
 #[derive(Clone, Copy)]

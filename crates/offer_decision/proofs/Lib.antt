@@ -1,7 +1,7 @@
 pub mod Filled
 pub mod NamesOfIds
-mod ChangedNames
-mod Slots
+pub mod ChangedNames
+pub mod Slots
 mod PinsSet
 mod Whole
 pub mod Refusals

@@ -1,7 +1,8 @@
 //! Initialisers that changed. A global that is there already has its value, so they have no effect.
 use crate::draft::Draft;
+use c_definitions::Known;
 use c_tree::{Array, Declaration, Def, DefKind, Expr, same_expr, same_type};
-use c_types::{Known, Typed};
+use c_types::Typed;
 use dsu_io::{List, Text};
 use std::alloc::AllocError;
 

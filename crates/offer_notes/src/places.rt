@@ -1,13 +1,13 @@
 //! The places of points, by line and column.
 use crate::draft::Draft;
 use crate::stand::SourceText;
+use c_definitions::Known;
 use c_tree::{DefKind, Function};
-use c_types::Known;
 use check_in_places::kind_word;
 use dsu_report::place_of;
+use name_resolution::resolve_body;
 use point_places::places_of;
 use resolved_tree::Trees;
-use resolved_tree::resolve::resolve_body;
 use skeletons::CheckInKind;
 use std::alloc::{AllocError, Global};
 

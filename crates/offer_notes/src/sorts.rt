@@ -1,8 +1,8 @@
 //! What a name is.
 use crate::draft::Draft;
 use crate::stand::SourceText;
+use c_definitions::Known;
 use c_tree::DefKind;
-use c_types::Known;
 use std::alloc::{AllocError, Global};
 
 /// What a definition defines.

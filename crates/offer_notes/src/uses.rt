@@ -33,18 +33,40 @@ fn onward(search: &mut Search<'_>, from: Option<Site>) -> Result<Option<Site>, A
     }
 }
 
+/// Where a search over frames looks first.
+#[derive(Clone, Copy)]
+enum First {
+    /// In all frames, and then in the functions that they call.
+    Frames,
+    /// In a frame and the functions that it calls, and then in the frame that waits for it.
+    Calls,
+}
+
+/// The nearest use after a place, and in the functions that are called there where they come first.
+fn next_use(
+    search: &mut Search<'_>,
+    from: Option<Site>,
+    first: First,
+) -> Result<Option<Site>, AllocError> {
+    match first {
+        First::Frames => after(search, from),
+        First::Calls => onward(search, from),
+    }
+}
+
 /// The nearest use in what is left of the thread's frames, the innermost first.
 fn in_frames(
     search: &mut Search<'_>,
     code: &Code<'_>,
     thread: &Thread<'_>,
+    first: First,
 ) -> Result<Option<Site>, AllocError> {
-    let found = after(search, begin_of(code, thread))?;
+    let found = next_use(search, begin_of(code, thread), first)?;
     if found.is_some() {
         return Ok(found);
     }
     for frame in &thread.frames {
-        let found = after(search, site_of(code, frame))?;
+        let found = next_use(search, site_of(code, frame), first)?;
         if found.is_some() {
             return Ok(found);
         }
@@ -52,39 +74,19 @@ fn in_frames(
     Ok(None)
 }
 
-/// A use of a name by code that is active, or else by functions that it may call.
-fn active_use(
+/// A use of a name in what is left of the thread's frames and in the functions that they may call.
+fn coming_use(
     alloc: Global,
     code: &Code<'_>,
     thread: &Thread<'_>,
     name: NameId,
+    first: First,
 ) -> Result<Option<Site>, AllocError> {
     let mut search = Search::new(alloc, code, name)?;
-    match in_frames(&mut search, code, thread)? {
+    match in_frames(&mut search, code, thread, first)? {
         Some(found) => Ok(Some(found)),
         None => search.in_called(),
     }
-}
-
-/// A use of a name in what is left of a frame and in the functions that it may call, and so on for the frames that wait.
-fn later_use(
-    alloc: Global,
-    code: &Code<'_>,
-    thread: &Thread<'_>,
-    name: NameId,
-) -> Result<Option<Site>, AllocError> {
-    let mut search = Search::new(alloc, code, name)?;
-    let found = onward(&mut search, begin_of(code, thread))?;
-    if found.is_some() {
-        return Ok(found);
-    }
-    for frame in &thread.frames {
-        let found = onward(&mut search, site_of(code, frame))?;
-        if found.is_some() {
-            return Ok(found);
-        }
-    }
-    Ok(None)
 }
 
 /// The use at a frame's last stop: of the innermost frame it is done; in another one a call is still in progress, whose
@@ -189,21 +191,27 @@ fn say_use(
     draft.end()
 }
 
-/// Says where the thread may still use a name, if that was found.
+/// Says where the thread may still use a name, if that is found.
 fn say_later(
     draft: &mut Draft,
     stand: &Stand<'_>,
     code: &Code<'_>,
+    thread: &Thread<'_>,
     name: NameId,
-    found: Option<Site>,
+    first: First,
 ) -> Result<(), AllocError> {
-    match found {
+    match coming_use(draft.alloc(), code, thread, name, first)? {
         Some(site) => say_use(draft, stand, code, "it may still use ", name, site),
         None => Ok(()),
     }
 }
 
-/// Says where the transaction may have used a name, if that is found.
+/// What is said of a thread that is in no transaction.
+const OUTSIDE: &str =
+    "it is in no transaction now: its row covers all ways to that place, and from there to the next check-in";
+
+/// Says where the transaction may have used a name, if that is found, or that there is none: a row joins the effects of all
+/// ways to its check-in, also of those that are in a transaction.
 fn say_earlier(
     draft: &mut Draft,
     stand: &Stand<'_>,
@@ -214,7 +222,8 @@ fn say_earlier(
     let alloc = draft.alloc();
     let frames = thread.frames.as_slice();
     let Some(outermost) = outermost(code, frames) else {
-        return Ok(());
+        draft.say(OUTSIDE)?;
+        return draft.end();
     };
     if let Some(site) = earlier_use(alloc, code, frames, outermost, name)? {
         let words = "its transaction may have used ";
@@ -237,20 +246,12 @@ pub(crate) fn say_effect(
     thread: &Thread<'_>,
     effect: Effect,
 ) -> Result<(), AllocError> {
-    let alloc = draft.alloc();
     match effect {
-        Effect::Concrete(name) => {
-            let found = active_use(alloc, code, thread, name)?;
-            say_later(draft, stand, code, name, found)
-        }
+        Effect::Concrete(name) => say_later(draft, stand, code, thread, name, First::Frames),
         Effect::Both(prior, future) => {
             say_earlier(draft, stand, code, thread, prior)?;
-            let found = later_use(alloc, code, thread, future)?;
-            say_later(draft, stand, code, future, found)
+            say_later(draft, stand, code, thread, future, First::Calls)
         }
-        Effect::Pinned(name) => {
-            let found = later_use(alloc, code, thread, name)?;
-            say_later(draft, stand, code, name, found)
-        }
+        Effect::Pinned(name) => say_later(draft, stand, code, thread, name, First::Calls),
     }
 }

@@ -1,8 +1,9 @@
 //! Data that became zero although the older text has its name.
 use crate::draft::Draft;
 use crate::types::{converts, say_type};
+use c_definitions::Known;
 use c_tree::{Array, Binding, CType, Def, DefKind};
-use c_types::{Known, Typed};
+use c_types::Typed;
 use std::alloc::{AllocError, Global};
 use type_transformers::{Change, GlobalChange, transforms};
 use versioned_structs::FieldChange;

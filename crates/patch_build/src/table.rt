@@ -1,5 +1,5 @@
 //! The table of names.
-ghost use Rattle.std.specs.Prelude.{◌≡◌, ◌<◌, map, length, string_bytes, IfOk, IfErr, IsErrOf, OnOk};
+ghost use Rattle.std.specs.Prelude.{◌≡◌, ◌<◌, map, length, string_bytes, slice_get, Some, IfOk, IfErr, IsErrOf, OnOk};
 ghost use Rattle.c_tree.specs.Bare.{bare_def};
 ghost use Rattle.c_semantics.specs.Texts.{names};
 ghost use Rattle.name_sets.specs.Limit.{most_names};
@@ -11,7 +11,7 @@ use crate::fault::PatchFault;
 use c_types::Typed;
 use name_sets::{NameId, Names, NamesFault};
 use sorted_names::names_in_order;
-use std::alloc::{AllocError, Global};
+use std::alloc::Global;
 
 /// A table with the names of a text added, in the order of bytes, after those that are there.
 pub(crate) fn with_names_of(alloc: Global, table: &Names, text: &Typed) -> Result<Names, PatchFault>
@@ -25,20 +25,29 @@ pub(crate) fn with_names_of(alloc: Global, table: &Names, text: &Typed) -> Resul
     Ok(all)
 }
 
-/// A copy of a table.
-fn copied(alloc: Global, table: &Names) -> Result<Names, AllocError>
-    ensures { IfOk result (λ copy. copy ≡ table.now) }
+/// A copy of a table. It has room for all its texts, so only memory can be wanting.
+fn copied(alloc: Global, table: &Names) -> Result<Names, NamesFault>
+    ensures copy { IfOk result (λ copy. copy ≡ table.now) }
+    ensures memory { IfErr result (λ fault. fault ≡ NamesFault.Memory) }
 {
     let mut copy = Names::new(alloc);
     for index in 0..table.len() {
-        let Some(id) = NameId::new(index) else {
-            return Err(AllocError);
-        };
-        let Ok(_) = copy.add(table.text(id)) else {
-            return Err(AllocError);
-        };
+        match copy.add(text_at(table, index)) {
+            Ok(_) => {}
+            Err(NamesFault::Memory) => return Err(NamesFault::Memory),
+            Err(NamesFault::Full) => unreachable!(),
+        }
     }
     Ok(copy)
+}
+
+/// The text with a number.
+fn text_at(table: &Names, index: usize) -> &str
+    requires { index < length table.now }
+    ensures { slice_get table.now index ≡ Some result.now }
+{
+    let _many = table.len();
+    table.text(NameId::new(index).unwrap())
 }
 
 /// Adds texts in their order. `Full` comes where there would be more than 2,048.

@@ -10,8 +10,9 @@ ghost use Rattle.patch_compare.specs.Faults.{IsAnswer, IsFault};
 
 use crate::answer::{Changes, CompareFault};
 use crate::lookup::{Extent, agree, has_other_sort, is_defined};
+use c_definitions::Known;
 use c_tree::Def;
-use c_types::{Known, Typed};
+use c_types::Typed;
 use dsu_io::{List, Text};
 use sorted_names::names_in_order;
 use std::alloc::{AllocError, Global};

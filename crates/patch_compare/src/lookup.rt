@@ -9,8 +9,8 @@ ghost use Rattle.patch_faults.specs.Sorts.{other_sort};
 ghost use Rattle.patch_compare.specs.Extents.{same_by};
 
 use crate::alike::{same_definition, same_interface, same_sort};
+use c_definitions::Known;
 use c_tree::Def;
-use c_types::Known;
 
 /// What of two definitions is compared.
 #[derive(Clone, Copy)]

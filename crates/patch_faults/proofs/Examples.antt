@@ -12,8 +12,8 @@ use Rattle.c_tree.specs.declared.expr.ExprNode.{ExprNode}
 use Rattle.c_tree.specs.declared.expr.ExprNode.TheVariants as node
 use Rattle.c_tree.specs.declared.def.Def.{Def}
 use Rattle.c_tree.specs.declared.def.DefKind.TheVariants as kind
-use Rattle.c_types.specs.declared.found.Part.{Part}
-use Rattle.c_types.specs.Lookup.{Names}
+use Rattle.c_expr_types.specs.declared.found.Part.{Part}
+use Rattle.c_definitions.specs.Lookup.{Names}
 use Rattle.c_types.proofs.Samples.{name, expr, variable, binding, field_value, array, def}
 use Rattle.patch_faults.specs.declared.fault.TransformFault.TheVariants.{NotChanged, OldField, Wrong}
 use Rattle.patch_faults.specs.TransformTypes.{Old, part_of, infer_old}

@@ -30,12 +30,12 @@ use Rattle.c_tree.specs.declared.expr.ExprNode.{ExprNode}
 use Rattle.c_tree.specs.declared.expr.ExprNode.TheVariants as node
 use Rattle.c_tree.specs.declared.def.Binding.{Binding}
 use Rattle.c_tree.specs.declared.def.Def.{Def}
-use Rattle.c_types.specs.declared.fault.Fault.{Fault}
-use Rattle.c_types.specs.declared.found.Found.{Found}
-use Rattle.c_types.specs.declared.found.Found.TheVariants.{Wrong, Place, Value, Zero, Null, Nothing, Designator}
-use Rattle.c_types.specs.declared.found.Part.{Part}
-use Rattle.c_types.specs.Found.{after, has_value, is_integer, is_handle, is_comparable, misfit, required, type_of, kind_of_type, kind_in, value_of_type, same_type, converts}
-use Rattle.c_types.specs.Expressions.{is_unary_operand, is_operand, is_condition, fits, unknown_tag, is_initialising, where_allowed, where_met, meeting, follows, number_type, parts, own, part}
+use Rattle.c_expr_types.specs.declared.fault.Fault.{Fault}
+use Rattle.c_expr_types.specs.declared.found.Found.{Found}
+use Rattle.c_expr_types.specs.declared.found.Found.TheVariants.{Wrong, Place, Value, Zero, Null, Nothing, Designator}
+use Rattle.c_expr_types.specs.declared.found.Part.{Part}
+use Rattle.c_expr_types.specs.Found.{after, has_value, is_integer, is_handle, is_comparable, misfit, required, type_of, kind_of_type, kind_in, value_of_type, same_type, converts}
+use Rattle.c_expr_types.specs.Expressions.{is_unary_operand, is_operand, is_condition, fits, unknown_tag, is_initialising, where_allowed, where_met, meeting, follows, number_type, parts, own, part}
 use Rattle.c_semantics.specs.Values.{Value as RunValue, Number, Reference, Started, int_of, is_true, converted_to}
 use Rattle.c_semantics.specs.Pieces.{Variable}
 use Rattle.c_semantics.specs.Constants.{Old as OldValue, safe, wrapped, wrapped_unary, chosen, constant}

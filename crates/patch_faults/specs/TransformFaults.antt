@@ -9,13 +9,13 @@ use Rattle.c_tree.specs.declared.def.FieldValue.{FieldValue}
 use Rattle.c_tree.specs.declared.def.Def.{Def}
 use Rattle.c_tree.specs.declared.def.DefKind.{DefKind}
 use Rattle.c_tree.specs.declared.def.DefKind.TheVariants.{TransformStruct, TransformGlobal}
-use Rattle.c_types.specs.Lookup.{Meaning, defined, members_of}
-use Rattle.c_types.specs.Lookup.Meaning.{AVariable}
-use Rattle.c_types.specs.Found.{converts, required}
-use Rattle.c_types.specs.Expressions.{member}
-use Rattle.c_types.specs.declared.fault.Fault.{Fault}
-use Rattle.c_types.specs.declared.fault.TypeKind.{TypeKind}
-use Rattle.c_types.specs.declared.fault.TypeKind.TheVariants.{UnknownField}
+use Rattle.c_definitions.specs.Lookup.{Meaning, defined, members_of}
+use Rattle.c_definitions.specs.Lookup.Meaning.{AVariable}
+use Rattle.c_expr_types.specs.Found.{converts, required}
+use Rattle.c_definitions.specs.Lookup.{member}
+use Rattle.c_expr_types.specs.declared.fault.Fault.{Fault}
+use Rattle.c_expr_types.specs.declared.fault.TypeKind.{TypeKind}
+use Rattle.c_expr_types.specs.declared.fault.TypeKind.TheVariants.{UnknownField}
 use Rattle.c_semantics.specs.Same.{same_type}
 use Rattle.c_semantics.specs.Changes.{same_layout}
 use Rattle.patch_faults.specs.declared.fault.TransformFault.{TransformFault}

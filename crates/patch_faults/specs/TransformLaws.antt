@@ -16,9 +16,9 @@ use Rattle.c_tree.specs.declared.name.CType.{CType}
 use Rattle.c_tree.specs.declared.expr.Expr.{Expr}
 use Rattle.c_tree.specs.declared.def.Binding.{Binding}
 use Rattle.c_tree.specs.declared.def.Def.{Def}
-use Rattle.c_types.specs.declared.found.Found.{Found}
-use Rattle.c_types.specs.declared.found.Found.TheVariants.{Wrong, Place, Zero, Null, Nothing, Designator}
-use Rattle.c_types.specs.declared.found.Found.TheVariants as found
+use Rattle.c_expr_types.specs.declared.found.Found.{Found}
+use Rattle.c_expr_types.specs.declared.found.Found.TheVariants.{Wrong, Place, Zero, Null, Nothing, Designator}
+use Rattle.c_expr_types.specs.declared.found.Found.TheVariants as found
 use Rattle.patch_faults.specs.TransformTypes.{AnObject, AValue, infer_old, names_in}
 use Rattle.patch_faults.specs.declared.fault.TransformFault.{TransformFault}
 use Rattle.patch_faults.specs.TransformFaults.{value_faults, transform_faults, first_transform_fault, place_of}

@@ -9,14 +9,15 @@ use Rattle.c_tree.specs.declared.expr.ExprNode.{ExprNode}
 use Rattle.c_tree.specs.declared.expr.ExprNode.TheVariants.{Variable, Dot}
 use Rattle.c_tree.specs.declared.def.Binding.{Binding}
 use Rattle.c_tree.specs.declared.def.Def.{Def}
-use Rattle.c_types.specs.Lookup.{Names}
-use Rattle.c_types.specs.Found.{after, required, wrong}
-use Rattle.c_types.specs.Expressions.{member, part}
-use Rattle.c_types.specs.declared.fault.TypeKind.TheVariants.{UnknownField}
-use Rattle.c_types.specs.declared.lookup.Position.TheVariants.{InInitialiser}
-use Rattle.c_types.specs.declared.found.Found.{Found}
-use Rattle.c_types.specs.declared.found.Found.TheVariants.{Value, Designator}
-use Rattle.c_types.specs.declared.found.Part.{Part}
+use Rattle.c_definitions.specs.Lookup.{Names}
+use Rattle.c_expr_types.specs.Found.{after, required, wrong}
+use Rattle.c_definitions.specs.Lookup.{member}
+use Rattle.c_expr_types.specs.Expressions.{part}
+use Rattle.c_expr_types.specs.declared.fault.TypeKind.TheVariants.{UnknownField}
+use Rattle.c_definitions.specs.declared.lookup.Position.TheVariants.{InInitialiser}
+use Rattle.c_expr_types.specs.declared.found.Found.{Found}
+use Rattle.c_expr_types.specs.declared.found.Found.TheVariants.{Value, Designator}
+use Rattle.c_expr_types.specs.declared.found.Part.{Part}
 
 -- what `old` is: an object of a struct with these fields, or a value of a type
 pub data Old : Type 0 where

@@ -1,16 +1,16 @@
 -- The decision on an offer.
-use Rattle.std.proofs.Common.{Bor, ◌≡◌, ℕ, zero, suc, ◌<◌, Bool, true, false, List, [], ◌∷◌, ◌++◌, map, slice_get, Option, Some, None, refl, sym, ◌∙◌, ap, subst, arith}
-use Rattle.std.specs.Prelude.{◌&&◌, ◌||◌, not, option_copied, IfOk, Ok, Err, Result as Outcome, if◌then◌else◌}
-use Rattle.std.specs.declared.alloc.AllocError.{AllocError}
+use Rattle.std.proofs.Common.{Bor, ◌≡◌, ℕ, zero, suc, ◌<◌, Bool, true, false, List, [], ◌∷◌, ◌++◌, All, Contains, map, length, slice_get, Option, Some, None, refl, sym, ◌∙◌, ap, subst, arith}
+use Rattle.std.specs.Prelude.{◌&&◌, ◌||◌, not, option_copied, IfNone, if◌then◌else◌}
 use Rattle.patch_build.specs.declared.patch.Versions.{Versions}
 use Rattle.patch_build.specs.Versions.{AreVersions}
 use Rattle.installed_versions.specs.Installed.{IsInstalled, IsSeenAs}
-use Rattle.std.proofs.lemmas.List.{append-nil}
+use Rattle.std.proofs.lemmas.List.{append-nil, length-map}
 use Rattle.std.proofs.lemmas.Option.{none-some, same_Some}
-use Rattle.bytecode.specs.declared.run.Event.TheVariants.{Decide}
+use Rattle.run_types.specs.declared.run.Event.TheVariants.{Decide}
 use Rattle.c_tree.specs.BareDef.{BareDef}
 use Rattle.c_tree.specs.BareExpr.{Bytes}
 use Rattle.c_tree.specs.declared.def.Program.{Program}
+use Rattle.c_semantics.specs.Changes.{changed, interface}
 use Rattle.c_semantics.specs.SourceTexts.{Text, text_of}
 use Rattle.c_semantics.specs.Store.{store}
 use Rattle.con_freeness.specs.Verdicts.{refusal_seen}
@@ -20,26 +20,31 @@ use Rattle.source_model.specs.Answers.{Answer, NoPatch, RefusedFor}
 use Rattle.source_model.specs.Guards.{Guard, Offer, Rules, Setup, answered, bodies_of, decide, has_ended, is_open, offer_at, pinned_from}
 use Rattle.source_model.specs.Guards as guard
 use Rattle.source_model.specs.JournalLaws.{texts_of}
-use Rattle.source_model.specs.Worlds.{is_over}
+use Rattle.source_model.specs.Patches.{last_definitions}
+use Rattle.source_model.specs.Worlds.{World, is_over}
 use Rattle.source_runner.specs.declared.run.SourceRun.{SourceRun}
 use Rattle.source_runner.specs.SourceRuns.{trees_of, words_of}
 use Rattle.offer_decision.specs.declared.answer.Decision.{Decision}
 use Rattle.offer_decision.specs.declared.answer.Decision.TheVariants as decision
 use Rattle.offer_decision.specs.declared.seat.Seat.{Seat as Seen}
-use Rattle.offer_decision.specs.Decided.{ForOffer, IsDecision}
+use Rattle.offer_decision.specs.Decided.{ForOffer, IsDecision, verdict_on}
 use Rattle.offer_decision.specs.Refusals.{AreKnown}
-use Rattle.offer_decision.specs.Seats.{AreSeats as AreSeatsSeen, AreInTransactions}
+use Rattle.offer_decision.specs.Seats.{AreSeats as AreSeatsSeen, IsSeat as IsSeatSeen, AreInTransactions}
+use Rattle.offer_decision.proofs.ChangedNames.{changed_known, interface_known}
 use Rattle.offer_decision.proofs.Decided.{no_patch_is_decided, refusal_is_decided}
 use Rattle.offer_decision.proofs.Refusals.{refusals_stay}
+use Rattle.offer_decision.proofs.Slots.{map_at}
 use Rattle.dsu_runs.specs.Books.{Entries, IsBook, Says}
 use Rattle.effects.specs.Rows.{AreRows}
 use Rattle.dsu_runs.proofs.Happening.{any_are_rows, any_rules}
 use Rattle.source_model.specs.declared.answer.OfferAnswer.TheVariants as ids
 use Rattle.plain_engine.specs.declared.seat.Seat.{Seat}
 use Rattle.plain_engine.specs.declared.state.State.{State}
+use Rattle.plain_engine.specs.Kept.{IsOfVersion}
 use Rattle.plain_engine.specs.Plain.{AreSeats, IsRunAt, IsStateAt}
-use Rattle.plain_engine.specs.Seen.{AreSeen, AreWithin}
+use Rattle.plain_engine.specs.Seen.{AreSeen, AreWithin, mark_among}
 use Rattle.plain_engine.specs.Steps.{Happened, IsDecided, Stayed}
+use Rattle.plain_engine.proofs.KnownMarks.{AreNamed, pins_same, seat_among, stored_named, verdict_same}
 use Rattle.plain_engine.proofs.QuietEvents.{closed_at}
 use Rattle.plain_engine.proofs.SlotsAfter.{alive_is}
 
@@ -83,6 +88,28 @@ offer_is setup g r (suc j) next at some e =
     text_there setup.offers j (text_of next)
     (ap (λ ts. slice_get ts (suc j)) (sym at.trees) ∙ get_mapped text_of (trees_of r) (suc j) next e)
 
+-- an offer without a text isn't there
+no_text_there : (os : List Offer) (j : ℕ) → slice_get (map (λ (o : Offer). o.text) os) j ≡ None → slice_get os j ≡ None
+no_text_there [] j e = refl
+no_text_there (o ∷ os) zero e = absurd (none-some o.text (sym e))
+no_text_there (o ∷ os) (suc j) e = no_text_there os j e
+
+none_mapped : {A B : Type 0} (f : A → B) (xs : List A) (n : ℕ) → slice_get xs n ≡ None → slice_get (map f xs) n ≡ None
+none_mapped f [] n e = refl
+none_mapped f (x ∷ xs) zero e = absurd (none-some x (sym e))
+none_mapped f (x ∷ xs) (suc n) e = none_mapped f xs n e
+
+pub no_offer : (setup : Setup) (g : Guard) (r : SourceRun) (k : ℕ) → IsRunAt setup g r → 0 < k
+    → slice_get (trees_of r) k ≡ None → offer_at setup k ≡ None
+no_offer setup g r zero at some e = absurd (omega (arith, some))
+no_offer setup g r (suc j) at some e =
+    no_text_there setup.offers j
+    (ap (λ ts. slice_get ts (suc j)) (sym at.trees) ∙ none_mapped text_of (trees_of r) (suc j) e)
+
+-- the text in force is there
+pub no_last : {A : Type 0} (setup : Setup) (g : Guard) (s : State) → IsStateAt setup g s → slice_get (trees_of s.run) s.last ≡ None → A
+no_last setup g s at e = absurd (none-some at.versions.tree (sym e ∙ at.versions.numbered))
+
 -- its definitions among the texts of the run
 definitions_of : (o : Offer) → List BareDef
 definitions_of o = o.text.definitions
@@ -103,25 +130,72 @@ text_is setup g r k next at e =
 
 -- ---- the slots
 
-pub seats_for : (g : Guard) (r : SourceRun) (seats : List Seat) (names : List Bytes) (all : List Seen) → AreSeats g r seats
-    → has_ended g ≡ false → is_over g.world ≡ false → AreSeen (words_of r) names seats all
-    → AreSeatsSeen names (store g.versions) all g.seats
-seats_for g r seats names all are going on seen = record {
-  many = are.many;
-  each = λ n one own at_one at_own.
+pub seats_for : (g : Guard) (r : SourceRun) (seats : List Seat) (names : List Bytes) (count : ℕ) (all : List Seen) → AreSeats g r seats
+    → length g.versions ≡ count → has_ended g ≡ false → is_over g.world ≡ false → AreSeen (words_of r) names count seats all
+    → AreSeatsSeen names (store g.versions) all (map (seat_among names) g.seats)
+seats_for g r seats names count all are many going on seen = record {
+  many = length-map g.seats (seat_among names) ∙ are.many;
+  each = λ n one slot at_one at_slot.
+      let own = map_at (seat_among names) g.seats n slot at_slot in
       let was = seen n one at_one in
-      let base = are.each going n was.0 own was.1 at_own in
-      record {
-        mark = base.mark on ∙ was.2.origin.mark (bodies_of g);
+      let base = are.each going n was.0 own.0 was.1 own.1 in
+      subst (IsSeatSeen names (store g.versions) one) own.2 (record {
+        mark =
+            ap (mark_among names) (base.mark on)
+            ∙ was.2.origin.mark (bodies_of g) (subst (λ c. IsOfVersion c was.0.kept) many (base.version on));
         known = was.2.origin.known;
         pinned = base.pinned ∙ was.2.pinned;
-      };
+      });
 }
 
 pub within_for : (g : Guard) (all : List Seen) → has_ended g ≡ false → AreWithin g.world all → AreInTransactions g.world all
 within_for g all going within n seen at = ap guard.in_transaction (alive_is g.world n going) ∙ within n seen at
 
 -- ---- what is decided
+
+module _ (rules : Rules) (rows : AreRows rules.row) (names : List Bytes) (texts : List Text) (slots : List guard.Seat) (v : Versions)
+    (next : Program) (same : v.names.now ≡ names) (are : AreVersions texts v) where
+  named : AreNamed names (store texts)
+  named = subst (λ ns. AreNamed ns (store texts)) same (stored_named v.names.now (store texts) v.store.now are.store_is)
+
+  abbrev p : List BareDef
+  p = last_definitions texts
+
+  abbrev q : List BareDef
+  q = (text_of next).definitions
+
+  changed_in : All (Contains names) (changed p q)
+  changed_in = subst (λ ns. All (Contains ns) (changed p q)) same (changed_known texts v q are)
+
+  interface_in : All (Contains names) (interface p q)
+  interface_in = subst (λ ns. All (Contains ns) (interface p q)) same (interface_known texts v q are)
+
+  verdict_is : verdict_on rules (store texts) (map (seat_among names) slots) (changed p q) (interface p q)
+      ≡ verdict_on rules (store texts) slots (changed p q) (interface p q)
+  verdict_is = verdict_same names (store texts) named rules rows (changed p q) (interface p q) changed_in interface_in 0 slots
+
+  pins_are : (w : World)
+      → map (λ (s : guard.Seat). s.pinned) (pinned_from rules (store texts) (changed p q) w 0 (map (seat_among names) slots))
+      ≡ map (λ (s : guard.Seat). s.pinned) (pinned_from rules (store texts) (changed p q) w 0 slots)
+  pins_are w = pins_same names (store texts) named rules rows (changed p q) (interface p q) changed_in interface_in w 0 slots
+
+-- a decision over the slots with the marks that the names have is one over the slots
+same_decision : (rules : Rules) → AreRows rules.row → (names : List Bytes) (texts : List Text) (slots : List guard.Seat) (v : Versions)
+    (next : Program) (seats : List Seen) (d : Decision) → v.names.now ≡ names → AreVersions texts v
+    → IsDecision rules texts (map (seat_among names) slots) v next seats d → IsDecision rules texts slots v next seats d
+same_decision rules rows names texts slots v next seats (decision.NotPatch cause) same are says = says
+same_decision rules rows names texts slots v next seats (decision.Refused r) same are says = (
+  says.0,
+  record { verdict_is = sym (verdict_is rules rows names texts slots v next same are) ∙ says.1.verdict_is; known = says.1.known },
+)
+same_decision rules rows names texts slots v next seats (decision.Admitted patch pins) same are says = (
+  says.0,
+  record {
+    verdict_is = sym (verdict_is rules rows names texts slots v next same are) ∙ says.1.verdict_is;
+    pins_are = λ w within. sym (pins_are rules rows names texts slots v next same are w) ∙ says.1.pins_are w within;
+  },
+  says.2,
+)
 
 pub not_over : (g : Guard) → has_ended g ≡ false → g.world.misused ≡ false → is_over g.world ≡ false
 not_over g going right = ap (λ b. b || has_ended g) right ∙ going
@@ -137,9 +211,12 @@ module _ (setup : Setup) (g : Guard) (k : ℕ) (s : State) (at : IsStateAt setup
 
     pub says : (rules : Rules) → AreRows rules.row → IsDecision rules g.versions g.seats is.versions is.next is.seats d
     says rules rows =
-        is.says rules g.versions g.seats rows (is.are g.versions at.versions.before at.versions.installed last_is)
-        (subst (λ names. AreSeatsSeen names (store g.versions) is.seats g.seats) (sym is.same.names_are)
-        (seats_for g s.run s.seats s.installed.names is.seats at.seats going (not_over g going right) is.seen))
+        let names = is.versions.names.now in
+        let are = is.are g.versions at.versions.before at.versions.installed last_is in
+        let seen = subst (λ ns. AreSeen (words_of s.run) ns s.installed.count s.seats is.seats) (sym is.same.names_are) is.seen in
+        same_decision rules rows names g.versions g.seats is.versions is.next is.seats d refl are
+        (is.says rules g.versions (map (seat_among names) g.seats) rows are
+        (seats_for g s.run s.seats names s.installed.count is.seats at.seats at.versions.installed.count_is going (not_over g going right) seen))
 
     offer : (lines : ℕ) × (offer_at setup k ≡ Some (record { text = text_of is.next; lines = lines }))
     offer = offer_is setup g s.run k is.next at.run some is.next_at
@@ -189,17 +266,17 @@ module _ (setup : Setup) (g : Guard) (k : ℕ) (s : State) (at : IsStateAt setup
       (refusals_stay s.installed.names more r
       (subst (λ names. AreKnown names r.effect) is.same.names_are (says (decision.Refused r) is any_rules any_are_rows).1.known))
 
--- what the decision of a state says, where there is one
-pub decided_as : (s : State) (k : ℕ) (versions : Versions) (last next : Program) (seats : List Seen) (r : Outcome Decision AllocError)
+-- what the decision of a state says
+pub decided_as : (s : State) (k : ℕ) (versions : Versions) (last next : Program) (seats : List Seen) (d : Decision)
     → slice_get (trees_of s.run) s.last ≡ Some last → slice_get (trees_of s.run) k ≡ Some next
     → IsSeenAs versions s.installed.count s.installed.names s.installed.store
     → ((texts before : List Text) → IsInstalled texts s.installed.count s.installed.names s.installed.store
     → texts ≡ before ++ text_of last ∷ [] → AreVersions texts versions)
-    → AreSeen (words_of s.run) s.installed.names s.seats seats
+    → AreSeen (words_of s.run) versions.names.now versions.count s.seats seats
     → ((setup : Setup) (g : Guard) → IsRunAt setup g s.run → AreWithin g.world seats)
-    → IfOk r (λ d. ForOffer versions seats (λ rules texts slots. IsDecision rules texts slots versions next seats d))
-    → IfOk r (IsDecided s k)
-decided_as s k versions last next seats (Ok d) last_at next_at same are seen within says = record {
+    → ForOffer versions seats (λ rules texts slots. IsDecision rules texts slots versions next seats d)
+    → IsDecided s k d
+decided_as s k versions last next seats d last_at next_at same are seen within says = record {
   versions = versions;
   last = last;
   next = next;
@@ -208,13 +285,24 @@ decided_as s k versions last next seats (Ok d) last_at next_at same are seen wit
   next_at = next_at;
   same = same;
   are = are;
-  seen = seen;
+  seen =
+      subst (λ ns. AreSeen (words_of s.run) ns s.installed.count s.seats seats) same.names_are
+      (subst (λ n. AreSeen (words_of s.run) versions.names.now n s.seats seats) same.count_is seen);
   within = within;
   says = says;
 }
-decided_as s k versions last next seats (Err e) last_at next_at same are seen within says = tt
 
 -- a text that was found
 pub found : {A : Type 0} (o : Option (Bor A)) (b : Bor A) (xs : List A) (n : ℕ) → option_copied o ≡ slice_get xs n → o ≡ Some b
     → slice_get xs n ≡ Some b.now
 found o b xs n e is = sym e ∙ ap option_copied is
+
+-- a text that wasn't
+pub not_found : {A : Type 0} (o : Option (Bor A)) (xs : List A) (n : ℕ) → option_copied o ≡ slice_get xs n → o ≡ None
+    → slice_get xs n ≡ None
+not_found o xs n e is = sym e ∙ ap option_copied is
+
+-- what holds where there is no decision
+pub none_there : {X : Type 0} (o : Option Decision) → o ≡ None → IfNone o X → X
+none_there None e x = x
+none_there (Some d) e x = absurd (none-some d (sym e))

@@ -1,9 +1,8 @@
 -- The events of the engine: those of its state, with what the sink has.
 use Rattle.std.proofs.Common.{◌≡◌, ℕ, ◌≤◌, Bool, true, false, List, [], ◌++◌, length, Option, Some, refl, sym, ◌∙◌, ap, subst, arith, length-append}
 use Rattle.std.specs.Prelude.{◌≢◌, Ok, Result as Outcome, if◌then◌else◌}
-use Rattle.std.specs.declared.alloc.AllocError.{AllocError}
 use Rattle.std.proofs.lemmas.List.{append-nil}
-use Rattle.bytecode.specs.declared.run.Event.{Event}
+use Rattle.run_types.specs.declared.run.Event.{Event}
 use Rattle.source_model.specs.Guards.{Guard, Setup, lines_written}
 use Rattle.dsu_runs.specs.Engines.{Makes, MakesAt, Refuses}
 use Rattle.dsu_runs.specs.declared.engine.Made.{Made}
@@ -79,6 +78,6 @@ pub is_written : (done : Bool) (answer : Made) → answer ≡ (if done then Done
 is_written true answer is failed = let e = sym is ∙ failed in cc
 is_written false answer is failed = let e = sym is ∙ failed in cc
 
-pub is_written_ok : (done : Bool) (answer : Made) (r : Outcome Made AllocError) → answer ≡ (if done then Done else CannotHappen)
+pub is_written_ok : {E : Type 0} (done : Bool) (answer : Made) (r : Outcome Made E) → answer ≡ (if done then Done else CannotHappen)
     → r ≡ Ok answer → r ≢ Ok SinkFailed
 is_written_ok done answer r is was failed = let e : answer ≡ SinkFailed = cc in is_written done answer is e

@@ -1,11 +1,13 @@
 -- The install of an admitted patch.
 use Rattle.std.proofs.Common.{◌≡◌, ℕ, zero, suc, ◌+◌, ◌<◌, Bool, true, false, List, [], ◌∷◌, ◌++◌, All, map, length, slice_get, slice_index_or, Option, Some, None, refl, sym, ◌∙◌, ap, subst, arith}
-use Rattle.std.specs.Prelude.{◌||◌, option_map, if◌then◌else◌}
+use Rattle.std.specs.Prelude.{◌||◌, nat_le, option_map, if◌then◌else◌}
+use Rattle.std.specs.Option.{option_or}
+use Rattle.std.proofs.lemmas.Bool.Decides.{nat_tests}
 use Rattle.std.proofs.lemmas.Bool.{true≢false}
 use Rattle.std.proofs.lemmas.List.{append-nil, length-append, map-append}
 use Rattle.std.proofs.lemmas.List.Elements.{All-weaker}
 use Rattle.std.proofs.lemmas.Option.{get_or_from_slice_get, none-some, same_Some}
-use Rattle.bytecode.specs.declared.run.Event.TheVariants.{Decide}
+use Rattle.run_types.specs.declared.run.Event.TheVariants.{Decide}
 use Rattle.c_tree.specs.Bare.{bare_def}
 use Rattle.c_tree.specs.BareDef.{BareDef}
 use Rattle.c_tree.specs.declared.def.Program.{Program}
@@ -19,7 +21,9 @@ use Rattle.source_model.specs.Guards as guard
 use Rattle.source_model.specs.Installs.{installed}
 use Rattle.source_model.specs.JournalLaws.{texts_of}
 use Rattle.source_model.specs.Journals.{happens}
-use Rattle.source_model.specs.Patches.{all_names, last_definitions}
+use Rattle.source_model.specs.Patches.{all_names, cause_if, last_definitions}
+use Rattle.source_model.specs.declared.patch.NotPatch.{NotPatch}
+use Rattle.source_model.specs.declared.patch.NotPatch.TheVariants.{Versions as Limit}
 use Rattle.source_model.specs.Runs.{SourceMove, install, is_live}
 use Rattle.source_model.specs.Runs as source
 use Rattle.source_model.specs.Worlds.{World, Slot, Free, Live, Over, alive_in, in_slot, is_over}
@@ -28,7 +32,9 @@ use Rattle.resolved_tree.specs.Nodes.{Table}
 use Rattle.rows_in_force.proofs.LaterBodies.{mark_stays}
 use Rattle.patch_build.proofs.Stores.{all_kept, generation_if_new, last_definitions_are, store_of_more}
 use Rattle.patch_build.specs.Versions.{AreVersions, IsTableOf}
-use Rattle.code_store.specs.Stored.{IsStoreOf}
+use Rattle.code_store.specs.Limits.{are_too_many}
+use Rattle.code_store.specs.Stored.{IsStoreOf, meant_body}
+use Rattle.c_tree.specs.BareExpr.{Bytes}
 use Rattle.patch_build.specs.declared.patch.Patch.{Patch}
 use Rattle.source_runner.specs.declared.run.SourceRun.{SourceRun}
 use Rattle.source_runner.specs.SourceRuns.{IsRun, KeepsTexts, words_of, world_after}
@@ -170,6 +176,11 @@ installs : (w after : World) (q : List BareDef) → is_over w ≡ false → inst
 installs w after q on e =
     same_Some (installed q w) after (ap (λ b. if b then None else Some (installed q w)) (sym on) ∙ e)
 
+-- where the limit is no cause, there are fewer versions
+few_versions : (n : ℕ) (rest : Option NotPatch) (b : Bool) → nat_le 64 n ≡ b → option_or (cause_if b Limit) rest ≡ None → n < 64
+few_versions n rest true e none = absurd (none-some Limit (sym none))
+few_versions n rest false e none = grind (arith, nat_tests, e)
+
 module _ (setup : Setup) (g : Guard) (k : ℕ) (s : State) (at : IsStateAt setup g s) (going : has_ended g ≡ false)
     (right : g.world.misused ≡ false) (offered : is_open g k ≡ true) (some : 0 < k) (patch : Patch) (pins : List Bool)
     (is : IsDecided s k (decision.Admitted patch pins)) where
@@ -181,6 +192,18 @@ module _ (setup : Setup) (g : Guard) (k : ℕ) (s : State) (at : IsStateAt setup
 
   pub patch_for : IsPatchFor g.versions is.versions is.next patch
   patch_for = (said any_rules any_are_rows).2
+
+  -- it has room
+  pub few : s.installed.count < 64
+  few =
+      subst (λ n. n < 64) at.versions.installed.count_is
+      (few_versions (length g.versions) _ (nat_le 64 (length g.versions)) refl (said any_rules any_are_rows).0)
+
+  pub roomy : (names : List Bytes)
+      → are_too_many (map (meant_body names) s.installed.store ++ map (meant_body names) patch.bodies.items) ≡ false
+  roomy names =
+      subst (λ bodies. are_too_many (map (meant_body names) bodies ++ map (meant_body names) patch.bodies.items) ≡ false)
+      is.same.bodies_are (patch_for.room names)
 
   -- what the machine and the versions are given
   pub store_is : IsStoreOf patch.names (store (g.versions ++ text_of is.next ∷ [])) (s.installed.store ++ patch.bodies.items)

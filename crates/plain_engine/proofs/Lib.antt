@@ -3,6 +3,7 @@ mod SlotsAfter
 mod Standing
 mod Moving
 mod QuietEvents
+mod KnownMarks
 mod Deciding
 mod Installing
 mod Engines

@@ -3,7 +3,7 @@ use Rattle.std.proofs.Common.{◌≡◌, ℕ, Bool, true, false, List, [], ◌�
 use Rattle.std.specs.Prelude.{IfOk, Ok, Result as Outcome, ◌||◌, option_map, if◌then◌else◌}
 use Rattle.std.specs.declared.alloc.AllocError.{AllocError}
 use Rattle.std.proofs.lemmas.Bool.{false≢true}
-use Rattle.bytecode.specs.declared.run.Event.TheVariants.{Move}
+use Rattle.run_types.specs.declared.run.Event.TheVariants.{Move}
 use Rattle.c_tree.specs.BareDef.{BareDef}
 use Rattle.c_semantics.specs.SourceTexts.{text_of}
 use Rattle.source_model.specs.Worlds.{World, Limits, in_slot, is_over}

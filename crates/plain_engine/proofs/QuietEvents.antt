@@ -5,7 +5,7 @@ use Rattle.std.specs.Option.{is_none, option_and_then}
 use Rattle.std.proofs.lemmas.Bool.{false≢true, true≢false, cases_eq}
 use Rattle.std.proofs.lemmas.List.{append-nil, length-map, length-set}
 use Rattle.std.proofs.lemmas.Option.{none-some, same_Some}
-use Rattle.bytecode.specs.declared.run.Event.TheVariants.{CheckIn, Offer, Withdraw}
+use Rattle.run_types.specs.declared.run.Event.TheVariants.{CheckIn, Offer, Withdraw}
 use Rattle.c_tree.specs.BareDef.{BareDef}
 use Rattle.c_semantics.specs.SourceTexts.{Text}
 use Rattle.c_semantics.specs.Store.{Body}

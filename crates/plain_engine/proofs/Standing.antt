@@ -3,7 +3,7 @@ use Rattle.std.proofs.Common.{◌≡◌, ℕ, zero, suc, ◌<◌, ◌≤◌, Boo
 use Rattle.std.specs.Prelude.{◌||◌, option_map, if◌then◌else◌}
 use Rattle.std.specs.Option.{is_some}
 use Rattle.std.proofs.lemmas.Option.{same_Some, slice_get-get_or}
-use Rattle.bytecode.specs.declared.run.Ending.{Ending}
+use Rattle.run_types.specs.declared.run.Ending.{Ending}
 use Rattle.c_tree.specs.BareDef.{BareDef}
 use Rattle.source_model.specs.Worlds.{World, Finish, Limits, in_slot, is_over}
 use Rattle.source_model.specs.Worlds as world

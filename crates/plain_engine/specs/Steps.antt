@@ -1,6 +1,6 @@
 -- What the steps of the engine promise one another.
 use Rattle.std.specs.Prelude.{◌≡◌, ℕ, Bool, true, false, List, [], ◌∷◌, ◌++◌, slice_get, Some, None}
-use Rattle.bytecode.specs.declared.run.Event.{Event}
+use Rattle.run_types.specs.declared.run.Event.{Event}
 use Rattle.c_tree.specs.declared.def.Program.{Program}
 use Rattle.c_semantics.specs.SourceTexts.{Text, text_of}
 use Rattle.source_model.specs.Answers.{Installed}
@@ -54,7 +54,7 @@ pub record IsDecided (s : State) (k : ℕ) (decision : Decision) : Type 0 where
   pub same : IsSeenAs versions s.installed.count s.installed.names s.installed.store
   pub are : (texts before : List Text) → IsInstalled texts s.installed.count s.installed.names s.installed.store
       → texts ≡ before ++ text_of last ∷ [] → AreVersions texts versions
-  pub seen : AreSeen (words_of s.run) s.installed.names s.seats seats
+  pub seen : AreSeen (words_of s.run) s.installed.names s.installed.count s.seats seats
   pub within : (setup : Setup) (g : Guard) → IsRunAt setup g s.run → AreWithin g.world seats
   pub says : ForOffer versions seats (λ rules texts slots. IsDecision rules texts slots versions next seats decision)
 

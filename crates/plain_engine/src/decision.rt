@@ -1,10 +1,10 @@
 //! The decision on an offer.
-ghost use Rattle.std.specs.Prelude.{◌≡◌, ◌<◌, ◌++◌, false, true, List, map, IfOk, OnErr};
+ghost use Rattle.std.specs.Prelude.{◌≡◌, ◌<◌, ◌++◌, false, true, List, None, map, Err, IfOk, IfNone, IfSome, OnErr};
 ghost use Rattle.c_tree.specs.BareExpr.{Bytes};
 ghost use Rattle.code_store.specs.Limits.{are_too_many};
 ghost use Rattle.code_store.specs.Stored.{meant_body};
-ghost use Rattle.bytecode.specs.declared.run.Event.TheVariants.{Decide};
-ghost use Rattle.source_model.specs.Guards.{Guard, Setup, has_ended, is_open};
+ghost use Rattle.run_types.specs.declared.run.Event.TheVariants.{Decide};
+ghost use Rattle.source_model.specs.Guards.{Guard, Setup, has_ended, is_open, offer_at};
 ghost use Rattle.offer_decision.specs.declared.answer.Decision.TheVariants.{Admitted};
 ghost use Rattle.plain_engine.specs.Plain.{IsStateAt};
 ghost use Rattle.plain_engine.specs.Steps.{ComesTo, IsDecided, IsFollowed};
@@ -12,6 +12,7 @@ ghost use Rattle.plain_engine.specs.Steps.{ComesTo, IsDecided, IsFollowed};
 use crate::seen::{seats_seen, with_pins};
 use crate::state::State;
 use code_store::StoredBody;
+use dsu_runs::Undecided;
 use offer_decision::{Decision, decision};
 use patch_build::{MOST_VERSIONS, Patch};
 use source_model::OfferAnswer;
@@ -19,13 +20,14 @@ use source_runner::Stepped;
 use std::alloc::AllocError;
 
 impl State {
-    /// Decides an offer, if it is open and the run goes on. Where memory runs out, nothing changed.
-    /// `AllocError` is also the answer where a definition was misused, after which no thread moves.
-    pub(crate) fn decide(&mut self, k: u8) -> Result<bool, AllocError>
+    /// Decides an offer, if it is open and the run goes on. Where it isn't decided nothing changed.
+    pub(crate) fn decide(&mut self, k: u8) -> Result<bool, Undecided>
         ensures made { (setup : Setup) (g : Guard) → IsStateAt setup g self.old
             → IfOk result (ComesTo setup (Decide k) g self.new) }
         ensures stays { OnErr result ((setup : Setup) (g : Guard)
             → IsStateAt setup g self.old → IsStateAt setup g self.new) }
+        ensures misused { result ≡ Err Undecided.Misused → (setup : Setup) (g : Guard)
+            → IsStateAt setup g self.old → g.world.misused ≡ true }
     {
         // Offers are numbered from 1, and text 0 is the first one.
         if k == 0 {
@@ -38,33 +40,53 @@ impl State {
             return Ok(false);
         }
         if self.run.misused() {
-            return Err(AllocError);
+            return Err(Undecided::Misused);
         }
-        match self.decision(k)? {
-            Decision::NotPatch(cause) => {
-                self.book.close(k, OfferAnswer::NotPatch(cause));
-                Ok(true)
-            }
-            Decision::Refused(refusal) => {
-                self.book.close(k, OfferAnswer::Refused(refusal));
-                Ok(true)
-            }
-            Decision::Admitted(patch, pins) => self.install(k, patch, &pins),
+        match self.decide_open(k) {
+            Ok(done) => Ok(done),
+            Err(_) => Err(Undecided::Memory),
         }
     }
 
-    /// What is decided on an offer.
-    fn decision(&self, k: u8) -> Result<Decision, AllocError>
-        ensures { IfOk result (IsDecided self.now k) }
+    /// Decides the open offer in a run in which threads still move. Where memory runs out, nothing changed.
+    fn decide_open(&mut self, k: u8) -> Result<bool, AllocError>
+        ensures made { (setup : Setup) (g : Guard) → IsStateAt setup g self.old → has_ended g ≡ false
+            → g.world.misused ≡ false → is_open g k ≡ true → 0 < k
+            → IfOk result (ComesTo setup (Decide k) g self.new) }
+        ensures stays { OnErr result ((setup : Setup) (g : Guard)
+            → IsStateAt setup g self.old → IsStateAt setup g self.new) }
+    {
+        let decided = self.decision(k)?;
+        match decided {
+            None => Ok(false),
+            Some(Decision::NotPatch(cause)) => {
+                self.book.close(k, OfferAnswer::NotPatch(cause));
+                Ok(true)
+            }
+            Some(Decision::Refused(refusal)) => {
+                self.book.close(k, OfferAnswer::Refused(refusal));
+                Ok(true)
+            }
+            Some(Decision::Admitted(patch, pins)) => self.install(k, patch, &pins),
+        }
+    }
+
+    /// What is decided on an offer; nothing where there is no such offer.
+    fn decision(&self, k: u8) -> Result<Option<Decision>, AllocError>
+        ensures decided { IfOk result (λ found. IfSome found (IsDecided self.now k)) }
+        ensures none { IfOk result (λ found. IfNone found ((setup : Setup) (g : Guard)
+            → IsStateAt setup g self.now → 0 < k → offer_at setup k ≡ None)) }
     {
         let Some(last) = self.run.text(self.last) else {
-            return Err(AllocError);
+            return Ok(None);
         };
         let Some(next) = self.run.text(k as usize) else {
-            return Err(AllocError);
+            return Ok(None);
         };
-        let seats = seats_seen(&self.run, self.installed.names(), &self.seats)?;
-        decision(self.alloc, self.installed.versions(last), next, &seats)
+        let versions = self.installed.versions(last);
+        let seats = seats_seen(&self.run, versions.names, versions.count, &self.seats);
+        let decision = decision(self.alloc, versions, next, &seats)?;
+        Ok(Some(decision))
     }
 
     /// Whether some bodies and one version more have room. A patch has.
@@ -72,6 +94,9 @@ impl State {
         ensures few { result ≡ true → self.now.installed.count < 64 }
         ensures room { result ≡ true → (names : List Bytes) → are_too_many
             (map (meant_body names) self.now.installed.store ++ map (meant_body names) bodies.now) ≡ false }
+        ensures full { result ≡ false → (setup : Setup) (g : Guard) → IsStateAt setup g self.now
+            → self.now.installed.count < 64 → ¬ ((names : List Bytes) → are_too_many
+            (map (meant_body names) self.now.installed.store ++ map (meant_body names) bodies.now) ≡ false) }
     {
         let Some(last) = self.run.text(self.last) else {
             return false;
@@ -91,8 +116,9 @@ impl State {
         ensures stays { OnErr result ((setup : Setup) (g : Guard)
             → IsStateAt setup g self.old → IsStateAt setup g self.new) }
     {
+        // A decision admits no patch without room.
         if !self.has_room(&patch.bodies) {
-            return Err(AllocError);
+            return Ok(false);
         }
         let transforms = patch.transforms;
         let replaced = self.installed.install(patch.names, patch.bodies)?;

@@ -7,10 +7,10 @@ ghost use Rattle.plain_engine.specs.Plain.{IsRunAt, Wrote, lines_among};
 
 use crate::PlainEngine;
 use crate::state::SLOTS;
-use bytecode::Ending;
 use dsu_io::{Sink, put};
-use dsu_runs::{Engine, Made, Stands, Waiting};
+use dsu_runs::{Engine, Made, Stands, Undecided, Waiting};
 use name_sets::Names;
+use run_types::Ending;
 use source_model::OfferAnswer;
 use source_runner::SourceWait;
 use std::alloc::AllocError;
@@ -91,9 +91,11 @@ impl<S: Sink> Engine for PlainEngine<S> {
         made(self.state.offer(k, self.written))
     }
 
-    fn decide(&mut self, k: u8) -> Result<Made, AllocError> {
-        let done = self.state.decide(k)?;
-        Ok(made(done))
+    fn decide(&mut self, k: u8) -> Result<Made, Undecided> {
+        match self.state.decide(k) {
+            Ok(done) => Ok(made(done)),
+            Err(why) => Err(why),
+        }
     }
 
     fn withdraw(&mut self, k: u8) -> Made {

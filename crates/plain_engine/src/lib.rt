@@ -5,7 +5,7 @@
 //! and from where its row in force comes; it decides an offer by `offer_decision`, and installs what is
 //! admitted. Its contract is that of the trait `Engine`: it is at the guard of the definitions that the
 //! events lead to. It is slow, as the source machine is, and takes memory at each move and at each decision.
-//! Once a definition was misused no thread moves any more, and each decision is answered by out of memory.
+//! Once a definition was misused no thread moves any more, and no open offer is decided.
 //!
 //! Read in this order: `seat` (what is kept of a slot), `moves` (the slots after a move), `seen` (the slots
 //! as a decision sees them), `state` (the state beside the output, its moves and check-ins), `decision` (the

@@ -1,12 +1,12 @@
 //! The slots as a decision sees them.
-ghost use Rattle.std.specs.Prelude.{◌≡◌, List, Some, IfOk};
+ghost use Rattle.std.specs.Prelude.{◌≡◌, ◌≤◌, ℕ, List, Some};
 ghost use Rattle.c_tree.specs.BareDef.{BareDef};
 ghost use Rattle.source_model.specs.Runs.{SourceMove as Made};
 ghost use Rattle.source_model.specs.Worlds.{Limits, World, in_slot};
 ghost use Rattle.source_model.specs.Guards.{in_transaction};
 ghost use Rattle.source_runner.specs.SourceRuns.{IsRun, words_of, world_after};
 ghost use Rattle.plain_engine.specs.declared.seat.Kept.TheVariants.{Passed, Started};
-ghost use Rattle.plain_engine.specs.Kept.{ArePinned};
+ghost use Rattle.plain_engine.specs.Kept.{ArePinned, name_of};
 ghost use Rattle.plain_engine.specs.Seen.{AreSeen, AreWithin, IsOriginOf, IsSeen};
 
 use crate::seat::{Kept, Seat};
@@ -15,68 +15,69 @@ use offer_decision::Seat as Seen;
 use resolved_tree::Word;
 use rows_in_force::Origin;
 use source_runner::{FrameAt, SourceRun};
-use std::alloc::AllocError;
+
+/// The name of the function with which a thread starts; it is empty where the function isn't known.
+fn name_of(run: &SourceRun, function: Option<Word>) -> &str
+    ensures { result.now ≡ name_of (words_of run.now) function }
+{
+    match function {
+        Some(function) => run.word(function),
+        None => "",
+    }
+}
+
+/// The version under which a frame was entered, where there are so many.
+fn version_of(frame: FrameAt, versions: u32) -> u32
+    ensures { frame.version ≤ versions → result ≡ frame.version }
+{
+    u32::try_from(frame.version).unwrap_or(versions)
+}
 
 /// Where the row of a thread that was started comes from.
-fn origin_of_start(
-    run: &SourceRun,
-    names: &Names,
-    function: Option<Word>,
-) -> Result<Option<Origin>, AllocError>
-    ensures { IfOk result (IsOriginOf (words_of run.now) names.now (Started function)) }
+fn origin_of_start(run: &SourceRun, names: &Names, function: Option<Word>) -> Option<Origin>
+    ensures { (versions : ℕ) → IsOriginOf (words_of run.now) names.now versions (Started function) result }
 {
-    let Some(function) = function else {
-        return Err(AllocError);
-    };
-    let Some(id) = names.find(run.word(function)) else {
-        return Err(AllocError);
-    };
-    Ok(Some(Origin::Start(id)))
+    match names.find(name_of(run, function)) {
+        Some(id) => Some(Origin::Start(id)),
+        None => None,
+    }
 }
 
-/// Where the row of a thread comes from that passed a check-in.
-fn origin_of_frame(
-    run: &SourceRun,
-    names: &Names,
-    frame: Option<FrameAt>,
-) -> Result<Option<Origin>, AllocError>
-    ensures { IfOk result (IsOriginOf (words_of run.now) names.now (Passed frame)) }
+/// Where the row of a thread comes from that passed a check-in in a frame.
+fn origin_in_frame(run: &SourceRun, names: &Names, versions: u32, frame: FrameAt) -> Option<Origin>
+    ensures { IsOriginOf (words_of run.now) names.now versions (Passed (Some frame)) result }
 {
-    let Some(frame) = frame else {
-        return Ok(None);
-    };
-    let Some(id) = names.find(run.word(frame.function)) else {
-        return Err(AllocError);
-    };
-    let Ok(version) = u32::try_from(frame.version) else {
-        return Err(AllocError);
-    };
-    Ok(Some(Origin::Passed(id, version, frame.point)))
+    match names.find(run.word(frame.function)) {
+        Some(id) => Some(Origin::Passed(id, version_of(frame, versions), frame.point)),
+        None => None,
+    }
 }
 
-/// Where the row in force of a slot comes from.
-fn origin(run: &SourceRun, names: &Names, kept: Kept) -> Result<Option<Origin>, AllocError>
-    ensures { IfOk result (IsOriginOf (words_of run.now) names.now kept) }
+/// Where the row in force of a slot comes from. There is none where no thread lives, nor where no version has the function
+/// of the thread: its row has no name of theirs.
+fn origin(run: &SourceRun, names: &Names, versions: u32, kept: Kept) -> Option<Origin>
+    ensures { IsOriginOf (words_of run.now) names.now versions kept result }
 {
     match kept {
-        Kept::Empty => Ok(None),
+        Kept::Empty => None,
         Kept::Started(function) => origin_of_start(run, names, function),
-        Kept::Passed(frame) => origin_of_frame(run, names, frame),
+        Kept::Passed(Some(frame)) => origin_in_frame(run, names, versions, frame),
+        Kept::Passed(None) => None,
     }
 }
 
 /// A slot as a decision sees it.
-fn seen(run: &SourceRun, names: &Names, seat: Seat, slot: u8) -> Result<Seen, AllocError>
-    ensures kept { IfOk result (IsSeen (words_of run.now) names.now seat) }
+fn seen(run: &SourceRun, names: &Names, versions: u32, seat: Seat, slot: u8) -> Seen
+    ensures kept { IsSeen (words_of run.now) names.now versions seat result }
     ensures within { (texts : List (List BareDef)) (limits : Limits) (moves : List Made) (w : World)
         → IsRun texts limits moves run.now → world_after texts limits moves ≡ Some w
-        → IfOk result (λ s. in_transaction (in_slot w slot) ≡ s.in_transaction) }
+        → in_transaction (in_slot w slot) ≡ result.in_transaction }
 {
-    Ok(Seen {
-        origin: origin(run, names, seat.kept)?,
+    Seen {
+        origin: origin(run, names, versions, seat.kept),
         pinned: seat.pinned,
         in_transaction: run.in_transaction(slot),
-    })
+    }
 }
 
 /// A slot that a decision doesn't see.
@@ -88,24 +89,23 @@ fn unseen() -> Seen {
     }
 }
 
-/// The slots as a decision sees them, by the names of the versions so far. `AllocError` is the answer where a
-/// function of a thread isn't among the names; no accepted text starts or calls one.
+/// The slots as a decision sees them, by the names of the versions so far and how many these are.
 pub(crate) fn seats_seen(
     run: &SourceRun,
     names: &Names,
+    versions: u32,
     seats: &[Seat; 16],
-) -> Result<[Seen; 16], AllocError>
-    ensures kept { IfOk result (AreSeen (words_of run.now) names.now seats.now) }
+) -> [Seen; 16]
+    ensures kept { AreSeen (words_of run.now) names.now versions seats.now result }
     ensures within { (texts : List (List BareDef)) (limits : Limits) (moves : List Made) (w : World)
-        → IsRun texts limits moves run.now → world_after texts limits moves ≡ Some w
-        → IfOk result (AreWithin w) }
+        → IsRun texts limits moves run.now → world_after texts limits moves ≡ Some w → AreWithin w result }
 {
     let mut all = [unseen(); 16];
     for slot in 0..16u8 {
         let seat = seats[slot as usize];
-        all[slot as usize] = seen(run, names, seat, slot)?;
+        all[slot as usize] = seen(run, names, versions, seat, slot);
     }
-    Ok(all)
+    all
 }
 
 /// A slot with another pin.

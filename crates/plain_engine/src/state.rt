@@ -1,6 +1,6 @@
 //! The state of a run beside its output.
 ghost use Rattle.std.specs.Prelude.{◌≡◌, ◌≤◌, ◌<◌, ℕ, List, [], ◌∷◌, ◌++◌, false, true, length, map, slice_get, Some, IfOk, OnErr};
-ghost use Rattle.bytecode.specs.declared.run.Event.TheVariants.{Move, CheckIn, Offer, Withdraw};
+ghost use Rattle.run_types.specs.declared.run.Event.TheVariants.{Move, CheckIn, Offer, Withdraw};
 ghost use Rattle.source_model.specs.Worlds.{is_over};
 ghost use Rattle.source_model.specs.Guards.{Guard, Setup, first_guard, has_ended, lines_written, seat_of};
 ghost use Rattle.source_programs.specs.Programs.{text_in};

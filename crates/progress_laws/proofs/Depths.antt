@@ -1,10 +1,10 @@
 -- Each move keeps it that a thread is in as many transactions as its frames together.
 use Rattle.std.proofs.Common.{◌≡◌, ◌≢◌, ℕ, zero, suc, ◌<◌, ◌+◌, List, [], ◌∷◌, ◌++◌, length, Option, Some, None, refl, sym, ap, subst, ◌∙◌, le_refl, arith}
 use Rattle.std.specs.Prelude.{IsTrue, ◌||◌, ◌==◌, position, replicate, slice_get, slice_index_or, slice_set, unwrap_or, unsigned_abs}
-use Rattle.bytecode.specs.Skeleton.{depth_after}
-use Rattle.bytecode.specs.Skeleton as point
-use Rattle.bytecode.specs.declared.trap.TrapKind.{TrapKind}
-use Rattle.bytecode.specs.declared.trap.TrapKind.TheVariants.{Null, Stale, Index, Depth, Relock, Unlock as NotHeld, MutexHeld, Join as NotJoined}
+use Rattle.run_types.specs.Skeleton.{depth_after}
+use Rattle.run_types.specs.Skeleton as point
+use Rattle.run_types.specs.declared.trap.TrapKind.{TrapKind}
+use Rattle.run_types.specs.declared.trap.TrapKind.TheVariants.{Null, Stale, Index, Depth, Relock, Unlock as NotHeld, MutexHeld, Join as NotJoined}
 use Rattle.c_ints.specs.Number.{value_of}
 use Rattle.c_tree.specs.BareExpr.{Bytes}
 use Rattle.c_tree.specs.BareDef.{BareDef}

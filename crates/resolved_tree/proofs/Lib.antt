@@ -1,6 +1,4 @@
-mod Declared
-mod Growing
-pub mod Kept
-mod Naming
-mod Resolving
-mod Sizes
+pub mod Declared
+pub mod Growing
+pub mod Naming
+pub mod Sizes

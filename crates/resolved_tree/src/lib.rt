@@ -2,16 +2,12 @@
 //!
 //! A tree is named by its number in the table, and a name or a format by that of its text, so that what holds numbers
 //! copies no tree. [`Trees`] adds a tree after its parts and never changes it; its contract sees each tree as the
-//! definitions of `c_semantics` have it, and knows how many points it has. [`resolve_body`](resolve::resolve_body) adds
-//! a function's body: it promises that the number which it gives means the body as the definitions resolve it, in every
-//! table that the present one grows to.
+//! definitions of `c_semantics` have it, and knows how many points it has. `name_resolution` adds the bodies of functions.
 //!
-//! Read in this order: `words` (names by number), `node` (what a tree is made of), `trees` (the table), `resolve` (the
-//! trees of a text).
+//! Read in this order: `words` (names by number), `node` (what a tree is made of), `trees` (the table).
 #![tactic(auto)]
 
 mod node;
-pub mod resolve;
 mod trees;
 mod words;
 

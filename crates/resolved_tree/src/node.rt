@@ -8,7 +8,7 @@ use c_ints::{BinOp, Int, Kind, UnOp};
 
 /// The number of a node in the table of trees.
 #[derive(Clone, Copy, PartialEq, Eq)]
-pub struct NodeId(pub(crate) usize);
+pub struct NodeId(pub usize);
 
 /// The type of a variable, or of what a conversion gives.
 #[derive(Clone, Copy)]
@@ -119,13 +119,13 @@ pub enum Node {
 
 /// A node in the table, with how many points its tree has.
 #[derive(Clone, Copy)]
-pub(crate) struct Entry {
+pub struct Entry {
     pub node: Node,
     pub points: u32,
 }
 
 /// How many points the read or the write of a place has: one, where it isn't local.
-pub(crate) fn accesses(place: Place) -> u64
+pub fn accesses(place: Place) -> u64
     ensures reads { (t : Table) → result ≡ size_read (place_of t place) }
     ensures writes { (t : Table) → result ≡ length (writes (place_of t place)) }
     ensures small { result < 2 }

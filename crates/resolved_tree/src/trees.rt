@@ -41,7 +41,7 @@ impl Trees {
     }
 
     /// The allocator of the table.
-    pub(crate) fn allocator(&self) -> Global {
+    pub fn allocator(&self) -> Global {
         *self.entries.allocator()
     }
 

@@ -9,7 +9,7 @@ use std::marker::Model;
 
 /// The number of a name or of a format: its place in the table of them. Contracts see its text.
 #[derive(Clone, Copy, PartialEq, Eq)]
-pub struct Word(pub(crate) usize);
+pub struct Word(pub usize);
 
 /// The names and formats of all texts, none of them twice, in the order in which they were added. Contracts see the
 /// list of their bytes; a word's place in that list never changes.

@@ -6,7 +6,7 @@ use Rattle.std.proofs.lemmas.Bool.{true≢false}
 use Rattle.std.proofs.lemmas.Option.{same_Some, slice_get-map, slice_get_within, get_or_from_slice_get, slice_get-get_or}
 use Rattle.std.proofs.lemmas.List.Elements.{All-get_or}
 use Rattle.name_sets.specs.Texts.{text_of}
-use Rattle.bytecode.specs.Skeleton.{Point, point_at, entry}
+use Rattle.run_types.specs.Skeleton.{Point, point_at, entry}
 use Rattle.c_tree.specs.BareExpr.{Bytes}
 use Rattle.c_semantics.specs.Store.{Body, Start}
 use Rattle.effects.specs.Sites.{Site, IsEntry, function_in}

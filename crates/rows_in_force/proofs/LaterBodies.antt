@@ -4,7 +4,7 @@ use Rattle.std.specs.Prelude.{◌==◌, bytes_eq, max, nat_le, if◌then◌else�
 use Rattle.std.specs.Option.{option_map_or}
 use Rattle.std.proofs.lemmas.Bool.Decides.{nat_tests}
 use Rattle.std.proofs.lemmas.List.Elements.{All-head, All-tail}
-use Rattle.bytecode.specs.Skeleton.{reached}
+use Rattle.run_types.specs.Skeleton.{reached}
 use Rattle.c_tree.specs.BareExpr.{Bytes}
 use Rattle.c_semantics.specs.Store.{Body, CheckInOf, generation_by, body_in, check_in_number}
 use Rattle.rows_in_force.specs.Origins.{MarksStay}

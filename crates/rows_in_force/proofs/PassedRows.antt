@@ -3,7 +3,7 @@ use Rattle.std.proofs.Common.{◌≡◌, ℕ, ◌<◌, [], List, length, Option,
 use Rattle.std.specs.Option.{option_map_or}
 use Rattle.std.proofs.lemmas.Option.{slice_get-get_or}
 use Rattle.name_sets.specs.Texts.{text_of}
-use Rattle.bytecode.specs.Skeleton.{reached}
+use Rattle.run_types.specs.Skeleton.{reached}
 use Rattle.c_tree.specs.BareExpr.{Bytes}
 use Rattle.c_semantics.specs.Store.{Body, CheckInOf, generation_by, body_in, check_in_number}
 use Rattle.con_freeness.specs.declared.row.Row.{Row}

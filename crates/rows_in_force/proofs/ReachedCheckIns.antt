@@ -4,9 +4,9 @@ use Rattle.std.specs.Prelude.{slice_get, count_by, option_map}
 use Rattle.std.specs.Option.{option_and_then}
 use Rattle.std.proofs.lemmas.List.Sums.{count_by_more_no}
 use Rattle.std.proofs.lemmas.Option.{get_or_from_slice_get, slice_get_within}
-use Rattle.bytecode.specs.CheckIns.{CheckInKind}
-use Rattle.bytecode.specs.Skeleton.{PointKind, Point, Skeleton, check_in_after, check_in_of, kind_at, reached, reached_by}
-use Rattle.bytecode.specs.Skeleton as seen
+use Rattle.run_types.specs.CheckIns.{CheckInKind}
+use Rattle.run_types.specs.Skeleton.{PointKind, Point, Skeleton, check_in_after, check_in_of, kind_at, reached, reached_by}
+use Rattle.run_types.specs.Skeleton as seen
 use Rattle.c_semantics.specs.Skeletons.{is_check_in_kind}
 
 -- a stop that a check-in follows is no check-in itself

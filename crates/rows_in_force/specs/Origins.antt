@@ -3,7 +3,7 @@ use Rattle.std.specs.Prelude.{◌≡◌, ℕ, ◌<◌, List, ◌++◌}
 use Rattle.std.specs.List.{All}
 use Rattle.std.specs.Option.{option_map_or}
 use Rattle.name_sets.specs.Texts.{text_of}
-use Rattle.bytecode.specs.Skeleton.{reached}
+use Rattle.run_types.specs.Skeleton.{reached}
 use Rattle.c_tree.specs.BareExpr.{Bytes}
 use Rattle.c_semantics.specs.Store.{Body, Mark, CheckInOf, generation_by, body_in, check_in_number}
 use Rattle.c_semantics.specs.Store as mark

@@ -1,6 +1,6 @@
 //! The number of a check-in in its body.
 ghost use Rattle.std.specs.Prelude.{◌≡◌, ℕ, List, map, take, count_by};
-ghost use Rattle.bytecode.specs.Skeleton.{reached};
+ghost use Rattle.run_types.specs.Skeleton.{reached};
 ghost use Rattle.c_tree.specs.BareExpr.{Bytes};
 ghost use Rattle.c_semantics.specs.Skeletons.{is_check_in_kind};
 ghost use Rattle.c_semantics.specs.Store.{check_in_number};

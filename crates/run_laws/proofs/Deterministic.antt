@@ -4,8 +4,8 @@ use Rattle.std.specs.Prelude.{reverse}
 use Rattle.std.specs.Option.{option_or}
 use Rattle.std.proofs.lemmas.List.{reverse-append}
 use Rattle.std.proofs.lemmas.Option.{same_Some}
-use Rattle.bytecode.specs.declared.run.Event.{Event}
-use Rattle.bytecode.specs.declared.run.Event.TheVariants.{Decide, Withdraw}
+use Rattle.run_types.specs.declared.run.Event.{Event}
+use Rattle.run_types.specs.declared.run.Event.TheVariants.{Decide, Withdraw}
 use Rattle.source_model.specs.Guards.{Guard, Rules, Setup}
 use Rattle.source_model.specs.Journals.{happens}
 use Rattle.source_model.specs.Schedules.{MayStand, Solo, acted_by, solo_next}

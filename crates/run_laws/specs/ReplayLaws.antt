@@ -1,6 +1,6 @@
 -- The replay of a run's own journal makes the same run.
 use Rattle.std.specs.Prelude.{◌≡◌, ℕ, Bool, List, map}
-use Rattle.bytecode.specs.declared.run.Event.{Event}
+use Rattle.run_types.specs.declared.run.Event.{Event}
 use Rattle.source_model.specs.Answers.{answer_seen}
 use Rattle.source_model.specs.Guards.{Setup}
 use Rattle.dsu_runs.specs.Replays.{events_of}

@@ -3,11 +3,11 @@ ghost use Rattle.std.specs.Prelude.{All, IfOk, OnOk};
 ghost use Rattle.fault_notes.specs.Notes.{AreNotes};
 
 use crate::offers::decision_notes;
-use bytecode::{Ending, Event};
 use c_types::Typed;
 use dsu_io::{NullSink, Sink};
 use dsu_runs::Engine;
 use plain_engine::PlainEngine;
+use run_types::{Ending, Event};
 use std::alloc::{AllocError, Global};
 use thread_notes::{MARK, Source, ending_notes};
 
@@ -164,7 +164,9 @@ fn decide<S: Sink>(
         → OnOk result (All (λ notes. AreNotes mark.now notes.items) notes.new.items) }
 {
     let before = engine.in_force();
-    engine.decide(offer)?;
+    if engine.decide(offer).is_err() {
+        return Err(AllocError);
+    }
     let place = offer as usize;
     if place == 0 || place > notes.len() {
         return Ok(());

@@ -1,8 +1,8 @@
 //! The order of events, over a script with offers.
 use crate::runs::{End, has_ended};
 use crate::scripted::{Decision, Scripted};
-use bytecode::{Ending, Event};
 use dsu_runs::{Book, Engine, Ran, StopCause, replay, solo};
+use run_types::{Ending, Event};
 use std::alloc::Global;
 
 /// A script: after how many lines each of its offers is due, how many moves it can make, and what becomes of a decision.

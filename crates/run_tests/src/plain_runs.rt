@@ -2,8 +2,8 @@
 //! fails.
 use crate::plain::{Plain, engine_of};
 use crate::runs::{End, has_ended};
-use bytecode::{Ending, Event, TrapKind};
 use dsu_runs::{Engine, Ran, StopCause, Waiting, replay, solo};
+use run_types::{Ending, Event, TrapKind};
 use std::alloc::Global;
 
 const SUM: &str = "int main(void) { printf(\"%d\\n\", 2+3*4); return 0; }";

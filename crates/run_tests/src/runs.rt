@@ -1,6 +1,6 @@
 //! What a run that has ended is compared with.
-use bytecode::Event;
 use dsu_runs::{Ran, StopCause};
+use run_types::Event;
 
 /// Why a run stopped, and its events.
 pub struct End {

@@ -1,8 +1,8 @@
 //! The schedules, over the smallest engine.
 use crate::runs::{End, has_ended};
 use crate::tiny::Tiny;
-use bytecode::{Ending, Event};
 use dsu_runs::{StopCause, replay, solo};
+use run_types::{Ending, Event};
 use std::alloc::Global;
 
 /// Whether a solo run of so many moves ends so.

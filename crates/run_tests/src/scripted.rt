@@ -1,6 +1,6 @@
-use bytecode::Ending;
-use dsu_runs::{Book, Engine, Made, Stands, Waiting};
+use dsu_runs::{Book, Engine, Made, Stands, Undecided, Waiting};
 use name_sets::Names;
+use run_types::Ending;
 use source_model::OfferAnswer;
 use std::alloc::{AllocError, Global};
 
@@ -112,7 +112,7 @@ impl Engine for Scripted {
         }
     }
 
-    fn decide(&mut self, k: u8) -> Result<Made, AllocError> {
+    fn decide(&mut self, k: u8) -> Result<Made, Undecided> {
         if !self.book.is_open(k) {
             return Ok(Made::CannotHappen);
         }
@@ -121,7 +121,7 @@ impl Engine for Scripted {
                 self.book.close(k, OfferAnswer::Installed(2));
                 Ok(Made::Done)
             }
-            Decision::WantsMemory => Err(AllocError),
+            Decision::WantsMemory => Err(Undecided::Memory),
             Decision::CannotHappen => Ok(Made::CannotHappen),
         }
     }

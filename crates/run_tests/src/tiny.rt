@@ -1,9 +1,9 @@
 ghost use Rattle.std.specs.Prelude.{◌≡◌};
 ghost use Rattle.run_tests.specs.declared.tiny.Stage.TheVariants.{Start};
 
-use bytecode::Ending;
-use dsu_runs::{Engine, Made, Stands, Waiting};
+use dsu_runs::{Engine, Made, Stands, Undecided, Waiting};
 use name_sets::Names;
+use run_types::Ending;
 use source_model::OfferAnswer;
 use std::alloc::{AllocError, Global};
 
@@ -131,7 +131,7 @@ impl Engine for Tiny {
         Made::CannotHappen
     }
 
-    fn decide(&mut self, _k: u8) -> Result<Made, AllocError> {
+    fn decide(&mut self, _k: u8) -> Result<Made, Undecided> {
         Ok(Made::CannotHappen)
     }
 

@@ -1,7 +1,7 @@
 -- What parts of a tree add one in front of the other.
 use Rattle.std.proofs.Common.{◌≡◌, ℕ, ◌+◌, List, [], ◌++◌, map, length, refl, sym, ap, ◌∙◌, arith, append_assoc, append-nil, length-append}
 use Rattle.std.proofs.lemmas.List.{length-map, map-append}
-use Rattle.bytecode.specs.Skeleton.{PointKind, Point}
+use Rattle.run_types.specs.Skeleton.{PointKind, Point}
 use Rattle.c_semantics.specs.Points.{at_depth}
 use Rattle.c_semantics.specs.Skeletons.{Flow, Part, union, either, pass, both, goes}
 use Rattle.skeleton_gen.specs.Adding.{Drawn, AddsFlow, AddsPart, in_order}

@@ -2,7 +2,7 @@
 use Rattle.std.proofs.Common.{◌≡◌, ℕ, ◌+◌, ◌<◌, List, [], ◌∷◌, ◌++◌, length, reverse, set, Option, Some, None, refl, sym, ap, ◌∙◌, arith, append_assoc, append-nil, length-append}
 use Rattle.std.proofs.lemmas.List.{reverse-append, reverse-reverse}
 use Rattle.std.proofs.Math.Seq.{set-append_seam}
-use Rattle.bytecode.specs.Skeleton.{Point, Back}
+use Rattle.run_types.specs.Skeleton.{Point, Back}
 use Rattle.c_semantics.specs.Resolved.{Expression, Statement}
 use Rattle.c_semantics.specs.Points.{at_depth, evaluated_if, of_statement, size_if, size_stmt}
 use Rattle.c_semantics.specs.Skeletons.{Flow, point, goes, guarded, union, statement, expression, expression_if}

@@ -3,7 +3,7 @@ use Rattle.std.proofs.Common.{◌≡◌, ℕ, suc, ◌-◌, ◌<◌, ◌≤◌, 
 use Rattle.std.proofs.Math.Seq.{drop-cons}
 use Rattle.std.proofs.lemmas.List.{reverse-append, length-reverse, length-map, map-append, get_or-map, get_or-reverse}
 use Rattle.std.proofs.lemmas.List.Elements.{Contains-get_or}
-use Rattle.bytecode.specs.Skeleton as seen
+use Rattle.run_types.specs.Skeleton as seen
 use Rattle.c_semantics.specs.Points.{at_depth}
 use Rattle.resolved_tree.specs.Nodes.{Table}
 use Rattle.skeletons.specs.declared.point.PointKind.{PointKind}

@@ -5,7 +5,7 @@ use Rattle.c_semantics.specs.Resolved.{Statements, StatementThen}
 use Rattle.c_semantics.specs.Points.{of_statement, of_statements}
 use Rattle.c_semantics.specs.Skeletons.{statement, statements}
 use Rattle.resolved_tree.specs.declared.node.NodeId.{NodeId}
-use Rattle.resolved_tree.specs.Found.{before}
+use Rattle.name_resolution.specs.Found.{before}
 use Rattle.resolved_tree.specs.Nodes.{Table, statement_at}
 use Rattle.skeleton_gen.specs.Adding.{Drawn, AddsFlow, targets}
 use Rattle.skeleton_gen.specs.Rows.{in_a_row}

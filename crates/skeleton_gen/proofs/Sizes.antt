@@ -1,7 +1,7 @@
 -- How many points a part of a tree has doesn't depend on its depth.
 use Rattle.std.proofs.Common.{◌≡◌, ℕ, suc, ◌+◌, List, [], ◌∷◌, ◌++◌, length, Option, Some, None, refl, sym, ap, ◌∙◌, length-append}
 use Rattle.std.proofs.lemmas.List.{length-map}
-use Rattle.bytecode.specs.Skeleton.{Point}
+use Rattle.run_types.specs.Skeleton.{Point}
 use Rattle.c_semantics.specs.Resolved.{Expression, Statement, Statements, Block, Empty, Evaluate, Declare, If, IfElse, While, DoWhile, For, Break, Continue, Return, UpdatePoint, Transaction, NoStatements, StatementThen}
 use Rattle.c_semantics.specs.Points.{at_depth, of_expression, evaluated, evaluated_if, of_statement, of_statements, size, size_if, size_stmt, size_stmts}
 

@@ -1,8 +1,8 @@
 -- What statements add, from what their parts add.
 use Rattle.std.proofs.Common.{◌≡◌, ℕ, suc, ◌+◌, List, [], ◌∷◌, ◌++◌, length, reverse, set, Option, Some, None, refl, sym, ap, ◌∙◌, subst, append_assoc, append-nil, add-zero, add-one, arith}
 use Rattle.std.proofs.lemmas.List.{map-append}
-use Rattle.bytecode.specs.Skeleton.{Point, CheckIn, Begin, End, Update, Return, Back}
-use Rattle.bytecode.specs.CheckIns as check_in
+use Rattle.run_types.specs.Skeleton.{Point, CheckIn, Begin, End, Update, Return, Back}
+use Rattle.run_types.specs.CheckIns as check_in
 use Rattle.c_semantics.specs.Resolved.{Expression, Statement, Statements, If, IfElse, While, DoWhile, For, Transaction, UpdatePoint, StatementThen}
 use Rattle.c_semantics.specs.Resolved as tree
 use Rattle.c_semantics.specs.Points.{at_depth, of_expression, evaluated, evaluated_if, of_statement, of_statements, size, size_stmt, size_stmts}

@@ -1,6 +1,6 @@
 -- The end of a skeleton, and what a part of a tree adds in front of it.
 use Rattle.std.specs.Prelude.{◌≡◌, ℕ, ◌+◌, List, ◌++◌, map, length}
-use Rattle.bytecode.specs.Skeleton.{PointKind, Point}
+use Rattle.run_types.specs.Skeleton.{PointKind, Point}
 use Rattle.c_semantics.specs.Points.{at_depth}
 use Rattle.c_semantics.specs.Skeletons.{Flow, Part, Targets, ◌then_part◌}
 

@@ -1,7 +1,7 @@
 -- What a draft shows of a skeleton.
 use Rattle.std.specs.Prelude.{◌≡◌, map, reverse}
-use Rattle.bytecode.specs.Skeleton.{PointKind, Point, Skeleton}
-use Rattle.bytecode.specs.Skeleton as seen
+use Rattle.run_types.specs.Skeleton.{PointKind, Point, Skeleton}
+use Rattle.run_types.specs.Skeleton as seen
 use Rattle.c_semantics.specs.Names.{struct_name}
 use Rattle.c_semantics.specs.Points.{at_depth}
 use Rattle.resolved_tree.specs.Nodes.{Table, word}

@@ -1,6 +1,6 @@
 -- A loop that begins with its test, as a part of a tree that other parts may precede.
 use Rattle.std.specs.Prelude.{ℕ, ◌+◌, List, [], ◌∷◌, ◌++◌, Option}
-use Rattle.bytecode.specs.Skeleton.{Point, Back}
+use Rattle.run_types.specs.Skeleton.{Point, Back}
 use Rattle.c_semantics.specs.Resolved.{Expression, Statement}
 use Rattle.c_semantics.specs.Points.{at_depth, evaluated_if, of_statement, size_if, size_stmt}
 use Rattle.c_semantics.specs.Skeletons.{Flow, loop, statement, expression_if}

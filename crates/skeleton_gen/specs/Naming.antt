@@ -2,8 +2,8 @@
 use Rattle.std.specs.Prelude.{◌≡◌, ℕ, ◌<◌, List, length, Contains, IfSome, Result, Ok, Err}
 use Rattle.std.specs.Option.{MatchOption}
 use Rattle.std.specs.List.{All}
-use Rattle.bytecode.specs.Skeleton.{direct_use}
-use Rattle.bytecode.specs.Skeleton as seen
+use Rattle.run_types.specs.Skeleton.{direct_use}
+use Rattle.run_types.specs.Skeleton as seen
 use Rattle.skeletons.specs.declared.point.PointKind.{PointKind}
 use Rattle.skeletons.specs.declared.point.Point.{Point}
 use Rattle.skeletons.specs.Meaning.{used_at, kind_of}

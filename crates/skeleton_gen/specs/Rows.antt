@@ -2,7 +2,7 @@
 use Rattle.std.specs.Prelude.{List, map}
 use Rattle.c_semantics.specs.Resolved.{Statements, NoStatements}
 use Rattle.resolved_tree.specs.declared.node.NodeId.{NodeId}
-use Rattle.resolved_tree.specs.Found.{before}
+use Rattle.name_resolution.specs.Found.{before}
 use Rattle.resolved_tree.specs.Nodes.{Table, statement_at}
 
 -- the statements with some numbers, one after the other

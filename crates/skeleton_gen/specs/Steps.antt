@@ -1,6 +1,6 @@
 -- The steps of an expression, and what they mean.
 use Rattle.std.specs.Prelude.{ℕ, ◌+◌, List, [], ◌∷◌, ◌++◌, length}
-use Rattle.bytecode.specs.Skeleton.{PointKind}
+use Rattle.run_types.specs.Skeleton.{PointKind}
 use Rattle.c_semantics.specs.Points.{of_expression, of_expressions}
 use Rattle.c_semantics.specs.Skeletons.{Part, either, pass, point, expression, expressions}
 use Rattle.resolved_tree.specs.declared.node.Place.{Place}

@@ -7,9 +7,9 @@ ghost use Rattle.skeleton_gen.specs.Drawn.{kind_of, spot_of};
 ghost use Rattle.skeleton_gen.specs.Naming.{NamesKind, HasUnknown, AllKnown, IfUnknown};
 
 use crate::spot::{Spot, SpotKind};
+use name_resolution::name_of_struct;
 use name_sets::Names;
 use resolved_tree::Trees;
-use resolved_tree::resolve::name_of_struct;
 use skeletons::{Point, PointKind, Use};
 use std::alloc::{AllocError, Global};
 

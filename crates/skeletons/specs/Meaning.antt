@@ -1,7 +1,7 @@
 -- What points and skeletons mean under the texts of a table of names.
 use Rattle.std.specs.Prelude.{ℕ, List, map, Option, Some, None}
-use Rattle.bytecode.specs.CheckIns as check_in
-use Rattle.bytecode.specs.Skeleton as seen
+use Rattle.run_types.specs.CheckIns as check_in
+use Rattle.run_types.specs.Skeleton as seen
 use Rattle.name_sets.specs.Texts.{text_of}
 use Rattle.skeletons.specs.declared.point.CheckInKind.{CheckInKind}
 use Rattle.skeletons.specs.declared.point.CheckInKind.TheVariants as after

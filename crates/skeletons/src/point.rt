@@ -1,8 +1,8 @@
 //! What a point of a function is.
 ghost use Rattle.std.specs.Prelude.{◌≡◌, ◌<◌, ◌↔◌, ℕ, List, IsTrue};
 ghost use Rattle.std.specs.Option.{option_map, is_some};
-ghost use Rattle.bytecode.specs.Skeleton.{direct_use, check_in_of};
-ghost use Rattle.bytecode.specs.Skeleton as seen;
+ghost use Rattle.run_types.specs.Skeleton.{direct_use, check_in_of};
+ghost use Rattle.run_types.specs.Skeleton as seen;
 ghost use Rattle.name_sets.specs.Texts.{text_of};
 ghost use Rattle.skeletons.specs.Meaning.{used_at, called_at, called_by, kind_of, point_of};
 

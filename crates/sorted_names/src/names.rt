@@ -4,7 +4,7 @@ ghost use Rattle.c_semantics.specs.Texts.{defined, names};
 ghost use Rattle.name_sets.specs.NameLists.{name_set};
 
 use c_tree::{Def, DefKind};
-use resolved_tree::resolve::name_of_struct;
+use name_resolution::name_of_struct;
 use std::alloc::{AllocError, Global};
 
 /// The names that some definitions define, in the order of their bytes, each once. A struct's name is `struct` and its tag

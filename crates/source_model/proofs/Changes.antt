@@ -4,8 +4,8 @@ use Rattle.std.specs.Prelude.{codes, map}
 use Rattle.c_ints.specs.declared.kind.Kind.{Kind}
 use Rattle.c_ints.specs.declared.kind.Kind.TheVariants.{I32, I64}
 use Rattle.c_ints.specs.Number.{number}
-use Rattle.bytecode.specs.CheckIns.{Entry}
-use Rattle.bytecode.specs.Skeleton.{Skeleton, CheckIn, Print, Back, Return}
+use Rattle.run_types.specs.CheckIns.{Entry}
+use Rattle.run_types.specs.Skeleton.{Skeleton, CheckIn, Print, Back, Return}
 use Rattle.c_tree.specs.BareExpr.{Integer}
 use Rattle.c_tree.specs.BareDef.{BareDef}
 use Rattle.c_semantics.specs.Texts.{definition}

@@ -2,7 +2,7 @@
 use Rattle.std.proofs.Common.{◌≡◌, ℕ, Bool, true, false, List, [], ◌∷◌, Option, Some, None, refl, pos}
 use Rattle.std.specs.Prelude.{codes, option_map, replicate, ◌++◌}
 use Rattle.std.specs.Fmt.{digits}
-use Rattle.bytecode.specs.declared.trap.TrapKind.TheVariants.{Divide, Shift, Null, Stale, Depth, Relock, Unlock, MutexHeld, Join}
+use Rattle.run_types.specs.declared.trap.TrapKind.TheVariants.{Divide, Shift, Null, Stale, Depth, Relock, Unlock, MutexHeld, Join}
 use Rattle.c_ints.specs.declared.operator.BinOp.TheVariants.{Div, Shl}
 use Rattle.c_tree.specs.BareDef.{BareDef}
 use Rattle.c_semantics.specs.Threads.{Use}

@@ -2,7 +2,7 @@
 use Rattle.std.proofs.Common.{◌≡◌, ℕ, zero, suc, List, [], ◌∷◌, Option, Some, None, refl, pos, negsuc}
 use Rattle.std.specs.Prelude.{codes, option_map, replicate, ◌++◌}
 use Rattle.std.specs.Fmt.{digits}
-use Rattle.bytecode.specs.declared.trap.TrapKind.TheVariants.{Overflow, Stale, Index}
+use Rattle.run_types.specs.declared.trap.TrapKind.TheVariants.{Overflow, Stale, Index}
 use Rattle.c_tree.specs.BareDef.{BareDef}
 use Rattle.source_model.specs.Worlds.{World, Limits, first_world}
 use Rattle.source_model.specs.Moves.{move}

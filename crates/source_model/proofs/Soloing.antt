@@ -6,8 +6,8 @@ use Rattle.std.specs.List.{list_any, range_with_len}
 use Rattle.std.proofs.lemmas.Bool.Decides.{nat_tests}
 use Rattle.std.proofs.lemmas.List.{reverse-append}
 use Rattle.std.proofs.lemmas.Option.{same_Some}
-use Rattle.bytecode.specs.declared.run.Event.{Event}
-use Rattle.bytecode.specs.declared.run.Event.TheVariants.{Move, CheckIn, Offer, Decide}
+use Rattle.run_types.specs.declared.run.Event.{Event}
+use Rattle.run_types.specs.declared.run.Event.TheVariants.{Move, CheckIn, Offer, Decide}
 use Rattle.source_model.specs.Worlds.{World}
 use Rattle.source_model.specs.Moves.{move}
 use Rattle.source_model.specs.Runs.{can_move, some_can_move}

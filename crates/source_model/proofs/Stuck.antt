@@ -3,7 +3,7 @@ use Rattle.std.proofs.Common.{◌≡◌, Bool, true, false, List, [], ◌∷◌,
 use Rattle.std.specs.Prelude.{◌&&◌, ◌||◌, not, slice_index_or, if◌then◌else◌}
 use Rattle.std.specs.Option.{is_some}
 use Rattle.std.specs.List.{list_any}
-use Rattle.bytecode.specs.declared.run.Event.{Event}
+use Rattle.run_types.specs.declared.run.Event.{Event}
 use Rattle.source_model.specs.Worlds.{Slot, Free, Finish, Finished, Trapped, in_slot}
 use Rattle.source_model.specs.Moves.{move}
 use Rattle.source_model.specs.Runs.{is_live, some_can_move, some_lives, state, state_by}

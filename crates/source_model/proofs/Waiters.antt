@@ -5,7 +5,7 @@ use Rattle.std.specs.Option.{is_some}
 use Rattle.std.proofs.lemmas.Bool.{eq-eqb, ne_eqb}
 use Rattle.c_tree.specs.BareExpr.{Bytes}
 use Rattle.c_semantics.specs.Values.{ThreadRef, Value, Started}
-use Rattle.bytecode.specs.declared.trap.TrapKind.TheVariants.{Join as NotJoined}
+use Rattle.run_types.specs.declared.trap.TrapKind.TheVariants.{Join as NotJoined}
 use Rattle.source_model.specs.Worlds.{World, Slot, Live, Over, in_slot, holder_of, is_over, with_slot}
 use Rattle.source_model.specs.Worlds as world
 use Rattle.source_model.specs.Moves.{Standing, goes_on, join_slot, move, move_of, traps}

@@ -1,8 +1,8 @@
 -- Laws of journals, for each guard that a legal one comes to.
 use Rattle.std.specs.Prelude.{◌≡◌, ℕ, ◌==◌, ◌≤◌, Bool, false, IsTrue, List, ◌∷◌, map, length, count_by, codes, Some}
 use Rattle.std.specs.Option.{is_some}
-use Rattle.bytecode.specs.declared.run.Event.{Event}
-use Rattle.bytecode.specs.declared.run.Event.TheVariants.{Move, CheckIn, Offer, Decide, Withdraw}
+use Rattle.run_types.specs.declared.run.Event.{Event}
+use Rattle.run_types.specs.declared.run.Event.TheVariants.{Move, CheckIn, Offer, Decide, Withdraw}
 use Rattle.c_tree.specs.BareDef.{BareDef}
 use Rattle.c_semantics.specs.Texts.{definition}
 use Rattle.source_model.specs.Versions.{current}

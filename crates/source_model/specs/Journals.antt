@@ -2,8 +2,8 @@
 use Rattle.std.specs.Prelude.{◌≡◌, ℕ, ◌==◌, Bool, not, ◌&&◌, ◌||◌, List, [], ◌∷◌, map, filter_map, find, length, Option, Some, None, option_map, if◌then◌else◌}
 use Rattle.std.specs.Option.{is_none, option_map_or, option_and_then}
 use Rattle.std.specs.List.{range_with_len}
-use Rattle.bytecode.specs.declared.run.Event.{Event}
-use Rattle.bytecode.specs.declared.run.Event.TheVariants.{Move, CheckIn, Offer, Decide, Withdraw}
+use Rattle.run_types.specs.declared.run.Event.{Event}
+use Rattle.run_types.specs.declared.run.Event.TheVariants.{Move, CheckIn, Offer, Decide, Withdraw}
 use Rattle.source_model.specs.Moves.{move}
 use Rattle.source_model.specs.Runs.{SourceMove}
 use Rattle.source_model.specs.Runs as source

@@ -1,7 +1,7 @@
 -- The moves of a thread: its local evaluation and one stop.
 use Rattle.std.specs.Prelude.{ℕ, zero, suc, ◌==◌, Bool, true, false, ◌&&◌, ◌||◌, ℤ, pos, List, [], ◌∷◌, ◌++◌, length, take, drop, reverse, position, slice_get, slice_set, Option, Some, None, unwrap_or, unsigned_abs, int_lt, int_le, if◌then◌else◌}
-use Rattle.bytecode.specs.declared.trap.TrapKind.{TrapKind}
-use Rattle.bytecode.specs.declared.trap.TrapKind.TheVariants.{Null, Stale, Index, Depth, Relock, Unlock as NotHeld, MutexHeld, Join as NotJoined}
+use Rattle.run_types.specs.declared.trap.TrapKind.{TrapKind}
+use Rattle.run_types.specs.declared.trap.TrapKind.TheVariants.{Null, Stale, Index, Depth, Relock, Unlock as NotHeld, MutexHeld, Join as NotJoined}
 use Rattle.c_ints.specs.Number.{value_of}
 use Rattle.c_tree.specs.BareExpr.{Bytes}
 use Rattle.c_semantics.specs.Names.{struct_name}

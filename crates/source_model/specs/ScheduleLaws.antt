@@ -1,6 +1,6 @@
 -- Laws of the solo schedule, and of how runs end.
 use Rattle.std.specs.Prelude.{◌≡◌, ℕ, ◌||◌, ◌&&◌, Bool, true, false, IsTrue, List, reverse, Option, Some, None}
-use Rattle.bytecode.specs.declared.run.Event.{Event}
+use Rattle.run_types.specs.declared.run.Event.{Event}
 use Rattle.source_model.specs.Runs.{State, Finished, Trapped, Stuck, Going, state}
 use Rattle.source_model.specs.Guards.{Guard, Setup, Rules, has_ended}
 use Rattle.source_model.specs.Journals.{guard_after}

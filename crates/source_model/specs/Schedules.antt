@@ -2,8 +2,8 @@
 use Rattle.std.specs.Prelude.{◌≡◌, ◌⊎◌, ℕ, suc, ◌-◌, ◌==◌, Bool, true, false, not, ◌&&◌, List, [], ◌∷◌, ◌++◌, count_by, length, Option, Some, None, option_map, if◌then◌else◌}
 use Rattle.std.specs.Option.{is_some, option_map_or, option_or}
 use Rattle.std.specs.List.{range_with_len}
-use Rattle.bytecode.specs.declared.run.Event.{Event}
-use Rattle.bytecode.specs.declared.run.Event.TheVariants.{Move, CheckIn, Offer, Decide, Withdraw}
+use Rattle.run_types.specs.declared.run.Event.{Event}
+use Rattle.run_types.specs.declared.run.Event.TheVariants.{Move, CheckIn, Offer, Decide, Withdraw}
 use Rattle.source_model.specs.Runs.{can_move}
 use Rattle.source_model.specs.Guards.{Guard, Setup, Rules, first_guard, has_ended, seat_of, offer_at, is_reached}
 use Rattle.source_model.specs.Journals.{happens}

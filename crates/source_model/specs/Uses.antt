@@ -1,6 +1,6 @@
 -- The uses of names: when one is a misuse, and the record of a transaction.
 use Rattle.std.specs.Prelude.{◌≡◌, ℕ, zero, suc, Bool, true, [], ◌∷◌, ◌++◌, Contains, All, slice_get, Option, Some, None, unwrap_or, if◌then◌else◌}
-use Rattle.bytecode.specs.Skeleton.{PointKind, Call, direct_use}
+use Rattle.run_types.specs.Skeleton.{PointKind, Call, direct_use}
 use Rattle.c_tree.specs.BareExpr.{Bytes}
 use Rattle.c_semantics.specs.Changes.{same_interface, agree}
 use Rattle.c_semantics.specs.Stops.{Stop, kind_of}

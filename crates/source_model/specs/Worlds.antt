@@ -1,7 +1,7 @@
 -- The state of the source machine.
 use Rattle.std.specs.Prelude.{ℕ, ◌-◌, Bool, true, false, not, ◌||◌, ℤ, List, [], ◌∷◌, filter, filter_map, find, replicate, count_by, Option, Some, None, option_map, bytes_eq, codes, slice_index_or, slice_set, if◌then◌else◌}
 use Rattle.std.specs.Option.{option_map_or, is_some}
-use Rattle.bytecode.specs.declared.trap.TrapKind.{TrapKind}
+use Rattle.run_types.specs.declared.trap.TrapKind.{TrapKind}
 use Rattle.c_tree.specs.BareExpr.{Bytes}
 use Rattle.c_tree.specs.BareDef.{BareDef, Global, Array}
 use Rattle.c_semantics.specs.Texts.{Definitions}

@@ -18,8 +18,8 @@ use Rattle.source_programs.specs.declared.definition.Binding.{Binding}
 use Rattle.source_programs.specs.declared.definition.Definition.{Definition}
 use Rattle.resolved_tree.specs.declared.words.Word.{Word}
 use Rattle.resolved_tree.specs.Nodes.{Table, word, type_of, statements_at}
-use Rattle.resolved_tree.specs.Found.{Grows}
-use Rattle.resolved_tree.specs.Known.{known_of}
+use Rattle.name_resolution.specs.Found.{Grows}
+use Rattle.name_resolution.specs.Known.{known_of}
 use Rattle.source_programs.specs.Definitions.{bindings_of, kept, IsDefinition, IsPlain, Defines, DefinesIf, AreDefinitions, names_in, tree_kept}
 use Rattle.source_programs.proofs.Reported.{reported_none, reported_some}
 

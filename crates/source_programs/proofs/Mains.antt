@@ -7,9 +7,9 @@ use Rattle.c_tree.specs.declared.def.Def.{Def}
 use Rattle.c_tree.specs.declared.def.DefKind.{DefKind}
 use Rattle.c_tree.specs.declared.def.DefKind.TheVariants as kind
 use Rattle.c_tree.specs.declared.def.Program.{Program}
-use Rattle.c_types.specs.declared.fault.Fault.{Fault}
+use Rattle.c_expr_types.specs.declared.fault.Fault.{Fault}
 use Rattle.c_types.specs.Definitions.{Types, all_faults, main_faults}
-use Rattle.c_types.specs.Lookup.{definition_of, is_named, name_of}
+use Rattle.c_definitions.specs.Lookup.{definition_of, is_named, name_of}
 use Rattle.c_types.specs.Statements.{hiding}
 use Rattle.c_semantics.specs.Texts.{defines, definition}
 use Rattle.source_model.specs.JournalLaws.{HasMain}

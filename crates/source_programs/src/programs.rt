@@ -28,8 +28,8 @@ use c_ints::Kind;
 use c_tree::{Def, DefKind};
 use c_types::Typed;
 use local_evaluation::{Value, Work};
+use name_resolution::word;
 use patch_compare::same_interface;
-use resolved_tree::resolve::word;
 use resolved_tree::{Trees, ValueType, Word};
 use std::alloc::{AllocError, Global};
 

@@ -5,7 +5,7 @@ ghost use Rattle.c_tree.specs.Bare.{bare_def};
 ghost use Rattle.c_tree.specs.BareExpr.{Bytes};
 ghost use Rattle.c_semantics.specs.Names.{struct_name};
 ghost use Rattle.c_semantics.specs.Texts.{definition};
-ghost use Rattle.resolved_tree.specs.Found.{Grows};
+ghost use Rattle.name_resolution.specs.Found.{Grows};
 ghost use Rattle.resolved_tree.specs.Nodes.{Table, word};
 ghost use Rattle.resolved_tree.specs.Trees.{table};
 ghost use Rattle.source_programs.specs.Definitions.{kept};

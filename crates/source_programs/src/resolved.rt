@@ -8,16 +8,16 @@ ghost use Rattle.c_semantics.specs.Resolved.{NoStatements};
 ghost use Rattle.c_semantics.specs.Texts.{Definitions, definition, names, result_type};
 ghost use Rattle.resolved_tree.specs.declared.node.ValueType.TheVariants.{Integer};
 ghost use Rattle.resolved_tree.specs.Nodes.{Table, statements_at, type_of};
-ghost use Rattle.resolved_tree.specs.Found.{Grows};
-ghost use Rattle.resolved_tree.specs.Known.{known_of};
+ghost use Rattle.name_resolution.specs.Found.{Grows};
+ghost use Rattle.name_resolution.specs.Known.{known_of};
 ghost use Rattle.resolved_tree.specs.Trees.{table};
 ghost use Rattle.source_programs.specs.Definitions.{AreDefinitions, Defines, DefinesIf, HaveTrees, IsDefinition, IsPlain, binding_of, bindings_of, kept, names_in};
 
 use crate::definition::{Binding, Definition};
+use c_definitions::Known;
 use c_ints::Kind;
 use c_tree::{Binding as Declared, Def, DefKind, Function};
-use c_types::Known;
-use resolved_tree::resolve::{name_of_struct, resolve_body, statements, value_type, word};
+use name_resolution::{name_of_struct, resolve_body, statements, value_type, word};
 use resolved_tree::{StatementsNode, Trees, ValueType, Word};
 use std::alloc::{AllocError, Global};
 

@@ -15,10 +15,10 @@ use Rattle.source_runner.specs.declared.thread.Slot.TheVariants.{Free}
 use Rattle.resolved_tree.specs.Nodes.{Table}
 use Rattle.source_programs.specs.Programs.{ArePrograms, table_of, text_at, versions_of}
 use Rattle.source_programs.specs.Globals.{globals_of}
-use Rattle.source_runner.specs.Stores.{holders_of, objects_of}
+use Rattle.source_data.specs.Stores.{holders_of, objects_of}
 use Rattle.source_runner.specs.Machines.{IsSlot, Stands, finish_of, slot_at}
 use Rattle.version_laws.proofs.TableHistories.{first_history}
-use Rattle.source_runner.proofs.Texts.{current_main}
+use Rattle.source_data.proofs.Texts.{current_main}
 
 as_long : (k : ℕ) → length (replicate k world.Free) ≡ length (replicate k Free)
 as_long zero = refl

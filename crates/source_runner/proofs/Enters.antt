@@ -1,7 +1,7 @@
 -- A function is entered.
 use Rattle.std.proofs.Common.{◌≡◌, ℕ, ◌==◌, Bool, true, false, List, ◌∷◌, length, map, reverse, Option, Some, None, refl, sym, ap, ap₂, ◌∙◌, if◌then◌else◌}
 use Rattle.c_tree.specs.BareDef.{BareDef}
-use Rattle.bytecode.specs.declared.trap.TrapKind.TheVariants.{Depth}
+use Rattle.run_types.specs.declared.trap.TrapKind.TheVariants.{Depth}
 use Rattle.c_semantics.specs.Texts.{definition}
 use Rattle.c_semantics.specs.Threads.{Enter as SeenEnter, Thread as SeenThread, entered}
 use Rattle.source_model.specs.Versions.{current}

@@ -8,13 +8,13 @@ use Rattle.source_model.specs.Worlds as world
 use Rattle.version_laws.specs.Histories.{IsHistory, last_text}
 use Rattle.version_laws.proofs.TableHistories.{last_is_next, next_history}
 use Rattle.source_runner.specs.declared.machine.Machine.{Machine}
-use Rattle.source_runner.specs.declared.store.Store.{Store}
+use Rattle.source_data.specs.declared.store.Store.{Store}
 use Rattle.source_programs.specs.declared.programs.Programs.{Programs}
 use Rattle.source_programs.specs.Programs.{ArePrograms, table_of, text_at, versions_of}
 use Rattle.source_runner.specs.Machines.{IsSlot, Stands, slot_at}
-use Rattle.source_runner.specs.NewData.{with_data_of}
-use Rattle.source_runner.specs.Stores.{with_store}
-use Rattle.source_runner.proofs.Texts.{text_has_main}
+use Rattle.source_install.specs.NewData.{with_data_of}
+use Rattle.source_data.specs.Stores.{with_store}
+use Rattle.source_data.proofs.Texts.{text_has_main}
 
 -- with the next version's programs and the data after the install, where w is the world before
 pub follows : (m : Machine) (program : Programs) (store : Store) (k : ℕ) (w : World) → Stands m w → ArePrograms program

@@ -12,12 +12,12 @@ use Rattle.type_transformers.specs.declared.change.Change.{Change}
 use Rattle.type_transformers.specs.Changes.{IsChange, changing, name_of}
 use Rattle.source_programs.specs.Programs.{text_at, trees_of, versions_of}
 use Rattle.source_runner.specs.Machines.{Stands}
-use Rattle.source_runner.specs.NewData.{IsInstall}
+use Rattle.source_install.specs.NewData.{IsInstall}
 use Rattle.source_runner.specs.SourceRuns.{IsRun, world_after}
 use Rattle.source_runner.specs.declared.run.SourceRun.{SourceRun}
 use Rattle.source_runner.proofs.AfterMoves.{installed_versions, then_install}
 use Rattle.version_laws.proofs.ObjectsOfRuns.{objects_always_fit}
-use Rattle.source_runner.proofs.Texts.{no_text, text_there, texts_are, texts_have_main}
+use Rattle.source_data.proofs.Texts.{no_text, text_there, texts_are, texts_have_main}
 
 -- what an install comes to in a world that isn't over
 install_going : (w : World) (q : List BareDef) → is_over w ≡ false → install w (Some q) ≡ Some (installed q w)

@@ -4,7 +4,7 @@ use Rattle.std.proofs.lemmas.Bool.{eq-eqb, ne_eqb}
 use Rattle.c_semantics.specs.Values.{Value as Seen}
 use Rattle.c_semantics.specs.Values as value
 use Rattle.c_semantics.specs.Threads.{Thread as SeenThread}
-use Rattle.bytecode.specs.declared.trap.TrapKind.TheVariants.{Join as NotJoined}
+use Rattle.run_types.specs.declared.trap.TrapKind.TheVariants.{Join as NotJoined}
 use Rattle.source_model.specs.Worlds.{World, in_slot, with_slot}
 use Rattle.source_model.specs.Worlds as world
 use Rattle.source_model.specs.Moves.{Standing, goes_on, join, join_slot, traps}

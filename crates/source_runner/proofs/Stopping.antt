@@ -8,7 +8,7 @@ use Rattle.c_tree.specs.BareExpr.{Bytes}
 use Rattle.c_semantics.specs.Stops.{Stop as SeenStop}
 use Rattle.c_semantics.specs.Pieces.{Halt as SeenHalt}
 use Rattle.c_semantics.specs.Threads.{Frame as SeenFrame, Thread as SeenThread}
-use Rattle.bytecode.specs.declared.trap.TrapKind.{TrapKind}
+use Rattle.run_types.specs.declared.trap.TrapKind.{TrapKind}
 use Rattle.source_model.specs.Worlds.{World, Trapped, is_over, with_thread}
 use Rattle.source_model.specs.Worlds as world
 use Rattle.source_model.specs.Uses.{use_at, is_right, recorded, marked}
@@ -24,7 +24,7 @@ use Rattle.source_runner.specs.declared.thread.Next.TheVariants as next
 use Rattle.source_runner.specs.declared.thread.Thread.{Thread}
 use Rattle.source_runner.specs.declared.machine.Machine.{Machine}
 use Rattle.resolved_tree.specs.Nodes.{Table}
-use Rattle.source_runner.specs.Stores.{is_threads}
+use Rattle.source_data.specs.Stores.{is_threads}
 use Rattle.local_evaluation.specs.Pieces.{pending, stop_of}
 use Rattle.local_evaluation.specs.Work.{newest, scopes_of, went}
 use Rattle.source_programs.specs.Programs.{table_of}

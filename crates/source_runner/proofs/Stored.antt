@@ -9,9 +9,9 @@ use Rattle.source_model.specs.Worlds.{World}
 use Rattle.source_model.specs.Moves.{gone_on, perform}
 use Rattle.local_evaluation.specs.declared.value.Value.{Value}
 use Rattle.local_evaluation.specs.declared.piece.Stop.{Stop}
-use Rattle.source_runner.specs.declared.store.Store.{Store}
-use Rattle.source_runner.specs.declared.shared_stops.Did.{Did}
-use Rattle.source_runner.specs.declared.shared_stops.Did.TheVariants.{Nothing}
+use Rattle.source_data.specs.declared.store.Store.{Store}
+use Rattle.source_data.specs.declared.shared_stops.Did.{Did}
+use Rattle.source_data.specs.declared.shared_stops.Did.TheVariants.{Nothing}
 use Rattle.local_evaluation.specs.declared.work.Halt.{Halt}
 use Rattle.source_runner.specs.declared.thread.Frame.{Frame}
 use Rattle.source_runner.specs.declared.thread.Next.{Next}
@@ -23,7 +23,7 @@ use Rattle.resolved_tree.specs.Nodes.{Table}
 use Rattle.local_evaluation.specs.Pieces.{pending, stop_of}
 use Rattle.local_evaluation.specs.Work.{newest, scopes_of, went}
 use Rattle.source_programs.specs.Programs.{current_of, table_of, versions_of}
-use Rattle.source_runner.specs.Stores.{Kept, Performs, came_to, standing_with, with_store}
+use Rattle.source_data.specs.Stores.{Kept, Performs, came_to, standing_with, with_store}
 use Rattle.source_runner.specs.Machines.{IsFrame, IsReady, IsThread, IsUser, Moves, StandsBut, standing_at}
 use Rattle.version_laws.proofs.SameDefinitions.{members_alike}
 use Rattle.version_laws.proofs.TableHistories.{last_as_current}

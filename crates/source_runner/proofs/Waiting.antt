@@ -8,8 +8,8 @@ use Rattle.source_runner.specs.declared.machine.Machine.{Machine}
 use Rattle.source_runner.specs.Machines.{StandsFor}
 use Rattle.resolved_tree.specs.Nodes.{Table, word}
 use Rattle.source_programs.specs.Programs.{table_of}
-use Rattle.source_runner.specs.Stores.{with_store}
-use Rattle.source_runner.proofs.Performing.{other_number, same_number}
+use Rattle.source_data.specs.Stores.{with_store}
+use Rattle.source_data.proofs.Performing.{other_number, same_number}
 
 -- the holder that was found is the world's
 pub holder_is : (m : Machine) (w : World) (t : Table) (name : Word) (holder : Option ℕ) → StandsFor m w → t ≡ table_of m.program

@@ -1,12 +1,8 @@
-pub mod FoundChanges
 pub mod Frames
 pub mod Joins
 pub mod Machines
 pub mod Makes
-pub mod NewData
-pub mod OwnNames
 pub mod Queries
 pub mod SourceRuns
 pub mod States
-pub mod Stores
 pub mod Waits

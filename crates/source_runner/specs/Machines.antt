@@ -33,7 +33,7 @@ use Rattle.local_evaluation.specs.Work.{newest, scopes_of, went}
 use Rattle.source_runner.specs.Frames.{frame_of, frames_of}
 use Rattle.version_laws.specs.Histories.{IsHistory}
 use Rattle.source_programs.specs.Programs.{ArePrograms, current_of, table_of, versions_of}
-use Rattle.source_runner.specs.Stores.{with_store}
+use Rattle.source_data.specs.Stores.{with_store}
 
 -- an enter that is due
 abbrev pub enter_of : Table → Enter → SeenEnter

@@ -2,8 +2,8 @@
 use Rattle.std.specs.Prelude.{Option, Some, None}
 use Rattle.c_ints.specs.Number.{reduced}
 use Rattle.c_ints.specs.declared.kind.Kind.TheVariants.{I32}
-use Rattle.bytecode.specs.declared.run.Ending.{Ending}
-use Rattle.bytecode.specs.declared.run.Ending.TheVariants as ends
+use Rattle.run_types.specs.declared.run.Ending.{Ending}
+use Rattle.run_types.specs.declared.run.Ending.TheVariants as ends
 use Rattle.source_model.specs.Worlds.{Finish}
 use Rattle.source_model.specs.Worlds as world
 use Rattle.source_model.specs.Runs.{State}

@@ -19,10 +19,10 @@ ghost use Rattle.local_evaluation.specs.Work.{newest};
 
 use crate::machine::{Finish, Machine};
 use crate::thread::{Frame, Next, Slot, Thread};
-use bytecode::{Ending, TrapKind};
 use c_ints::{Int, Kind, convert};
 use local_evaluation::stack::last;
 use local_evaluation::{Halt, Stop, Value};
+use run_types::{Ending, TrapKind};
 
 /// How a run stands.
 #[derive(Clone, Copy, Debug, PartialEq, Eq)]

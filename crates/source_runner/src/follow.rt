@@ -4,10 +4,10 @@ ghost use Rattle.source_model.specs.Installs.{installed};
 ghost use Rattle.source_model.specs.Worlds.{World};
 ghost use Rattle.source_programs.specs.Programs.{table_of, text_at, trees_of, versions_of};
 ghost use Rattle.source_runner.specs.Machines.{Stands};
-ghost use Rattle.source_runner.specs.NewData.{IsInstall};
+ghost use Rattle.source_install.specs.NewData.{IsInstall};
 
-use crate::install::prepare;
 use crate::machine::Machine;
+use source_install::prepare;
 use std::alloc::AllocError;
 use type_transformers::Change;
 

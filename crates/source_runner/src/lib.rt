@@ -9,30 +9,19 @@
 //! The texts, with the resolved trees of all their functions in one table, are `source_programs`. A thread's private work is
 //! done ahead of its turn, up to its next stop (`local_evaluation`), so that a move is that stop alone.
 //!
-//! Read in this order: `thread` and `store` (threads, and what they share), `stack` (arguments, and the frames that wait),
-//! `machine` (the move of a thread), `thread_stops` (stops that change threads), `shared_stops` with `cells`, `objects`,
-//! `mutexes`, `output` and `print` (stops that read or change what threads share); `changes` (changes of data by name),
-//! `own_names` (names that no struct has), `install` and `follow` (the data after an install, and the install); `start`, `run`
-//! (the public calls), `can_move`, `waits` and `queries` (what is asked of a run).
+//! Read in this order: `thread` (threads), `stack` (arguments, and the frames that wait), `machine` (the move of a thread),
+//! `thread_stops` (stops that change threads), `follow` (an install); `start`, `run` (the public calls), `can_move`, `waits` and
+//! `queries` (what is asked of a run). Stops that read or change what threads share are `source_data`, the data after an install
+//! `source_install`.
 #![tactic(auto)]
 
 mod can_move;
-mod cells;
-mod changes;
 mod follow;
-mod install;
 mod machine;
-mod mutexes;
-mod objects;
-mod output;
-mod own_names;
-mod print;
 mod queries;
 mod run;
-mod shared_stops;
 mod stack;
 mod start;
-mod store;
 mod thread;
 mod thread_stops;
 mod waits;

@@ -8,9 +8,9 @@ ghost use Rattle.resolved_tree.specs.Nodes.{Table, word};
 ghost use Rattle.source_programs.specs.Programs.{ArePrograms, table_of, text_at, versions_of};
 
 use crate::machine::Machine;
-use crate::store::{Objects, Store};
 use crate::thread::{Enter, Next, Slot, Thread};
 use resolved_tree::Word;
+use source_data::{Objects, Store};
 use source_programs::Programs;
 use std::alloc::{AllocError, Global};
 

@@ -19,11 +19,11 @@ ghost use Rattle.local_evaluation.specs.Work.{newest};
 use crate::machine::{Finish, Machine};
 use crate::stack::{pop_frame, push_frame, take_arguments};
 use crate::thread::{Enter, Frame, Next, Slot, Stopped, Thread};
-use bytecode::TrapKind;
 use c_ints::Int;
 use local_evaluation::stack::{discard, last, push};
 use local_evaluation::{Halt, Stop, ThreadRef, Value};
 use resolved_tree::{Word, later};
+use run_types::TrapKind;
 use std::alloc::{AllocError, Global};
 
 /// The place of the least slot that is free.

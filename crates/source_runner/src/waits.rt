@@ -10,11 +10,11 @@ ghost use Rattle.source_runner.specs.Waits.{waiting_of};
 ghost use Rattle.local_evaluation.specs.Work.{newest};
 
 use crate::machine::Machine;
-use crate::mutexes::holder_of;
 use crate::thread::{Next, Slot};
 use local_evaluation::stack::last;
 use local_evaluation::{Halt, Stop, Value};
 use resolved_tree::Word;
+use source_data::holder_of;
 
 /// What a thread waits for.
 #[derive(Clone, Copy, Debug, PartialEq, Eq)]

@@ -1,10 +1,10 @@
 //! Where a thread's private work stops, and with which values and variables.
 use crate::checks::read;
+use c_definitions::Known;
 use c_ints::Int;
 use c_tree::{Def, DefKind};
-use c_types::Known;
 use local_evaluation::{Halt, Local, Piece, Stop, Value, Work, evaluate};
-use resolved_tree::resolve::resolve_body;
+use name_resolution::resolve_body;
 use resolved_tree::{NodeId, Trees};
 use std::alloc::{AllocError, Global};
 use std::test::Fail;

@@ -1,6 +1,6 @@
 //! Newer texts that are installed while a run goes on.
 use crate::checks::{Case, Check, DONE, Ends, first_wrong, holds, take_turns};
-use bytecode::TrapKind;
+use run_types::TrapKind;
 use source_runner::{SourceRun, SourceState, Stepped};
 use std::alloc::Global;
 use std::test::Fail;

@@ -1,6 +1,6 @@
 //! What is asked of a run between its moves.
 use crate::checks::{Case, Check, first_wrong, holds};
-use bytecode::TrapKind;
+use run_types::TrapKind;
 use source_runner::{SourceMove, SourceRun, SourceState, SourceWait, Stepped};
 use std::alloc::Global;
 use std::test::Fail;

@@ -1,6 +1,6 @@
 //! Texts, with what each prints and how it ends.
 use crate::checks::{Case, DONE, Ends, first_wrong, holds};
-use bytecode::TrapKind;
+use run_types::TrapKind;
 use source_runner::SourceState;
 use std::alloc::Global;
 use std::test::Fail;

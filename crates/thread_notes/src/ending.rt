@@ -6,11 +6,11 @@ use crate::line::add_number;
 use crate::places::Places;
 use crate::source::Source;
 use crate::thread::add_thread;
-use bytecode::Ending;
 use dsu_io::Sink;
 use dsu_runs::{Engine, Stands};
 use fault_notes::add_line;
 use plain_engine::PlainEngine;
+use run_types::Ending;
 use std::alloc::{AllocError, Global};
 
 /// What each line of the notes of an ending begins with.

@@ -3,8 +3,8 @@
 //! [`add_thread`] adds the lines of a thread: where its innermost call stops next, or which function it enters, and from where
 //! each call was made, the innermost first. [`ending_notes`] has the notes that follow the lines of an ending. Both promise the
 //! form alone: whatever names and texts have in them, they are lines that begin with the mark and have no further newline
-//! (`AreNotes` of `fault_notes`). Of the places that lines show it is proved that they are those of the definitions
-//! (`specs/Mapped.antt`); the rest is tested.
+//! (`AreNotes` of `fault_notes`). The places of a function's points, among which a line's place is looked up, are proved to be
+//! those of the definitions (`specs/Mapped.antt`); that a line shows the place of its own point is tested, as is the rest.
 //!
 //! The engine is one that the events of a run were replayed on, so nothing here is done at an event. The places of a text are
 //! found once, at the first line that needs one of them.

@@ -1,14 +1,15 @@
 //! The places of the points of texts.
 ghost use Rattle.std.specs.Prelude.{IfOk};
-ghost use Rattle.resolved_tree.specs.Known.{known_of};
+ghost use Rattle.name_resolution.specs.Known.{known_of};
 ghost use Rattle.thread_notes.specs.Mapped.{IsMapped};
 
+use c_definitions::Known;
 use c_tree::{Def, DefKind, Function};
-use c_types::{Known, Typed};
+use c_types::Typed;
 use dsu_io::Text;
+use name_resolution::resolve_body;
 use point_places::places_of;
 use resolved_tree::Trees;
-use resolved_tree::resolve::resolve_body;
 use std::alloc::{AllocError, Global};
 
 /// The places of a function's points, by their numbers.

@@ -7,7 +7,7 @@ use Rattle.dsu_report.specs.declared.fault.FaultLine.{FaultLine}
 use Rattle.dsu_report.specs.declared.fault.FaultLine.TheVariants.{Usage, Place, Unread, TooLong, Line, Write, Memory}
 use Rattle.dsu_report.specs.Faults.{fault_line}
 use Rattle.dsu_report.specs.Statuses.{status_of_line}
-use Rattle.bytecode.specs.declared.run.Ending.{Ending}
+use Rattle.run_types.specs.declared.run.Ending.{Ending}
 use Rattle.noted_reports.specs.NotedReports.{AddsNotes}
 use Rattle.dsu_commands.specs.Answers.{IsDone, IsExcused}
 use Rattle.dsu_commands.specs.Calls.{Call, Output, Stopped, Untouched, Writes}

@@ -1,7 +1,7 @@
 -- What a job came to whose report is explained: a plain call of the same job, with nothing but notes added to its report.
 use Rattle.std.specs.Prelude.{◌≡◌, ℕ, nat_le, List, [], Option, Some, None, if◌then◌else◌}
 use Rattle.dsu_io.specs.Causes.{FailedReads, Rose}
-use Rattle.bytecode.specs.declared.run.Ending.{Ending}
+use Rattle.run_types.specs.declared.run.Ending.{Ending}
 use Rattle.dsu_cli.specs.declared.job.Job.{Job}
 use Rattle.dsu_cli.specs.declared.job.Detail.{Detail}
 use Rattle.dsu_cli.specs.declared.job.Detail.TheVariants.{Plain, Explained}
@@ -14,7 +14,8 @@ use Rattle.dsu_commands.specs.Answers.{Answers}
 use Rattle.dsu_commands.specs.Calls.{Call, NoEnd, Shows, ShowsPrefix, Stopped, Untouched, Writes}
 use Rattle.dsu_commands.specs.Jobs.{Contents}
 
--- the text of a report with notes: in the report of a run that ended after its lines, else after the line of the fault
+-- the text of a report with notes: in the report of a run that ended after its lines, else after all of it: after the line of
+-- a fault, or alone where a command was done whose report is empty
 abbrev pub Noted : Option Ending → List ℕ → List ℕ → Type 0
 Noted None report text = AddsNotes report text
 Noted (Some ending) report text = WithNotes run_mark report text

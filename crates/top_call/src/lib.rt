@@ -5,11 +5,12 @@
 //! written with notes added to it (`specs/Explained.antt`).
 //!
 //! Read in this order: `words` (what the words ask for), `plain` (a job as it is), `runs` (what explains the report of a run that
-//! ended), `notes` (what explains the report of a job), `explained` (a job with its report explained), `top` (the top call).
+//! ended), `pairs` (what explains that a text is no patch), `notes` (what explains the report of a job), `explained` (a job with its report explained), `top` (the top call).
 #![tactic(auto)]
 
 mod explained;
 mod notes;
+mod pairs;
 mod plain;
 mod runs;
 mod top;

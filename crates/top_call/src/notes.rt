@@ -5,8 +5,8 @@ ghost use Rattle.input_files.specs.Sources.{text_limit};
 ghost use Rattle.noted_reports.specs.NotedReports.{AddsNotes, WithNotes, fault_mark, run_mark};
 ghost use Rattle.top_call.specs.Explained.{Noted};
 
+use crate::pairs::notes_of_pair;
 use crate::runs::notes_of_run;
-use bytecode::{Ending, Event};
 use c_front::{FaultKind, TextFault, read_text};
 use dsu_cli::{Job, Offer};
 use dsu_commands::Outcome;
@@ -15,7 +15,11 @@ use dsu_report::{FaultLine, place_of, write_fault};
 use fault_notes::notes_of;
 use input_files::TEXT_LIMIT;
 use noted_reports::{FAULT_MARK, Report, interleave};
+use run_types::{Ending, Event};
 use std::alloc::Global;
+
+/// The status of a job that was done.
+const DONE: u8 = 0;
 
 /// The status of a refused text.
 const REFUSED: u8 = 11;
@@ -73,7 +77,7 @@ fn with_notes_between(alloc: Global, report: Vec<u8>, notes: &[Vec<u8>]) -> Vec<
     }
 }
 
-/// The report of a job that came to no end; where a text was refused, with the notes that explain its fault.
+/// The report of a job that came to no end, with the notes that explain what it found, if it has some.
 fn with_fault_notes<F: Files>(
     alloc: Global,
     job: &Job,
@@ -83,12 +87,27 @@ fn with_fault_notes<F: Files>(
 ) -> Vec<u8>
     ensures { AddsNotes report.items result.items }
 {
-    if status != REFUSED {
-        return report;
-    }
-    match notes_for(alloc, job, files, &report) {
+    match notes_by_status(alloc, job, files, status, &report) {
         Some(notes) => with_notes(report, &notes),
         None => report,
+    }
+}
+
+/// The notes of a job that came to no end: those of the fault of a text that was refused; of a job that was done those of a text
+/// that is no patch.
+fn notes_by_status<F: Files>(
+    alloc: Global,
+    job: &Job,
+    files: &mut F,
+    status: u8,
+    report: &[u8],
+) -> Option<Vec<u8>>
+    ensures { IfSome result (λ notes. AreNotes fault_mark notes.items) }
+{
+    match status {
+        DONE => notes_of_pair(alloc, job, files),
+        REFUSED => notes_for(alloc, job, files, report),
+        _ => None,
     }
 }
 

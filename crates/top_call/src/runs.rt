@@ -3,12 +3,12 @@ ghost use Rattle.std.specs.Prelude.{All, IfOk, IfSome};
 ghost use Rattle.fault_notes.specs.Notes.{AreNotes};
 ghost use Rattle.noted_reports.specs.NotedReports.{run_mark};
 
-use bytecode::{Ending, Event};
 use c_types::Typed;
 use dsu_cli::{Job, Offer};
 use dsu_io::{Files, List};
 use input_files::{Source as Read, source_of};
 use run_notes::run_notes;
+use run_types::{Ending, Event};
 use std::alloc::{AllocError, Global};
 use thread_notes::Source;
 

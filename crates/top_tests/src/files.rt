@@ -1,10 +1,10 @@
 //! What the calls of `input_files` answer with ample memory, and where a read fails.
-use bytecode::Event;
 use c_front::FaultKind;
 use c_types::TypeKind;
 use dsu_io::MemoryFiles;
 use dsu_report::{FaultLine, LineWord};
 use input_files::{Source, TEXT_LIMIT, journal_of, source_of};
+use run_types::Event;
 use std::alloc::{AllocError, Global};
 
 const RIGHT: &str = "int x;\nint main(void) { return x; }\n";

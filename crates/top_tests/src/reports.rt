@@ -2,13 +2,13 @@
 //! sink does.
 
 use crate::fixtures::sink_of;
-use bytecode::{Ending, TrapKind};
 use c_front::FaultKind;
 use c_types::TypeKind;
 use dsu_report::{
     FaultLine, LineWord, Place, place_of, write_ending, write_fault, write_mutex_wait,
     write_thread_wait,
 };
+use run_types::{Ending, TrapKind};
 use std::alloc::AllocError;
 
 const USAGE: &str = "\

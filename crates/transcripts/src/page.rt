@@ -1,10 +1,10 @@
 //! What a transcript shows of a call.
 
 use crate::calls::Seen;
-use bytecode::{Ending, Event};
 use dsu_commands::Outcome;
 use dsu_io::MemorySink;
 use dsu_report::trap_word;
+use run_types::{Ending, Event};
 use std::alloc::{AllocError, Global};
 
 /// The most events that the line of an outcome lists.

@@ -3,11 +3,11 @@
 use crate::calls::{Seen, see};
 use crate::page::{quote, show_outcome};
 use crate::stage::Stage;
-use bytecode::Event;
 use dsu_commands::Outcome;
 use dsu_io::{MemorySink, StdSink, Text};
 use dsu_journal::print_journal;
 use dsu_report::write_answers;
+use run_types::Event;
 use std::alloc::{AllocError, Global};
 
 /// The file of the journal that a run printed.

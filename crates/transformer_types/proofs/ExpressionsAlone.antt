@@ -9,10 +9,10 @@ use Rattle.c_tree.specs.declared.expr.Expr.TheFolds.{fold-roll-Expr, fold_out-Ex
 use Rattle.c_tree.specs.declared.expr.ExprNode.{ExprNode}
 use Rattle.c_tree.specs.declared.expr.ExprNode.TheVariants.{Number, Character, Null, Variable, Unary, Cast, Binary, Choice, Dot}
 use Rattle.c_tree.specs.declared.def.Def.{Def}
-use Rattle.c_types.specs.Lookup.{is_known}
-use Rattle.c_types.specs.declared.found.Part.{Part}
-use Rattle.c_types.specs.Found.{after, required}
-use Rattle.c_types.specs.Expressions.{part, is_safe, is_operand, binary, where_allowed}
+use Rattle.c_definitions.specs.Lookup.{is_known}
+use Rattle.c_expr_types.specs.declared.found.Part.{Part}
+use Rattle.c_expr_types.specs.Found.{after, required}
+use Rattle.c_expr_types.specs.Expressions.{part, is_safe, is_operand, binary, where_allowed}
 use Rattle.c_types.specs.TransformSyntax.{Form, allows, names_old, form, form_of, is_transforming}
 use Rattle.patch_faults.specs.TransformTypes.{Old, part_of, infer_old, names_in}
 use Rattle.transformer_types.specs.Alone.{part_alone, infer_alone}

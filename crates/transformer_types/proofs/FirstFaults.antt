@@ -2,11 +2,11 @@
 use Rattle.std.proofs.Common.{◌≡◌, ℕ, ◌+◌, ◌<◌, Bool, true, false, nat_lt, List, [], ◌∷◌, ◌++◌, length, get_or, drop, map, Option, Some, None, option_map, refl, ◌∙◌, sym, ap, arith}
 use Rattle.std.specs.Prelude.{flat_map}
 use Rattle.std.proofs.lemmas.List.{at_drop_more}
-use Rattle.c_types.specs.declared.found.Found.{Found}
-use Rattle.c_types.specs.declared.found.Found.TheVariants.{Wrong}
-use Rattle.c_types.specs.declared.found.Part.{Part}
-use Rattle.c_types.specs.Faults.{first as first_of_value}
-use Rattle.c_types.specs.Found.{misfit, required}
+use Rattle.c_expr_types.specs.declared.found.Found.{Found}
+use Rattle.c_expr_types.specs.declared.found.Found.TheVariants.{Wrong}
+use Rattle.c_expr_types.specs.declared.found.Part.{Part}
+use Rattle.c_expr_types.specs.Faults.{first as first_of_value}
+use Rattle.c_expr_types.specs.Found.{misfit, required}
 use Rattle.patch_faults.specs.declared.fault.TransformFault.{TransformFault}
 use Rattle.patch_faults.specs.TransformFaults.{place_of, earlier, first, of_expression}
 use Rattle.transformer_types.specs.Alone.{sooner}

@@ -1,8 +1,8 @@
 -- What tests and empty lists say of their parts.
 use Rattle.std.proofs.Common.{◌≡◌, ℕ, Bool, true, false, ◌&&◌, List, [], ◌∷◌, ◌++◌, refl}
-use Rattle.c_types.specs.declared.fault.TypeKind.{TypeKind}
-use Rattle.c_types.specs.declared.fault.Fault.{Fault}
-use Rattle.c_types.specs.Faults.{unless}
+use Rattle.c_expr_types.specs.declared.fault.TypeKind.{TypeKind}
+use Rattle.c_expr_types.specs.declared.fault.Fault.{Fault}
+use Rattle.c_expr_types.specs.Faults.{unless}
 
 pub both : (a b : Bool) → (a && b) ≡ true → (a ≡ true) × (b ≡ true)
 both true b h = (refl, h)

@@ -12,14 +12,14 @@ use Rattle.c_tree.specs.declared.def.Def.{Def}
 use Rattle.c_tree.specs.declared.def.DefKind.{DefKind}
 use Rattle.c_tree.specs.declared.def.DefKind.TheVariants.{TransformStruct, TransformGlobal}
 use Rattle.c_tree.specs.declared.def.Program.{Program}
-use Rattle.c_types.specs.declared.fault.Fault.{Fault}
-use Rattle.c_types.specs.declared.fault.TypeKind.TheVariants.{BadTransformer, OverLimit}
-use Rattle.c_types.specs.Lookup.{Meaning, definition_of, defined, members_of}
-use Rattle.c_types.specs.Lookup.Meaning.{AVariable}
-use Rattle.c_types.specs.Found.{converts, required}
-use Rattle.c_types.specs.Faults.{unless}
-use Rattle.c_types.specs.Expressions.{member}
-use Rattle.c_types.specs.Need.{need, greatest}
+use Rattle.c_expr_types.specs.declared.fault.Fault.{Fault}
+use Rattle.c_expr_types.specs.declared.fault.TypeKind.TheVariants.{BadTransformer, OverLimit}
+use Rattle.c_definitions.specs.Lookup.{Meaning, definition_of, defined, members_of}
+use Rattle.c_definitions.specs.Lookup.Meaning.{AVariable}
+use Rattle.c_expr_types.specs.Found.{converts, required}
+use Rattle.c_expr_types.specs.Faults.{unless}
+use Rattle.c_definitions.specs.Lookup.{member}
+use Rattle.c_expr_types.specs.Need.{need, greatest}
 use Rattle.c_types.specs.Statements.{hiding}
 use Rattle.c_types.specs.TransformSyntax.{is_transforming, transforms_fields, transforms_struct, is_global, of_struct, of_global}
 use Rattle.c_types.specs.Definitions.{Types, kind_faults, all_faults, main_faults, max_need}

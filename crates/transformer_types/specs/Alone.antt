@@ -19,13 +19,14 @@ use Rattle.c_tree.specs.declared.def.FieldValue.{FieldValue}
 use Rattle.c_tree.specs.declared.def.Def.{Def}
 use Rattle.c_tree.specs.declared.def.DefKind.{DefKind}
 use Rattle.c_tree.specs.declared.def.DefKind.TheVariants.{TransformStruct, TransformGlobal}
-use Rattle.c_types.specs.Lookup.{Meaning, defined, members_of}
-use Rattle.c_types.specs.Lookup.Meaning.{AVariable}
-use Rattle.c_types.specs.Expressions.{number_type, is_unary_operand, is_operand, is_condition, binary, choice, member}
-use Rattle.c_types.specs.Found.{after, converts, is_comparable, kind_in, required}
-use Rattle.c_types.specs.declared.found.Found.{Found}
-use Rattle.c_types.specs.declared.found.Found.TheVariants.{Value, Null as NullValue, Nothing}
-use Rattle.c_types.specs.declared.found.Part.{Part}
+use Rattle.c_definitions.specs.Lookup.{Meaning, defined, members_of}
+use Rattle.c_definitions.specs.Lookup.Meaning.{AVariable}
+use Rattle.c_expr_types.specs.Expressions.{number_type, is_unary_operand, is_operand, is_condition, binary, choice}
+use Rattle.c_definitions.specs.Lookup.{member}
+use Rattle.c_expr_types.specs.Found.{after, converts, is_comparable, kind_in, required}
+use Rattle.c_expr_types.specs.declared.found.Found.{Found}
+use Rattle.c_expr_types.specs.declared.found.Found.TheVariants.{Value, Null as NullValue, Nothing}
+use Rattle.c_expr_types.specs.declared.found.Part.{Part}
 use Rattle.c_semantics.specs.Same.{same_type}
 use Rattle.c_semantics.specs.Changes.{same_layout}
 use Rattle.patch_faults.specs.declared.fault.TransformFault.{TransformFault}

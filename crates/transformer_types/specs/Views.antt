@@ -1,11 +1,11 @@
 -- What the code lends, as the rules of types see it, for the contracts of private functions.
 use Rattle.c_tree.specs.declared.name.CType.TheVariants.{Integer as IntegerType}
-use Rattle.c_types.specs.declared.fault.Fault.{Fault}
-use Rattle.c_types.specs.declared.fault.TypeKind.TheVariants as kind
-use Rattle.c_types.specs.declared.found.Found.{Found}
-use Rattle.c_types.specs.declared.found.Found.TheVariants as found
-use Rattle.c_types.specs.declared.found.Part.{Part}
-use Rattle.c_types.specs.Faults.{fault}
+use Rattle.c_expr_types.specs.declared.fault.Fault.{Fault}
+use Rattle.c_expr_types.specs.declared.fault.TypeKind.TheVariants as kind
+use Rattle.c_expr_types.specs.declared.found.Found.{Found}
+use Rattle.c_expr_types.specs.declared.found.Found.TheVariants as found
+use Rattle.c_expr_types.specs.declared.found.Part.{Part}
+use Rattle.c_expr_types.specs.Faults.{fault}
 use Rattle.patch_faults.specs.TransformTypes.{Old, AnObject, AValue}
 use Rattle.transformer_types.specs.declared.fault.ValueFault.{ValueFault}
 use Rattle.transformer_types.specs.declared.fault.ValueFault.TheVariants.{WrongType, UnknownField}

@@ -1,6 +1,6 @@
 ghost use Rattle.std.specs.Prelude.{◌≡◌, option_map};
-ghost use Rattle.c_types.specs.Faults.{is_before, sooner as sooner_value, number_of, unless, first};
-ghost use Rattle.c_types.specs.declared.fault.TypeKind.TheVariants.{WrongType};
+ghost use Rattle.c_expr_types.specs.Faults.{is_before, sooner as sooner_value, number_of, unless, first};
+ghost use Rattle.c_expr_types.specs.declared.fault.TypeKind.TheVariants.{WrongType};
 ghost use Rattle.patch_faults.specs.TransformFaults.{of_expression, place_of};
 ghost use Rattle.transformer_types.specs.Alone.{sooner};
 ghost use Rattle.transformer_types.specs.Views.{fault_seen};

@@ -1,10 +1,8 @@
 ghost use Rattle.std.specs.Prelude.{◌≡◌, is_some, option_map, option_copied, if◌then◌else◌};
-ghost use Rattle.c_ints.specs.Arithmetic.{binary_kind, unary_kind};
-ghost use Rattle.c_ints.specs.Kind.{promoted};
-ghost use Rattle.c_types.specs.declared.found.Found.TheVariants.{Value};
-ghost use Rattle.c_types.specs.Expressions.{binary, choice, is_equality, is_operand, is_unary_operand, meeting, number_type};
-ghost use Rattle.c_types.specs.declared.fault.TypeKind.TheVariants.{WrongType};
-ghost use Rattle.c_types.specs.Found.{wrong};
+ghost use Rattle.c_expr_types.specs.declared.found.Found.TheVariants.{Value};
+ghost use Rattle.c_expr_types.specs.Expressions.{binary, choice, is_equality, is_operand, is_unary_operand, meeting, number_type};
+ghost use Rattle.c_expr_types.specs.declared.fault.TypeKind.TheVariants.{WrongType};
+ghost use Rattle.c_expr_types.specs.Found.{wrong};
 ghost use Rattle.patch_faults.specs.TransformTypes.{field_value, type_in};
 ghost use Rattle.transformer_types.specs.Alone.{binary_of, cast_of, choice_of, field_of, unary_of};
 ghost use Rattle.transformer_types.specs.Views.{found_seen, old_seen, part_seen};
@@ -12,7 +10,7 @@ ghost use Rattle.transformer_types.specs.Views.{found_seen, old_seen, part_seen}
 use crate::fault::{ValueFault, first_of_value};
 use crate::found::{Found, Old, Part, unless_wrong};
 use crate::layout::member;
-use c_ints::{BinOp, Int, Kind, UnOp, common};
+use c_ints::{BinOp, Int, UnOp, binary_kind, common, unary_kind};
 use c_tree::{CType, Name};
 
 /// A number: one of value 0 each handle takes too.
@@ -23,38 +21,6 @@ pub(crate) fn number<'a>(n: Int) -> Found<'a>
         Found::Zero(n.kind())
     } else {
         Found::Integer(n.kind())
-    }
-}
-
-/// The kind that the integer promotions make of a kind.
-fn promoted(kind: Kind) -> Kind
-    ensures { result ≡ promoted kind }
-{
-    match kind {
-        Kind::I8 | Kind::U8 | Kind::I16 | Kind::U16 => Kind::I32,
-        Kind::I32 | Kind::U32 | Kind::I64 | Kind::U64 => kind,
-    }
-}
-
-/// The kind of a unary operator's value.
-fn unary_kind(op: UnOp, a: Kind) -> Kind
-    ensures { result ≡ unary_kind op a }
-{
-    if matches!(op, UnOp::Not) {
-        Kind::I32
-    } else {
-        promoted(a)
-    }
-}
-
-/// The kind of a binary operator's value.
-fn binary_kind(op: BinOp, a: Kind, b: Kind) -> Kind
-    ensures { result ≡ binary_kind op a b }
-{
-    match op {
-        BinOp::Lt | BinOp::Gt | BinOp::Le | BinOp::Ge | BinOp::Eq | BinOp::Ne => Kind::I32,
-        BinOp::Shl | BinOp::Shr => promoted(a),
-        _ => common(a, b),
     }
 }
 

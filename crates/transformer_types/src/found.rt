@@ -1,7 +1,7 @@
 ghost use Rattle.std.specs.Prelude.{◌≡◌, ◌&&◌, option_map};
-ghost use Rattle.c_types.specs.Expressions.{follows};
-ghost use Rattle.c_types.specs.Faults.{first};
-ghost use Rattle.c_types.specs.Found.{converts, has_value, is_comparable, is_handle, is_integer, is_null, is_scalar, kind_in, required, same_type, type_of, unless_wrong};
+ghost use Rattle.c_expr_types.specs.Expressions.{follows};
+ghost use Rattle.c_expr_types.specs.Faults.{first};
+ghost use Rattle.c_expr_types.specs.Found.{converts, has_value, is_comparable, is_handle, is_integer, is_null, is_scalar, kind_in, required, same_type, type_of, unless_wrong};
 ghost use Rattle.patch_faults.specs.TransformTypes.{by_itself, is_object};
 ghost use Rattle.transformer_types.specs.Views.{fault_seen, found_seen, old_seen, part_seen};
 

@@ -1,7 +1,7 @@
 ghost use Rattle.std.specs.Prelude.{◌≡◌};
 ghost use Rattle.c_tree.specs.declared.expr.Expr.{Expr as Tree, out-Expr};
 ghost use Rattle.c_tree.specs.declared.expr.Expr.TheFolds.{map-Expr};
-ghost use Rattle.c_types.specs.declared.found.Part.{Part as Seen};
+ghost use Rattle.c_expr_types.specs.declared.found.Part.{Part as Seen};
 ghost use Rattle.transformer_types.specs.Alone.{binary_of, cast_of, choice_of, field_of, found_alone, infer_alone, unary_of};
 ghost use Rattle.transformer_types.specs.Views.{found_seen, old_seen, part_seen};
 

@@ -2,8 +2,8 @@ ghost use Rattle.std.specs.Prelude.{◌≡◌, ◌&&◌, map, option_copied};
 ghost use Rattle.c_semantics.specs.Changes.{same_layout};
 ghost use Rattle.c_semantics.specs.Same.{same_binding, same_bool, same_kind as same_bare_kind, same_type as same_bare_type};
 ghost use Rattle.c_tree.specs.Bare.{bare_binding, bare_type};
-ghost use Rattle.c_types.specs.Expressions.{member};
-ghost use Rattle.c_types.specs.Found.{same_kind, same_type};
+ghost use Rattle.c_definitions.specs.Lookup.{member};
+ghost use Rattle.c_expr_types.specs.Found.{same_kind, same_type};
 
 use c_ints::Kind;
 use c_tree::{Binding, CType};

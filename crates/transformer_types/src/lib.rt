@@ -7,7 +7,7 @@
 //! expression may be, and what may be required of it), `form` (each form of expression by its parts), `infer` (an expression
 //! whole), `layout` (types and fields of structs), `value` (a value for a field or a global), `transformer` (each kind of
 //! transformer), `text` (all transformers of a text).
-#![tactic(auto, using(c_types::proofs::Firsts::first_append))]
+#![tactic(auto, using(c_expr_types::proofs::Firsts::first_append))]
 
 mod fault;
 mod form;

@@ -4,8 +4,9 @@ ghost use Rattle.transformer_types.specs.Alone.{faults_at_alone};
 
 use crate::fault::sooner;
 use crate::transformer::fault_at;
+use c_definitions::Known;
 use c_tree::Def;
-use c_types::{Known, Typed};
+use c_types::Typed;
 use patch_faults::TransformFault;
 use std::alloc::{AllocError, Global};
 

@@ -1,5 +1,5 @@
 ghost use Rattle.std.specs.Prelude.{◌≡◌, flat_map, option_copied};
-ghost use Rattle.c_types.specs.Lookup.{defined, meaning_in, members_in, members_of};
+ghost use Rattle.c_definitions.specs.Lookup.{defined, meaning_in, members_in, members_of};
 ghost use Rattle.patch_faults.specs.TransformFaults.{first};
 ghost use Rattle.transformer_types.specs.Alone.{faults_at_alone, field_faults_alone, global_faults_alone, struct_faults_alone, variable_type};
 
@@ -7,8 +7,8 @@ use crate::fault::sooner;
 use crate::found::Old;
 use crate::layout::{same_layout, same_type};
 use crate::value::{field_fault, value_fault};
+use c_definitions::Known;
 use c_tree::{Binding, CType, Def, DefKind, Expr, FieldValue};
-use c_types::Known;
 use dsu_io::List;
 use patch_faults::TransformFault;
 

@@ -7,7 +7,7 @@ use Rattle.c_tree.specs.Bare.{bare_def, bare_kind}
 use Rattle.c_tree.specs.declared.def.Def.{Def}
 use Rattle.c_tree.specs.declared.def.DefKind.{DefKind}
 use Rattle.c_tree.specs.declared.def.DefKind.TheVariants as kind
-use Rattle.c_types.specs.Lookup.{full_name, declared_as}
+use Rattle.c_definitions.specs.Lookup.{full_name, declared_as}
 use Rattle.c_semantics.specs.Texts.{defines, definition}
 
 defines_alike : (name : Bytes) (made : DefKind) → option_map_or (bytes_eq name) (full_name made) false ≡ defines name (bare_kind made)

@@ -6,10 +6,10 @@ use Rattle.c_tree.specs.declared.def.Def.{Def}
 use Rattle.c_tree.specs.declared.def.DefKind.{DefKind}
 use Rattle.c_tree.specs.declared.def.DefKind.TheVariants as kind
 use Rattle.c_tree.specs.declared.def.Program.{Program}
-use Rattle.c_types.specs.declared.fault.Fault.{Fault}
-use Rattle.c_types.specs.declared.fault.TypeKind.{TypeKind}
-use Rattle.c_types.specs.Faults.{unless}
-use Rattle.c_types.specs.Lookup.{full_name, declared_as}
+use Rattle.c_expr_types.specs.declared.fault.Fault.{Fault}
+use Rattle.c_expr_types.specs.declared.fault.TypeKind.{TypeKind}
+use Rattle.c_expr_types.specs.Faults.{unless}
+use Rattle.c_definitions.specs.Lookup.{full_name, declared_as}
 use Rattle.c_types.specs.Statements.{hiding}
 use Rattle.c_types.specs.Definitions.{Types, all_faults, kind_faults}
 use Rattle.versioned_structs.specs.Limits.{most_fields}

@@ -8,7 +8,7 @@ use Rattle.c_tree.specs.BareDef.{BareFieldValue}
 use Rattle.c_tree.specs.declared.def.Def.{Def}
 use Rattle.c_tree.specs.declared.def.DefKind.{DefKind}
 use Rattle.c_tree.specs.declared.def.DefKind.TheVariants as kind
-use Rattle.c_types.specs.Index.{is_key}
+use Rattle.c_definitions.specs.Index.{is_key}
 use Rattle.c_semantics.specs.Transformers.{given_by, given_fields, value_by, given_value}
 use Rattle.type_transformers.specs.declared.newer.Target.TheVariants.{Struct, Global}
 use Rattle.type_transformers.specs.Newer.{target_name, values_in, expr_in}

@@ -7,7 +7,7 @@ use Rattle.c_tree.specs.declared.def.FieldValue.{FieldValue}
 use Rattle.c_tree.specs.declared.def.Def.{Def}
 use Rattle.c_tree.specs.declared.def.DefKind.{DefKind}
 use Rattle.c_tree.specs.declared.def.DefKind.TheVariants as kind
-use Rattle.c_types.specs.Lookup.{declared_as}
+use Rattle.c_definitions.specs.Lookup.{declared_as}
 use Rattle.versioned_structs.specs.Limits.{most_fields}
 use Rattle.type_transformers.specs.declared.newer.Target.{Target}
 use Rattle.type_transformers.specs.declared.newer.Target.TheVariants.{Struct, Global}

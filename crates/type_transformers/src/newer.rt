@@ -2,15 +2,16 @@
 ghost use Rattle.std.specs.Prelude.{◌≡◌, ◌≤◌, map, find, length, option_map, option_and_then, option_copied, IfOk, IfSome, OnOk};
 ghost use Rattle.std.specs.List.{slice_get};
 ghost use Rattle.c_tree.specs.Bare.{bare_def, bare_expr, bare_field_value};
-ghost use Rattle.c_types.specs.Index.{is_key, place_of, table_of, with_name};
+ghost use Rattle.c_definitions.specs.Index.{is_key, place_of, table_of, with_name};
 ghost use Rattle.c_semantics.specs.Texts.{definition};
 ghost use Rattle.c_semantics.specs.Transformers.{given_fields, given_value};
 ghost use Rattle.versioned_structs.specs.Limits.{most_fields};
 ghost use Rattle.type_transformers.specs.Newer.{target_name, keys, values_in, expr_in, members_in};
 
+use c_definitions::Known;
 use c_scope::Scopes;
 use c_tree::{Def, DefKind, Expr, FieldValue};
-use c_types::{Known, Typed};
+use c_types::Typed;
 use dsu_io::Text;
 use std::alloc::{AllocError, Global};
 use std::marker::Model;
@@ -38,7 +39,7 @@ impl<'a> Model for Newer<'a> {
     ghost use Rattle.c_tree.specs.declared.def.Def.{Def};
     ghost use Rattle.std.specs.Coded.{codes};
     ghost use Rattle.c_tree.specs.contracts.def.Def as def;
-    ghost use Rattle.c_types.specs.Index.{table_of};
+    ghost use Rattle.c_definitions.specs.Index.{table_of};
     ghost use Rattle.type_transformers.specs.declared.newer.Target.TheVariants.{Struct, Global};
     ghost use Rattle.type_transformers.specs.Newer.{keys, HasSmallStructs};
 
@@ -123,7 +124,7 @@ impl<'a> Newer<'a> {
     }
 
     /// The place of the first transformer of a name.
-    #[tactic(auto, using(c_types::proofs::Index::look_up_table))]
+    #[tactic(auto, using(c_definitions::proofs::Index::look_up_table))]
     fn place_of(&self, target: Target, name: &str) -> Option<usize>
         ensures { result ≡ place_of name.now (keys target self.now) }
     {

@@ -7,8 +7,9 @@ ghost use Rattle.type_transformers.specs.Made.{AreChanges};
 
 use crate::change::{Change, add_change};
 use crate::newer::Newer;
+use c_definitions::Known;
 use c_tree::Def;
-use c_types::{Known, Typed};
+use c_types::Typed;
 use patch_faults::TransformFault;
 use sorted_names::names_in_order;
 use std::alloc::{AllocError, Global};

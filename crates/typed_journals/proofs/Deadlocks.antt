@@ -4,7 +4,7 @@ use Rattle.std.proofs.lemmas.Bool.{cases_lt}
 use Rattle.std.proofs.lemmas.List.{get_or_past}
 use Rattle.std.proofs.lemmas.List.Folds.{list_any_at}
 use Rattle.std.proofs.lemmas.List.FromFn.{get_or-range_with_len, length-range_with_len}
-use Rattle.bytecode.specs.declared.run.Ending.TheVariants.{Deadlock}
+use Rattle.run_types.specs.declared.run.Ending.TheVariants.{Deadlock}
 use Rattle.c_semantics.specs.Threads.{Thread}
 use Rattle.source_model.specs.Worlds.{World, Free, Live, Finish, in_slot, is_over}
 use Rattle.source_model.specs.Worlds as world

@@ -2,9 +2,9 @@
 use Rattle.std.proofs.Common.{◌≡◌, ℕ, zero, suc, ◌==◌, ◌||◌, ◌⊎◌, inl, inr, Bool, true, false, List, [], ◌∷◌, ◌++◌, length, Option, Some, None, is_some, option_and_then, slice_get, unwrap_or, unsigned_abs, refl, sym, ap, subst, ◌∙◌, if◌then◌else◌}
 use Rattle.std.specs.Prelude.{map, position, slice_set}
 use Rattle.std.proofs.lemmas.Option.{none-some, same_Some}
-use Rattle.bytecode.specs.declared.run.Event.{Event}
-use Rattle.bytecode.specs.declared.run.Ending.TheVariants as ending
-use Rattle.bytecode.specs.declared.trap.TrapKind.TheVariants.{Depth, Null, Stale, Index, Relock, Unlock as NotHeld, MutexHeld, Join as NotJoined}
+use Rattle.run_types.specs.declared.run.Event.{Event}
+use Rattle.run_types.specs.declared.run.Ending.TheVariants as ending
+use Rattle.run_types.specs.declared.trap.TrapKind.TheVariants.{Depth, Null, Stale, Index, Relock, Unlock as NotHeld, MutexHeld, Join as NotJoined}
 use Rattle.c_ints.specs.declared.kind.Kind.TheVariants.{I32}
 use Rattle.c_ints.specs.Kind.{InRange}
 use Rattle.c_ints.specs.Number.{value_of}

@@ -1,7 +1,7 @@
 -- Types along legal journals: whatever is offered and decided, moved and installed.
 use Rattle.std.specs.Prelude.{◌≡◌, ℕ, false, List, Some}
-use Rattle.bytecode.specs.declared.run.Event.{Event}
-use Rattle.bytecode.specs.declared.run.Ending.TheVariants.{Deadlock}
+use Rattle.run_types.specs.declared.run.Event.{Event}
+use Rattle.run_types.specs.declared.run.Ending.TheVariants.{Deadlock}
 use Rattle.c_semantics.specs.Threads.{Thread}
 use Rattle.effects.specs.Rows.{AreRows}
 use Rattle.source_model.specs.Worlds.{Live, in_slot, is_over}

@@ -20,11 +20,11 @@ use Rattle.c_tree.specs.declared.name.CType.{CType}
 use Rattle.c_tree.specs.declared.name.CType.TheVariants as tree
 use Rattle.c_tree.specs.declared.def.Def.{Def}
 use Rattle.c_tree.specs.declared.def.Binding.{Binding}
-use Rattle.c_types.specs.Lookup.{Meaning, definition_of, meaning_in, name_of, types_of}
-use Rattle.c_types.specs.Lookup.Meaning.{AVariable, AnArray, AFunction, AMutex}
-use Rattle.c_types.specs.declared.fault.TypeKind.TheVariants.{NoMain}
+use Rattle.c_definitions.specs.Lookup.{Meaning, definition_of, meaning_in, name_of, types_of}
+use Rattle.c_definitions.specs.Lookup.Meaning.{AVariable, AnArray, AFunction, AMutex}
+use Rattle.c_expr_types.specs.declared.fault.TypeKind.TheVariants.{NoMain}
 use Rattle.c_types.specs.Definitions.{all_faults, defines_main, is_main, main_faults, name_place}
-use Rattle.c_types.specs.Expressions.{is_int}
+use Rattle.c_expr_types.specs.Expressions.{is_int}
 use Rattle.c_semantics.specs.Texts.{definition, global_type, int, result_type}
 use Rattle.c_semantics.specs.Values.{Value, Number, Reference, Started, compared, converted_to, int_of, is_true}
 use Rattle.c_semantics.specs.Constants.{chosen, constant, elements, initial, initial_cells, no_old, object_of, safe, wrapped, wrapped_unary}

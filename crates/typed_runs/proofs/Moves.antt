@@ -1,7 +1,7 @@
 -- Each move of a typed world leaves a typed world.
 use Rattle.std.proofs.Common.{◌≡◌, ℕ, ◌==◌, ◌||◌, Bool, true, false, List, [], ◌∷◌, length, Option, Some, None, is_some, refl, sym, ap, subst, ◌∙◌, le_refl, if◌then◌else◌}
 use Rattle.std.proofs.lemmas.Option.{none-some, same_Some}
-use Rattle.bytecode.specs.declared.trap.TrapKind.TheVariants.{Depth}
+use Rattle.run_types.specs.declared.trap.TrapKind.TheVariants.{Depth}
 use Rattle.c_tree.specs.BareExpr.{Bytes}
 use Rattle.c_tree.specs.BareDef.{BareDef}
 use Rattle.c_semantics.specs.Texts.{definition, parameters_of, result_type}

@@ -5,8 +5,8 @@ use Rattle.std.proofs.lemmas.Bool.{cases_lt, ltb-true}
 use Rattle.std.proofs.lemmas.List.{get_or_past, length-map, length-reverse, map-append, reverse-reverse}
 use Rattle.std.proofs.lemmas.List.Elements.{All-append, All-cons, All-get_or, All-head, All-nil, All-set}
 use Rattle.std.proofs.lemmas.Option.{none-some, unwrap_or-slice_get}
-use Rattle.bytecode.specs.declared.trap.TrapKind.{TrapKind}
-use Rattle.bytecode.specs.declared.trap.TrapKind.TheVariants.{Null, Stale, Index, Relock, Unlock as NotHeld, MutexHeld, Join as NotJoined}
+use Rattle.run_types.specs.declared.trap.TrapKind.{TrapKind}
+use Rattle.run_types.specs.declared.trap.TrapKind.TheVariants.{Null, Stale, Index, Relock, Unlock as NotHeld, MutexHeld, Join as NotJoined}
 use Rattle.c_ints.specs.declared.kind.Kind.{Kind}
 use Rattle.c_ints.specs.declared.int.Int.{Int}
 use Rattle.c_ints.specs.Number.{value_of}

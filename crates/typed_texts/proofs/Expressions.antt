@@ -7,9 +7,9 @@ use Rattle.c_tree.specs.declared.expr.Expr.{Expr, Expr-F}
 use Rattle.c_tree.specs.declared.expr.Expr.TheFolds.{fold-roll-Expr, ind-Expr, map-Expr}
 use Rattle.c_tree.specs.declared.expr.ExprNode.{ExprNode}
 use Rattle.c_tree.specs.declared.expr.ExprNode.TheVariants.{Number, Character, Null, Success, Error, Variable, Unary, Step, Cast, Binary, And, Or, Choice, Assign, Update, Call, Element, Arrow, Dot, Print, Calloc, Free, Create, Join, JoinInto, InitMutex, Lock, Unlock}
-use Rattle.c_types.specs.declared.found.Part.{Part}
-use Rattle.c_types.specs.Lookup.{Names}
-use Rattle.c_types.specs.Expressions.{infer, part}
+use Rattle.c_expr_types.specs.declared.found.Part.{Part}
+use Rattle.c_definitions.specs.Lookup.{Names}
+use Rattle.c_expr_types.specs.Expressions.{infer, part}
 use Rattle.c_semantics.specs.Resolution.{Resolved, resolved}
 use Rattle.typed_uses.proofs.Faultless.{Clean}
 use Rattle.typed_uses.proofs.SoundTexts.{Facts}

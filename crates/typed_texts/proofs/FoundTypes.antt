@@ -11,10 +11,10 @@ use Rattle.c_tree.specs.declared.name.Name.{Name}
 use Rattle.c_tree.specs.declared.name.CType.{CType}
 use Rattle.c_tree.specs.declared.name.CType.TheVariants.{Integer, Handle, Thread}
 use Rattle.c_tree.specs.declared.def.Def.{Def}
-use Rattle.c_types.specs.declared.found.Found.{Found}
-use Rattle.c_types.specs.declared.found.Found.TheVariants.{Wrong, Place, Value, Zero, Null, Nothing, Designator}
-use Rattle.c_types.specs.Found.{converts, has_value, is_comparable, is_evaluated, is_handle, is_integer, is_null, is_scalar, is_value, kind_of_type, same_kind, same_type, type_of}
-use Rattle.c_types.specs.Expressions.{follows, meeting}
+use Rattle.c_expr_types.specs.declared.found.Found.{Found}
+use Rattle.c_expr_types.specs.declared.found.Found.TheVariants.{Wrong, Place, Value, Zero, Null, Nothing, Designator}
+use Rattle.c_expr_types.specs.Found.{converts, has_value, is_comparable, is_evaluated, is_handle, is_integer, is_null, is_scalar, is_value, kind_of_type, same_kind, same_type, type_of}
+use Rattle.c_expr_types.specs.Expressions.{follows, meeting}
 use Rattle.c_semantics.specs.Resolved.{Expression}
 use Rattle.c_semantics.specs.Resolved as made
 use Rattle.c_semantics.specs.Resolution.{Resolved, common_type}

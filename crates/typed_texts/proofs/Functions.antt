@@ -13,7 +13,7 @@ use Rattle.c_tree.specs.declared.def.Def.{Def}
 use Rattle.c_tree.specs.declared.def.DefKind.{DefKind}
 use Rattle.c_tree.specs.declared.def.DefKind.TheVariants as kind
 use Rattle.c_scope.specs.Tables.{innermost, look_up}
-use Rattle.c_types.specs.Expressions.{member}
+use Rattle.c_definitions.specs.Lookup.{member}
 use Rattle.c_types.specs.Definitions.{inside, result_faults, with_parameters}
 use Rattle.c_semantics.specs.Texts.{bound, defines, definition, int, parameters_of, result_type}
 use Rattle.c_semantics.specs.Resolved.{Statement, Statements, Block, Empty, Evaluate, Declare, If, IfElse, While, DoWhile, For, Break, Continue, Return, UpdatePoint, Transaction, NoStatements, StatementThen}

@@ -11,9 +11,9 @@ use Rattle.c_tree.specs.declared.def.DefKind.{DefKind}
 use Rattle.c_tree.specs.declared.def.DefKind.TheVariants.{Struct, Forward, Mutex, Function, Prototype, Global, Array, TransformStruct, TransformGlobal}
 use Rattle.c_tree.specs.declared.def.Function.{Function as FunctionTree}
 use Rattle.c_scope.specs.Tables.{innermost}
-use Rattle.c_types.specs.Lookup.{Meaning, Names, defined, definition_of, hidden_by, is_tag, meaning_in, meaning_of, members_in, members_of, struct_of, types_of}
-use Rattle.c_types.specs.Lookup.Meaning.{AVariable, AnArray, AFunction, AMutex}
-use Rattle.c_types.specs.Expressions.{member}
+use Rattle.c_definitions.specs.Lookup.{Meaning, Names, defined, definition_of, hidden_by, is_tag, meaning_in, meaning_of, members_in, members_of, struct_of, types_of}
+use Rattle.c_definitions.specs.Lookup.Meaning.{AVariable, AnArray, AFunction, AMutex}
+use Rattle.c_definitions.specs.Lookup.{member}
 use Rattle.c_semantics.specs.Names.{struct_name}
 use Rattle.c_semantics.specs.Texts.{bound, parameters_of, result_type}
 use Rattle.typed_uses.proofs.SoundTexts.{AllSound, Facts, Sound}

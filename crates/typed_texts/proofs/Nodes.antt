@@ -18,13 +18,13 @@ use Rattle.c_tree.specs.declared.expr.StepOp.TheVariants.{PreIncrement, PreDecre
 use Rattle.c_tree.specs.declared.expr.ExprNode.{ExprNode}
 use Rattle.c_tree.specs.declared.expr.ExprNode.TheVariants as node
 use Rattle.c_tree.specs.declared.def.Def.{Def}
-use Rattle.c_types.specs.declared.found.Found.{Found}
-use Rattle.c_types.specs.declared.found.Found.TheVariants.{Wrong, Place, Value, Zero, Null, Nothing, Designator}
-use Rattle.c_types.specs.declared.found.Part.{Part}
-use Rattle.c_types.specs.Lookup.{Names, is_known}
-use Rattle.c_types.specs.Found.{converts, has_value, is_comparable, is_evaluated, is_integer, is_null, is_scalar, is_value, kind_in, place_required, required, type_of, value_of_type}
-use Rattle.c_types.specs.Expressions.{fits, is_assigned, is_condition, is_equality, is_operand, is_unary_operand, meeting, number_type, own, part, parts, unknown_tag, where_met}
-use Rattle.c_types.specs.Expressions as types
+use Rattle.c_expr_types.specs.declared.found.Found.{Found}
+use Rattle.c_expr_types.specs.declared.found.Found.TheVariants.{Wrong, Place, Value, Zero, Null, Nothing, Designator}
+use Rattle.c_expr_types.specs.declared.found.Part.{Part}
+use Rattle.c_definitions.specs.Lookup.{Names, is_known}
+use Rattle.c_expr_types.specs.Found.{converts, has_value, is_comparable, is_evaluated, is_integer, is_null, is_scalar, is_value, kind_in, place_required, required, type_of, value_of_type}
+use Rattle.c_expr_types.specs.Expressions.{fits, is_assigned, is_condition, is_equality, is_operand, is_unary_operand, meeting, number_type, own, part, parts, unknown_tag, where_met}
+use Rattle.c_expr_types.specs.Expressions as types
 use Rattle.c_semantics.specs.Texts.{int}
 use Rattle.c_semantics.specs.Resolved.{Expression}
 use Rattle.c_semantics.specs.Resolved as made

@@ -8,11 +8,11 @@ use Rattle.c_tree.specs.declared.def.Def.{Def}
 use Rattle.c_tree.specs.declared.expr.Expr.{Expr}
 use Rattle.c_tree.specs.declared.name.CType.{CType}
 use Rattle.c_tree.specs.declared.name.CType.TheVariants.{Integer}
-use Rattle.c_types.specs.declared.found.Found.{Found}
-use Rattle.c_types.specs.declared.found.Found.TheVariants.{Wrong, Place, Value, Zero, Null, Nothing, Designator}
-use Rattle.c_types.specs.Found.{faults_of, type_of}
-use Rattle.c_types.specs.Lookup.{Names, Scopes}
-use Rattle.c_types.specs.Expressions.{infer}
+use Rattle.c_expr_types.specs.declared.found.Found.{Found}
+use Rattle.c_expr_types.specs.declared.found.Found.TheVariants.{Wrong, Place, Value, Zero, Null, Nothing, Designator}
+use Rattle.c_expr_types.specs.Found.{faults_of, type_of}
+use Rattle.c_definitions.specs.Lookup.{Names, Scopes}
+use Rattle.c_expr_types.specs.Expressions.{infer}
 use Rattle.c_semantics.specs.Texts.{definition}
 use Rattle.c_semantics.specs.Resolution.{resolved}
 use Rattle.typed_uses.proofs.Agreement.{TypeFits}

@@ -12,14 +12,14 @@ use Rattle.c_tree.specs.declared.stmt.Stmt.{Stmt, Stmt-F}
 use Rattle.c_tree.specs.declared.stmt.Stmt.TheFolds.{fold-roll-Stmt, ind-Stmt, map-Stmt}
 use Rattle.c_tree.specs.declared.stmt.StmtNode.{StmtNode}
 use Rattle.c_tree.specs.declared.stmt.StmtNode.TheVariants.{Block, Empty, Evaluate, Declare, If, IfElse, While, DoWhile, For, Break, Continue, Return, ReturnValue, Update, Transaction}
-use Rattle.c_types.specs.declared.fault.Fault.{Fault}
-use Rattle.c_types.specs.declared.fault.TypeKind.TheVariants.{DeclaredTwice}
-use Rattle.c_types.specs.declared.found.Found.{Found}
-use Rattle.c_types.specs.declared.lookup.Position.TheVariants.{InFunction}
-use Rattle.c_types.specs.Faults.{unless}
-use Rattle.c_types.specs.Found.{is_evaluated, is_scalar}
-use Rattle.c_types.specs.Lookup.{Names, Scopes, declare, is_known, is_repeated}
-use Rattle.c_types.specs.Expressions.{fits, is_condition, unknown_tag}
+use Rattle.c_expr_types.specs.declared.fault.Fault.{Fault}
+use Rattle.c_expr_types.specs.declared.fault.TypeKind.TheVariants.{DeclaredTwice}
+use Rattle.c_expr_types.specs.declared.found.Found.{Found}
+use Rattle.c_definitions.specs.declared.lookup.Position.TheVariants.{InFunction}
+use Rattle.c_expr_types.specs.Faults.{unless}
+use Rattle.c_expr_types.specs.Found.{is_evaluated, is_scalar}
+use Rattle.c_definitions.specs.Lookup.{Names, Scopes, declare, is_known, is_repeated}
+use Rattle.c_expr_types.specs.Expressions.{fits, is_condition, unknown_tag}
 use Rattle.c_types.specs.Statements.{Around, Walked, behind, expression_faults, in_a_transaction, in_block, in_loop, in_order, leaving_faults, optional_faults, part_in, return_faults, stmt_node, value_return_faults, walk, walk_declaration}
 use Rattle.c_semantics.specs.Texts.{bound, int}
 use Rattle.c_semantics.specs.Resolved.{Expression}

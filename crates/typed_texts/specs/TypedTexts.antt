@@ -7,9 +7,9 @@ use Rattle.c_tree.specs.declared.def.Def.{Def}
 use Rattle.c_tree.specs.declared.expr.Expr.{Expr}
 use Rattle.c_tree.specs.declared.name.CType.{CType}
 use Rattle.c_scope.specs.Tables.{innermost}
-use Rattle.c_types.specs.Found.{faults_of, is_evaluated, type_of as type_found}
-use Rattle.c_types.specs.Lookup.{Names, Scopes, is_known}
-use Rattle.c_types.specs.Expressions.{infer}
+use Rattle.c_expr_types.specs.Found.{faults_of, is_evaluated, type_of as type_found}
+use Rattle.c_definitions.specs.Lookup.{Names, Scopes, is_known}
+use Rattle.c_expr_types.specs.Expressions.{infer}
 use Rattle.c_semantics.specs.Texts.{Definitions, bound, parameters_of, result_type}
 use Rattle.c_semantics.specs.Resolution.{Resolved, resolved, resolved_body}
 use Rattle.c_semantics.specs.SourceTexts.{Text}

@@ -18,12 +18,13 @@ use Rattle.c_tree.specs.declared.def.FieldValue.{FieldValue}
 use Rattle.c_tree.specs.declared.def.Def.{Def}
 use Rattle.c_tree.specs.declared.def.DefKind.{DefKind}
 use Rattle.c_tree.specs.declared.def.DefKind.TheVariants as kind
-use Rattle.c_types.specs.Lookup.{Meaning, defined, members_in, members_of as tree_members_of, struct_of}
-use Rattle.c_types.specs.Lookup.Meaning.{AVariable, AnArray, AFunction, AMutex}
-use Rattle.c_types.specs.declared.fault.Fault.{Fault}
-use Rattle.c_types.specs.declared.fault.TypeKind.TheVariants.{DeclaredTwice}
-use Rattle.c_types.specs.Faults.{unless}
-use Rattle.c_types.specs.Expressions.{member, unknown_tag}
+use Rattle.c_definitions.specs.Lookup.{Meaning, defined, members_in, members_of as tree_members_of, struct_of}
+use Rattle.c_definitions.specs.Lookup.Meaning.{AVariable, AnArray, AFunction, AMutex}
+use Rattle.c_expr_types.specs.declared.fault.Fault.{Fault}
+use Rattle.c_expr_types.specs.declared.fault.TypeKind.TheVariants.{DeclaredTwice}
+use Rattle.c_expr_types.specs.Faults.{unless}
+use Rattle.c_definitions.specs.Lookup.{member}
+use Rattle.c_expr_types.specs.Expressions.{unknown_tag}
 use Rattle.c_types.specs.Definitions.{bindings}
 use Rattle.c_semantics.specs.Names.{struct_name}
 use Rattle.c_semantics.specs.Texts.{global_type, members_of, bound}

@@ -6,7 +6,7 @@ use Rattle.c_ints.specs.Kind.{promoted}
 use Rattle.c_ints.specs.Arithmetic.{binary_kind, unary_kind}
 use Rattle.c_format.specs.declared.reading.Reading.TheVariants.{Text}
 use Rattle.c_format.specs.Formats.{kinds}
-use Rattle.bytecode.specs.Trap.{trap_of}
+use Rattle.run_types.specs.Trap.{trap_of}
 use Rattle.c_ints.specs.declared.operator.ArithTrap.{ArithTrap}
 use Rattle.c_tree.specs.BareExpr.{Bytes, BareType, Integer, Handle, Thread}
 use Rattle.c_tree.specs.BareDef.{BareBinding}

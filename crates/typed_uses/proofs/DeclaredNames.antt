@@ -12,7 +12,7 @@ use Rattle.c_expr_parser.specs.Placed.{Placed, text, tokens}
 use Rattle.c_expr_parser.specs.Terminals.{IsIdentifier}
 use Rattle.c_expr_parser.specs.Declarations.{Declarators}
 use Rattle.c_expr_parser.specs.Definitions.{FunctionDefinition, GlobalDeclarator, Item, ItemList, TranslationUnit, defs}
-use Rattle.c_types.specs.Lookup.{defined, definition_of, is_named, meaning_in, name_of}
+use Rattle.c_definitions.specs.Lookup.{defined, definition_of, is_named, meaning_in, name_of}
 use Rattle.c_semantics.specs.Names.{struct_name}
 use Rattle.typed_uses.specs.UseLaws.{NamesOfTextsAreApart}
 use Rattle.typed_uses.proofs.Identifiers.{AreWords, IsWord, lexed_words, no_identifier}

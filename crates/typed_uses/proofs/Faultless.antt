@@ -2,16 +2,16 @@
 use Rattle.std.proofs.Common.{◌≡◌, ℕ, Bool, true, false, List, [], ◌∷◌, ◌++◌, refl, ◌∙◌, if◌then◌else◌}
 use Rattle.c_tree.specs.declared.name.CType.{CType}
 use Rattle.c_tree.specs.declared.expr.ExprNode.{ExprNode}
-use Rattle.c_types.specs.declared.fault.Fault.{Fault}
-use Rattle.c_types.specs.declared.fault.TypeKind.{TypeKind}
-use Rattle.c_types.specs.declared.fault.TypeKind.TheVariants.{WrongType}
-use Rattle.c_types.specs.declared.found.Found.{Found}
-use Rattle.c_types.specs.declared.found.Found.TheVariants.{Wrong, Place, Value, Zero, Null, Nothing, Designator}
-use Rattle.c_types.specs.declared.found.Part.{Part}
-use Rattle.c_types.specs.Faults.{fault, unless}
-use Rattle.c_types.specs.Found.{faults_of, after, misfit, misplaced, required, place_required}
-use Rattle.c_types.specs.Lookup.{Names}
-use Rattle.c_types.specs.Expressions.{parts, own, part, is_allowed, is_initialising, where_allowed}
+use Rattle.c_expr_types.specs.declared.fault.Fault.{Fault}
+use Rattle.c_expr_types.specs.declared.fault.TypeKind.{TypeKind}
+use Rattle.c_expr_types.specs.declared.fault.TypeKind.TheVariants.{WrongType}
+use Rattle.c_expr_types.specs.declared.found.Found.{Found}
+use Rattle.c_expr_types.specs.declared.found.Found.TheVariants.{Wrong, Place, Value, Zero, Null, Nothing, Designator}
+use Rattle.c_expr_types.specs.declared.found.Part.{Part}
+use Rattle.c_expr_types.specs.Faults.{fault, unless}
+use Rattle.c_expr_types.specs.Found.{faults_of, after, misfit, misplaced, required, place_required}
+use Rattle.c_definitions.specs.Lookup.{Names}
+use Rattle.c_expr_types.specs.Expressions.{parts, own, part, is_allowed, is_initialising, where_allowed}
 use Rattle.c_types.specs.Statements.{hiding}
 
 pub none_before : {A : Type 0} (xs ys : List A) → xs ++ ys ≡ [] → xs ≡ []

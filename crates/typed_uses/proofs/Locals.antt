@@ -10,11 +10,12 @@ use Rattle.c_tree.specs.Bare.{bare_type, bare_binding}
 use Rattle.c_tree.specs.declared.name.CType.{CType}
 use Rattle.c_tree.specs.declared.def.Binding.{Binding}
 use Rattle.c_tree.specs.declared.def.Def.{Def}
-use Rattle.c_types.specs.declared.fault.Fault.{Fault}
-use Rattle.c_types.specs.declared.fault.TypeKind.TheVariants.{DeclaredTwice}
-use Rattle.c_types.specs.Faults.{unless}
-use Rattle.c_types.specs.Lookup.{Scopes, declare, is_known, is_repeated}
-use Rattle.c_types.specs.Expressions.{member, unknown_tag}
+use Rattle.c_expr_types.specs.declared.fault.Fault.{Fault}
+use Rattle.c_expr_types.specs.declared.fault.TypeKind.TheVariants.{DeclaredTwice}
+use Rattle.c_expr_types.specs.Faults.{unless}
+use Rattle.c_definitions.specs.Lookup.{Scopes, declare, is_known, is_repeated}
+use Rattle.c_definitions.specs.Lookup.{member}
+use Rattle.c_expr_types.specs.Expressions.{unknown_tag}
 use Rattle.c_types.specs.Definitions.{bindings, with_parameters}
 use Rattle.c_types.proofs.Bindings.{binding_faults, bound_by, bound_behind_none}
 use Rattle.c_semantics.specs.Texts.{bound, bound_type, int}

@@ -9,7 +9,7 @@ use Rattle.c_tree.specs.declared.def.Binding.{Binding}
 use Rattle.c_tree.specs.declared.def.Def.{Def}
 use Rattle.c_tree.specs.declared.def.DefKind.{DefKind}
 use Rattle.c_tree.specs.declared.def.DefKind.TheVariants.{Struct, Forward, Mutex, Function, Prototype, Global, Array, TransformStruct, TransformGlobal}
-use Rattle.c_types.specs.Lookup.{Meaning, defined, definition_of, defines_tag, is_named, meaning_in, members_in, members_of, name_of, struct_of}
+use Rattle.c_definitions.specs.Lookup.{Meaning, defined, definition_of, defines_tag, is_named, meaning_in, members_in, members_of, name_of, struct_of}
 use Rattle.c_semantics.specs.Names.{struct_name}
 use Rattle.c_semantics.specs.Texts.{Definitions, definition, defines, names}
 use Rattle.typed_uses.specs.UseLaws.{NamesApart}

@@ -11,20 +11,21 @@ use Rattle.c_tree.specs.declared.expr.Expr.{Expr}
 use Rattle.c_tree.specs.declared.expr.ExprNode.TheVariants as node
 use Rattle.c_tree.specs.declared.def.Binding.{Binding}
 use Rattle.c_tree.specs.declared.def.Def.{Def}
-use Rattle.c_types.specs.declared.fault.Fault.{Fault}
-use Rattle.c_types.specs.declared.found.Found.{Found}
-use Rattle.c_types.specs.declared.found.Found.TheVariants.{Place, Value, Nothing, Designator}
-use Rattle.c_types.specs.declared.found.Part.{Part}
-use Rattle.c_types.specs.Lookup.{Meaning, Names, defined, hidden_by, is_known, is_tag, meaning_of, members_of}
-use Rattle.c_types.specs.Lookup.Meaning.{AVariable, AnArray, AFunction, AMutex}
-use Rattle.c_types.specs.Found.{converts, has_value, is_evaluated, is_handle, is_integer, is_scalar, is_value, place_required, required, type_of, value_of_type, wrong}
-use Rattle.c_types.specs.Found as found
-use Rattle.c_types.specs.declared.fault.TypeKind.TheVariants.{BadFormat, UnknownName, WrongCount, WrongType}
-use Rattle.c_types.specs.Formats.{fits_format}
-use Rattle.c_types.specs.Expressions.{argument_faults, call_type, conversion_faults, element_type, field_of, field_type, infer, is_int, is_thread, is_thread_argument, member, mutex_call_type, name_type, part, print_faults, spawn_type, thread_parameter, value_faults}
+use Rattle.c_expr_types.specs.declared.fault.Fault.{Fault}
+use Rattle.c_expr_types.specs.declared.found.Found.{Found}
+use Rattle.c_expr_types.specs.declared.found.Found.TheVariants.{Place, Value, Nothing, Designator}
+use Rattle.c_expr_types.specs.declared.found.Part.{Part}
+use Rattle.c_definitions.specs.Lookup.{Meaning, Names, defined, hidden_by, is_known, is_tag, meaning_of, members_of}
+use Rattle.c_definitions.specs.Lookup.Meaning.{AVariable, AnArray, AFunction, AMutex}
+use Rattle.c_expr_types.specs.Found.{converts, has_value, is_evaluated, is_handle, is_integer, is_scalar, is_value, place_required, required, type_of, value_of_type, wrong}
+use Rattle.c_expr_types.specs.Found as found
+use Rattle.c_expr_types.specs.declared.fault.TypeKind.TheVariants.{BadFormat, UnknownName, WrongCount, WrongType}
+use Rattle.c_expr_types.specs.Formats.{fits_format}
+use Rattle.c_expr_types.specs.Expressions.{argument_faults, call_type, conversion_faults, element_type, field_of, field_type, infer, is_int, is_thread, is_thread_argument, mutex_call_type, name_type, part, print_faults, spawn_type, thread_parameter, value_faults}
+use Rattle.c_definitions.specs.Lookup.{member}
 use Rattle.c_scope.specs.Tables.{innermost}
-use Rattle.bytecode.specs.Skeleton as kind
-use Rattle.bytecode.specs.CheckIns as check_in
+use Rattle.run_types.specs.Skeleton as kind
+use Rattle.run_types.specs.CheckIns as check_in
 use Rattle.c_semantics.specs.Names.{struct_name}
 use Rattle.c_semantics.specs.Texts.{bound, bound_type, global_type, int, parameters_of, result_type}
 use Rattle.c_semantics.specs.Texts as texts

@@ -15,14 +15,14 @@ use Rattle.c_tree.specs.declared.name.CType.TheVariants.{Integer}
 use Rattle.c_tree.specs.declared.expr.ExprNode.{ExprNode}
 use Rattle.c_tree.specs.declared.expr.ExprNode.TheVariants as node
 use Rattle.c_tree.specs.declared.def.Def.{Def}
-use Rattle.c_types.specs.declared.found.Found.{Found}
-use Rattle.c_types.specs.declared.found.Found.TheVariants.{Place, Value, Zero}
-use Rattle.c_types.specs.declared.found.Part.{Part}
-use Rattle.c_types.specs.Lookup.{Names}
-use Rattle.c_types.specs.Found.{after, converts, has_value, is_comparable, is_evaluated, is_handle, is_integer, is_scalar, is_value, kind_in, place_required, required, type_of, value_of_type}
-use Rattle.c_types.specs.Found as found
-use Rattle.c_types.specs.Expressions.{fits, is_assigned, is_condition, is_equality, is_operand, is_unary_operand, meeting, number_type, own, part, parts, unknown_tag, where_met}
-use Rattle.bytecode.specs.Skeleton as kind
+use Rattle.c_expr_types.specs.declared.found.Found.{Found}
+use Rattle.c_expr_types.specs.declared.found.Found.TheVariants.{Place, Value, Zero}
+use Rattle.c_expr_types.specs.declared.found.Part.{Part}
+use Rattle.c_definitions.specs.Lookup.{Names}
+use Rattle.c_expr_types.specs.Found.{after, converts, has_value, is_comparable, is_evaluated, is_handle, is_integer, is_scalar, is_value, kind_in, place_required, required, type_of, value_of_type}
+use Rattle.c_expr_types.specs.Found as found
+use Rattle.c_expr_types.specs.Expressions.{fits, is_assigned, is_condition, is_equality, is_operand, is_unary_operand, meeting, number_type, own, part, parts, unknown_tag, where_met}
+use Rattle.run_types.specs.Skeleton as kind
 use Rattle.c_semantics.specs.Texts.{int}
 use Rattle.c_semantics.specs.Resolved.{Expression, Expressions, NoExpressions, ExpressionThen}
 use Rattle.c_semantics.specs.Resolved as made

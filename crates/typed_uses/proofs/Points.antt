@@ -2,7 +2,7 @@
 use Rattle.std.proofs.Common.{◌≡◌, ℕ, zero, suc, ◌<◌, ◌⊎◌, length, Bool, true, false, List, [], ◌∷◌, ◌++◌, map, Option, Some, None, Contains, filter_map, get_or, bytes_eq, refl, subst, inl, inr, arith, if◌then◌else◌}
 use Rattle.std.specs.List.{cons_option}
 use Rattle.name_sets.specs.NameLists.{name_set, with_name, precedes}
-use Rattle.bytecode.specs.Skeleton.{PointKind, Point, Skeleton, direct_use}
+use Rattle.run_types.specs.Skeleton.{PointKind, Point, Skeleton, direct_use}
 use Rattle.c_tree.specs.BareExpr.{Bytes}
 use Rattle.c_semantics.specs.Points.{at_depth}
 use Rattle.c_semantics.specs.Skeletons.{direct_uses}

@@ -7,10 +7,10 @@ use Rattle.c_tree.specs.declared.def.DefKind.{DefKind}
 use Rattle.c_tree.specs.declared.def.DefKind.TheVariants.{Struct, Forward, Mutex, Function, Prototype, Global, Array, TransformStruct, TransformGlobal}
 use Rattle.c_tree.specs.declared.def.Function.{Function as FunctionTree}
 use Rattle.c_tree.specs.declared.def.Program.{Program}
-use Rattle.c_types.specs.declared.fault.Fault.{Fault}
-use Rattle.c_types.specs.declared.fault.TypeKind.TheVariants.{WrongType, UnknownName}
-use Rattle.c_types.specs.Lookup.{is_known, is_tag, members_of}
-use Rattle.c_types.specs.Expressions.{unknown_tag}
+use Rattle.c_expr_types.specs.declared.fault.Fault.{Fault}
+use Rattle.c_expr_types.specs.declared.fault.TypeKind.TheVariants.{WrongType, UnknownName}
+use Rattle.c_definitions.specs.Lookup.{is_known, is_tag, members_of}
+use Rattle.c_expr_types.specs.Expressions.{unknown_tag}
 use Rattle.c_types.specs.Statements.{in_order, walk}
 use Rattle.c_types.specs.Definitions.{Types, all_faults, bindings, inside, kind_faults, result_faults}
 use Rattle.typed_uses.specs.UseLaws.{NamesApart}

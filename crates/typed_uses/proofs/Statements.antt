@@ -1,8 +1,8 @@
 -- The points of a statement without faults use names that are defined.
 use Rattle.std.proofs.Common.{◌≡◌, ℕ, suc, Bool, not, List, [], ◌∷◌, ◌++◌, map, Option, Some, None, option_map, sym, subst, subst₂}
-use Rattle.bytecode.specs.Skeleton as kind
-use Rattle.bytecode.specs.Skeleton.{Point}
-use Rattle.bytecode.specs.CheckIns as check_in
+use Rattle.run_types.specs.Skeleton as kind
+use Rattle.run_types.specs.Skeleton.{Point}
+use Rattle.run_types.specs.CheckIns as check_in
 use Rattle.c_tree.specs.BareExpr.{BareType}
 use Rattle.c_tree.specs.BareStmt.{BareStmt, BareStmts}
 use Rattle.c_tree.specs.BareDef.{BareBinding}
@@ -14,14 +14,14 @@ use Rattle.c_tree.specs.declared.stmt.Stmt.{Stmt, Stmt-F}
 use Rattle.c_tree.specs.declared.stmt.Stmt.TheFolds.{fold-roll-Stmt, ind-Stmt, map-Stmt}
 use Rattle.c_tree.specs.declared.stmt.StmtNode.{StmtNode}
 use Rattle.c_tree.specs.declared.stmt.StmtNode.TheVariants.{Block, Empty, Evaluate, Declare, If, IfElse, While, DoWhile, For, Break, Continue, Return, ReturnValue, Update, Transaction}
-use Rattle.c_types.specs.declared.fault.Fault.{Fault}
-use Rattle.c_types.specs.declared.fault.TypeKind.TheVariants.{DeclaredTwice}
-use Rattle.c_types.specs.declared.found.Found.{Found}
-use Rattle.c_types.specs.declared.lookup.Position.TheVariants.{InFunction}
-use Rattle.c_types.specs.Faults.{unless}
-use Rattle.c_types.specs.Found.{is_evaluated}
-use Rattle.c_types.specs.Lookup.{Names, Scopes, declare, is_repeated}
-use Rattle.c_types.specs.Expressions.{fits, is_condition, unknown_tag}
+use Rattle.c_expr_types.specs.declared.fault.Fault.{Fault}
+use Rattle.c_expr_types.specs.declared.fault.TypeKind.TheVariants.{DeclaredTwice}
+use Rattle.c_expr_types.specs.declared.found.Found.{Found}
+use Rattle.c_definitions.specs.declared.lookup.Position.TheVariants.{InFunction}
+use Rattle.c_expr_types.specs.Faults.{unless}
+use Rattle.c_expr_types.specs.Found.{is_evaluated}
+use Rattle.c_definitions.specs.Lookup.{Names, Scopes, declare, is_repeated}
+use Rattle.c_expr_types.specs.Expressions.{fits, is_condition, unknown_tag}
 use Rattle.c_types.specs.Statements.{Around, Walked, behind, expression_faults, in_a_transaction, in_block, in_loop, in_order, leaving_faults, optional_faults, part_in, stmt_node, value_return_faults, walk, walk_declaration}
 use Rattle.c_semantics.specs.Resolved.{Expression}
 use Rattle.c_semantics.specs.Resolved as made

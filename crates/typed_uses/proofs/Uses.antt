@@ -1,6 +1,6 @@
 -- In a text that types, each name that a function uses is one that the text defines.
 use Rattle.std.proofs.Common.{Bool, true, false, cond, List, [], ◌∷◌, map, Option, Some, find, option_map, unwrap_or}
-use Rattle.bytecode.specs.Skeleton as kind
+use Rattle.run_types.specs.Skeleton as kind
 use Rattle.c_tree.specs.BareExpr.{Bytes}
 use Rattle.c_tree.specs.BareDef.{BareDef}
 use Rattle.c_tree.specs.Bare.{bare_binding, bare_def, bare_kind, bare_type}

@@ -4,7 +4,7 @@ use Rattle.c_tree.specs.BareExpr.{Bytes}
 use Rattle.c_tree.specs.Bare.{bare_def}
 use Rattle.c_tree.specs.declared.def.Def.{Def}
 use Rattle.c_tree.specs.declared.def.Program.{Program}
-use Rattle.c_types.specs.Lookup.{defined, members_of}
+use Rattle.c_definitions.specs.Lookup.{defined, members_of}
 use Rattle.c_types.specs.Definitions.{Types}
 use Rattle.c_front.specs.Accepted.{Accepted, IsReadAs}
 use Rattle.c_semantics.specs.Names.{struct_name}

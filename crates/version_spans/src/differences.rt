@@ -10,8 +10,8 @@ ghost use Rattle.version_spans.specs.Beginnings.{differ};
 ghost use Rattle.version_spans.specs.Kept.{AreDifferences, name_of, texts_in};
 
 use crate::names::NameSet;
+use c_definitions::Known;
 use c_tree::Def;
-use c_types::Known;
 use patch_compare::same_definition;
 use sorted_names::names_in_order;
 use std::alloc::{AllocError, Global};

@@ -10,10 +10,10 @@ use Rattle.c_tree.specs.declared.name.CType.{CType}
 use Rattle.c_tree.specs.declared.def.Def.{Def}
 use Rattle.c_tree.specs.declared.def.DefKind.{DefKind}
 use Rattle.c_tree.specs.declared.def.DefKind.TheVariants.{Struct, Forward, Mutex, Function, Prototype, Global, Array, TransformStruct, TransformGlobal}
-use Rattle.c_types.specs.Lookup.{Meaning, definition_of, is_named, meaning_in, name_of}
-use Rattle.c_types.specs.Lookup.Meaning.{AVariable, AnArray, AFunction, AMutex}
-use Rattle.c_types.specs.declared.fault.TypeKind.TheVariants.{DeclaredTwice, NoMain}
-use Rattle.c_types.specs.Expressions.{unknown_tag}
+use Rattle.c_definitions.specs.Lookup.{Meaning, definition_of, is_named, meaning_in, name_of}
+use Rattle.c_definitions.specs.Lookup.Meaning.{AVariable, AnArray, AFunction, AMutex}
+use Rattle.c_expr_types.specs.declared.fault.TypeKind.TheVariants.{DeclaredTwice, NoMain}
+use Rattle.c_expr_types.specs.Expressions.{unknown_tag}
 use Rattle.c_types.specs.Definitions.{all_faults, defines_main, is_main, kind_faults, main_faults, name_place, named_twice}
 use Rattle.c_semantics.specs.SourceTexts.{Text}
 use Rattle.source_model.specs.JournalLaws.{HasMain}

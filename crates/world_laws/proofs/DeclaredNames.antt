@@ -10,12 +10,12 @@ use Rattle.c_tree.specs.declared.name.CType.TheVariants.{Integer, Handle, Thread
 use Rattle.c_tree.specs.declared.def.Def.{Def}
 use Rattle.c_tree.specs.declared.def.DefKind.{DefKind}
 use Rattle.c_tree.specs.declared.def.DefKind.TheVariants as kind
-use Rattle.c_types.specs.Lookup.{Meaning, defined, definition_of, hidden_by, meaning_in}
-use Rattle.c_types.specs.Lookup.Meaning.{AVariable, AnArray, AFunction, AMutex}
-use Rattle.c_types.specs.declared.found.Found.TheVariants.{Value}
-use Rattle.c_types.specs.Found.{int as int_type, is_scalar, wrong}
-use Rattle.c_types.specs.Expressions.{is_int, is_thread, mutex_call_type, spawn_type, thread_parameter}
-use Rattle.c_types.specs.declared.fault.TypeKind.TheVariants.{WrongType}
+use Rattle.c_definitions.specs.Lookup.{Meaning, defined, definition_of, hidden_by, meaning_in}
+use Rattle.c_definitions.specs.Lookup.Meaning.{AVariable, AnArray, AFunction, AMutex}
+use Rattle.c_expr_types.specs.declared.found.Found.TheVariants.{Value}
+use Rattle.c_expr_types.specs.Found.{int as int_type, is_scalar, wrong}
+use Rattle.c_expr_types.specs.Expressions.{is_int, is_thread, mutex_call_type, spawn_type, thread_parameter}
+use Rattle.c_expr_types.specs.declared.fault.TypeKind.TheVariants.{WrongType}
 use Rattle.c_semantics.specs.Texts.{int, result_type}
 use Rattle.source_model.specs.Installs.{is_mutex}
 use Rattle.typed_uses.proofs.Faultless.{Clean}

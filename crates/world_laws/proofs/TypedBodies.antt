@@ -14,14 +14,14 @@ use Rattle.c_tree.specs.declared.stmt.StmtNode.TheVariants.{Block, Empty, Evalua
 use Rattle.c_tree.specs.declared.def.Def.{Def}
 use Rattle.c_tree.specs.declared.def.DefKind.{DefKind}
 use Rattle.c_tree.specs.declared.def.DefKind.TheVariants as kind
-use Rattle.c_types.specs.declared.fault.Fault.{Fault}
-use Rattle.c_types.specs.declared.fault.TypeKind.TheVariants.{DeclaredTwice}
-use Rattle.c_types.specs.declared.found.Found.{Found}
-use Rattle.c_types.specs.declared.lookup.Position.TheVariants.{InFunction}
-use Rattle.c_types.specs.Faults.{unless}
-use Rattle.c_types.specs.Found.{is_evaluated}
-use Rattle.c_types.specs.Lookup.{Names, Scopes, declare, is_repeated}
-use Rattle.c_types.specs.Expressions.{fits, is_condition, unknown_tag}
+use Rattle.c_expr_types.specs.declared.fault.Fault.{Fault}
+use Rattle.c_expr_types.specs.declared.fault.TypeKind.TheVariants.{DeclaredTwice}
+use Rattle.c_expr_types.specs.declared.found.Found.{Found}
+use Rattle.c_definitions.specs.declared.lookup.Position.TheVariants.{InFunction}
+use Rattle.c_expr_types.specs.Faults.{unless}
+use Rattle.c_expr_types.specs.Found.{is_evaluated}
+use Rattle.c_definitions.specs.Lookup.{Names, Scopes, declare, is_repeated}
+use Rattle.c_expr_types.specs.Expressions.{fits, is_condition, unknown_tag}
 use Rattle.c_types.specs.Definitions.{inside}
 use Rattle.c_types.specs.Statements.{Around, Walked, behind, expression_faults, in_a_transaction, in_block, in_loop, in_order, leaving_faults, optional_faults, part_in, return_faults, stmt_node, value_return_faults, walk, walk_declaration}
 use Rattle.c_semantics.specs.Texts.{defines, definition, int, result_type}

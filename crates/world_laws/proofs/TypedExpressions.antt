@@ -12,15 +12,15 @@ use Rattle.c_tree.specs.declared.expr.Expr.TheFolds.{fold-roll-Expr, ind-Expr, m
 use Rattle.c_tree.specs.declared.expr.ExprNode.{ExprNode}
 use Rattle.c_tree.specs.declared.expr.ExprNode.TheVariants.{Number, Character, Null, Success, Error, Variable, Unary, Step, Cast, Binary, And, Or, Choice, Assign, Update, Call, Element, Arrow, Dot, Print, Calloc, Free, Create, Join, JoinInto, InitMutex, Lock, Unlock}
 use Rattle.c_tree.specs.declared.def.Def.{Def}
-use Rattle.c_types.specs.declared.fault.Fault.{Fault}
-use Rattle.c_types.specs.declared.found.Found.{Found}
-use Rattle.c_types.specs.declared.found.Found.TheVariants.{Place}
-use Rattle.c_types.specs.declared.found.Part.{Part}
-use Rattle.c_types.specs.Found.{faults_of, has_value, is_comparable, is_evaluated, is_handle, is_integer, place_required, required}
-use Rattle.c_types.specs.Lookup.{Meaning, Names, defined, hidden_by, meaning_of}
-use Rattle.c_types.specs.Lookup.Meaning.{AVariable, AnArray, AFunction, AMutex}
+use Rattle.c_expr_types.specs.declared.fault.Fault.{Fault}
+use Rattle.c_expr_types.specs.declared.found.Found.{Found}
+use Rattle.c_expr_types.specs.declared.found.Found.TheVariants.{Place}
+use Rattle.c_expr_types.specs.declared.found.Part.{Part}
+use Rattle.c_expr_types.specs.Found.{faults_of, has_value, is_comparable, is_evaluated, is_handle, is_integer, place_required, required}
+use Rattle.c_definitions.specs.Lookup.{Meaning, Names, defined, hidden_by, meaning_of}
+use Rattle.c_definitions.specs.Lookup.Meaning.{AVariable, AnArray, AFunction, AMutex}
 use Rattle.c_scope.specs.Tables.{innermost}
-use Rattle.c_types.specs.Expressions.{element_type, fits, infer, is_assigned, is_condition, is_int, is_operand, is_thread, is_thread_argument, is_unary_operand, name_type, own, part, parts, print_faults, thread_parameter}
+use Rattle.c_expr_types.specs.Expressions.{element_type, fits, infer, is_assigned, is_condition, is_int, is_operand, is_thread, is_thread_argument, is_unary_operand, name_type, own, part, parts, print_faults, thread_parameter}
 use Rattle.c_semantics.specs.Texts.{Definitions, bound, parameters_of}
 use Rattle.c_semantics.specs.Resolved.{Expression, Expressions}
 use Rattle.c_semantics.specs.Resolved as made

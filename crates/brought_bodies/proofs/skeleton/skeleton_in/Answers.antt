@@ -4,10 +4,10 @@ use Rattle.c_tree.specs.Bare.{bare_function}
 use Rattle.c_semantics.specs.Resolved.{Statements}
 use Rattle.c_semantics.specs.Resolution.{resolved_body}
 use Rattle.c_semantics.specs.Skeletons.{skeleton}
-use Rattle.resolved_tree.specs.Known.{known_of}
+use Rattle.name_resolution.specs.Known.{known_of}
 use Rattle.resolved_tree.specs.Nodes.{statements_at}
 use Rattle.resolved_tree.specs.Trees.{table}
-use Rattle.resolved_tree.proofs.Kept.{grows_refl}
+use Rattle.name_resolution.proofs.Kept.{grows_refl}
 use Rattle.skeletons.specs.Meaning.{meant}
 use Rattle.skeleton_gen.specs.declared.naming.SkeletonFault.TheVariants.{Unknown}
 use Rattle.skeleton_gen.specs.Naming.{HasUnknown}

@@ -3,7 +3,7 @@ use Rattle.std.specs.Prelude.{IfSome}
 use Rattle.std.specs.Option.{option_map_or}
 use Rattle.name_sets.specs.NameLists.{is_among}
 use Rattle.name_sets.specs.Texts.{text_of}
-use Rattle.bytecode.specs.Skeleton.{direct_use}
+use Rattle.run_types.specs.Skeleton.{direct_use}
 use Rattle.skeletons.specs.Meaning.{kind_of}
 use Rattle.brought_bodies.proofs.NamesUsed.{held}
 use Rattle.brought_bodies.proofs.uses.uses.Goals as goal

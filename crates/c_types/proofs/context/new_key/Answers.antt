@@ -1,6 +1,6 @@
 use Rattle.std.proofs.Common.{◌∙◌, ap, take, if◌then◌else◌}
 use Rattle.std.specs.List.{list_any}
-use Rattle.c_types.specs.Index.{is_key, keys, new_key}
+use Rattle.c_definitions.specs.Index.{is_key, keys, new_key}
 use Rattle.c_types.proofs.context.new_key.Goals as goal
 
 pub returns-in-Some : goal.returns-in-Some

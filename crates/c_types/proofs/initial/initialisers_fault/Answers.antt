@@ -1,7 +1,7 @@
 use Rattle.std.proofs.Common.{ap, ◌∙◌}
-use Rattle.c_types.specs.Faults.{sooner}
+use Rattle.c_expr_types.specs.Faults.{sooner}
 use Rattle.c_types.specs.Definitions.{initialiser_faults}
-use Rattle.c_types.proofs.Firsts.{faults_step}
+use Rattle.c_expr_types.proofs.Firsts.{faults_step}
 use Rattle.c_types.proofs.initial.initialisers_fault.Goals as goal
 
 pub loop-expr-preserved : goal.loop-expr-preserved

@@ -1,5 +1,5 @@
 use Rattle.std.proofs.Common.{min, max, sym, ap, ◌∙◌}
-use Rattle.c_types.specs.Need.{body_need, optional_need, stmt_need}
+use Rattle.c_expr_types.specs.Need.{body_need, optional_need, stmt_need}
 use Rattle.c_types.proofs.Measures.{capped_max, need_of_node}
 use Rattle.c_types.proofs.measure.+body_need.Goals as goal
 

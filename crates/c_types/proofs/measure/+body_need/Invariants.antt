@@ -1,5 +1,5 @@
 use Rattle.std.proofs.Common.{◌≡◌, ◌≤◌, drop, min, max}
-use Rattle.c_types.specs.Need.{body_need}
+use Rattle.c_expr_types.specs.Need.{body_need}
 use Rattle.c_types.proofs.measure.+body_need.Given as goal
 
 abbrev pub invariant-body_need-loop-stmt : goal.invariant-body_need-loop-stmt

@@ -1,5 +1,5 @@
 use Rattle.std.proofs.Common.{ap, ◌∙◌}
-use Rattle.c_types.specs.Faults.{first, sooner}
+use Rattle.c_expr_types.specs.Faults.{first, sooner}
 use Rattle.c_types.specs.Definitions.{with_parameters}
 use Rattle.c_types.proofs.Bindings.{along_bound, along_parameters, bound_by, bound_behind_none}
 use Rattle.c_types.proofs.parameter.bind.Goals as goal

@@ -1,5 +1,5 @@
 use Rattle.std.proofs.Common.{◌≡◌, drop, [], ◌∷◌}
-use Rattle.c_types.specs.Faults.{first, sooner}
+use Rattle.c_expr_types.specs.Faults.{first, sooner}
 use Rattle.c_types.specs.Definitions.{bindings, with_parameters}
 use Rattle.c_types.proofs.Bindings.{bound_by}
 use Rattle.c_types.proofs.parameter.bind.Given as goal

@@ -1,6 +1,6 @@
 use Rattle.std.proofs.Common.{sym, ◌∙◌}
 use Rattle.std.proofs.lemmas.List.{length-map}
-use Rattle.c_types.specs.Lookup.{types_of}
+use Rattle.c_definitions.specs.Lookup.{types_of}
 use Rattle.c_types.proofs.Bindings.{longer_differs}
 use Rattle.c_types.proofs.parameter.have_types.Goals as goal
 

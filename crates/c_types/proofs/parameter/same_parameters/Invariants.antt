@@ -1,5 +1,5 @@
 use Rattle.std.proofs.Common.{◌≡◌, ◌≤◌, length, drop}
-use Rattle.c_types.specs.Lookup.{types_of}
+use Rattle.c_definitions.specs.Lookup.{types_of}
 use Rattle.c_types.specs.Definitions.{same_types}
 use Rattle.c_types.proofs.parameter.same_parameters.Given as goal
 

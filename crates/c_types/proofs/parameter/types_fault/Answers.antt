@@ -1,7 +1,7 @@
 use Rattle.std.proofs.Common.{ap, ◌∙◌}
-use Rattle.c_types.specs.Faults.{sooner}
-use Rattle.c_types.specs.Expressions.{unknown_tag}
-use Rattle.c_types.proofs.Firsts.{faults_step}
+use Rattle.c_expr_types.specs.Faults.{sooner}
+use Rattle.c_expr_types.specs.Expressions.{unknown_tag}
+use Rattle.c_expr_types.proofs.Firsts.{faults_step}
 use Rattle.c_types.proofs.parameter.types_fault.Goals as goal
 
 pub loop-declared-preserved : goal.loop-declared-preserved

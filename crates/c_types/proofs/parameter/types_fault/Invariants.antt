@@ -1,7 +1,7 @@
 use Rattle.std.proofs.Common.{◌≡◌, drop}
 use Rattle.std.specs.List.{flat_map}
-use Rattle.c_types.specs.Faults.{first, sooner}
-use Rattle.c_types.specs.Expressions.{unknown_tag}
+use Rattle.c_expr_types.specs.Faults.{first, sooner}
+use Rattle.c_expr_types.specs.Expressions.{unknown_tag}
 use Rattle.c_types.proofs.parameter.types_fault.Given as goal
 
 abbrev pub invariant-loop-declared : goal.invariant-loop-declared

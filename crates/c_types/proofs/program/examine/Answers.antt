@@ -1,8 +1,8 @@
 use Rattle.std.specs.Prelude.{IfOk, [], codes}
 use Rattle.std.proofs.Common.{◌≡◌, ◌∙◌, subst}
 use Rattle.c_types.specs.Definitions.{all_faults, main_faults, names_of}
-use Rattle.c_types.specs.Faults.{first}
-use Rattle.c_types.specs.Lookup.{definition_of}
+use Rattle.c_expr_types.specs.Faults.{first}
+use Rattle.c_definitions.specs.Lookup.{definition_of}
 use Rattle.c_types.specs.Statements.{hiding}
 use Rattle.c_types.proofs.program.examine.Goals as goal
 

@@ -1,5 +1,5 @@
 use Rattle.std.proofs.Common.{◌≡◌, ◌+◌, ◌∙◌, min, refl, sym, ap, take, arith}
-use Rattle.c_types.specs.Faults.{sooner}
+use Rattle.c_expr_types.specs.Faults.{sooner}
 use Rattle.c_types.specs.Definitions.{names_of, cells_of, cells_in, name_added}
 use Rattle.c_types.proofs.Counts.{taken_more, names_more, cells_more}
 use Rattle.c_types.proofs.DefinitionsByIndex.{definition_at_index, definition_faults_step}

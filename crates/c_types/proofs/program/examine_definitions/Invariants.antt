@@ -1,5 +1,5 @@
 use Rattle.std.proofs.Common.{◌≡◌, ◌≤◌, take, drop, min, []}
-use Rattle.c_types.specs.Faults.{first, sooner}
+use Rattle.c_expr_types.specs.Faults.{first, sooner}
 use Rattle.c_types.specs.Definitions.{all_faults, names_of, cells_of}
 use Rattle.c_types.proofs.program.examine_definitions.Given as goal
 

@@ -1,6 +1,6 @@
 use Rattle.std.proofs.Common.{◌≡◌, ◌∙◌, ◌+◌, ◌-◌, ◌<◌, ap, sym, drop, length, arith, [], ◌∷◌}
 use Rattle.std.proofs.lemmas.List.{at_drop_all}
-use Rattle.c_types.specs.Lookup.{members_of}
+use Rattle.c_definitions.specs.Lookup.{members_of}
 use Rattle.c_types.specs.TransformSyntax.{transforms_fields}
 use Rattle.c_types.proofs.TransformedFields.{later_of, none_later, one_later, transforms_fields_step}
 use Rattle.c_types.proofs.struct_transformer.transforms_struct.Goals as goal

@@ -1,6 +1,6 @@
 use Rattle.std.proofs.Common.{◌≡◌, ◌≤◌, List, length, drop, Some, [], ◌∷◌}
 use Rattle.c_tree.specs.declared.def.Binding.{Binding}
-use Rattle.c_types.specs.Lookup.{members_of}
+use Rattle.c_definitions.specs.Lookup.{members_of}
 use Rattle.c_types.specs.TransformSyntax.{transforms_fields}
 use Rattle.c_types.proofs.TransformedFields.{later_of}
 use Rattle.c_types.proofs.struct_transformer.transforms_struct.Given as goal

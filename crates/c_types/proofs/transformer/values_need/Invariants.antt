@@ -1,5 +1,5 @@
 use Rattle.std.proofs.Common.{◌≡◌, ◌≤◌, length, map, drop, min}
-use Rattle.c_types.specs.Need.{greatest, need}
+use Rattle.c_expr_types.specs.Need.{greatest, need}
 use Rattle.c_types.proofs.transformer.values_need.Given as goal
 
 abbrev pub invariant-loop-i : goal.invariant-loop-i

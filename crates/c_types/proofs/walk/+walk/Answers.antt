@@ -1,12 +1,12 @@
 use Rattle.std.proofs.Common.{ap, sym, ◌∙◌, arith, drop, length, List, map}
 use Rattle.c_tree.specs.declared.stmt.Stmt.{Stmt}
 use Rattle.c_tree.specs.declared.stmt.StmtNode.TheVariants.{For}
-use Rattle.c_types.specs.Faults.{first, sooner}
-use Rattle.c_types.specs.Expressions.{is_condition}
-use Rattle.c_types.specs.Lookup.{Scopes}
+use Rattle.c_expr_types.specs.Faults.{first, sooner}
+use Rattle.c_expr_types.specs.Expressions.{is_condition}
+use Rattle.c_definitions.specs.Lookup.{Scopes}
 use Rattle.c_types.specs.Statements.{Walked, expression_faults, in_block, in_loop, in_order, walk}
 use Rattle.c_types.specs.Views.{around_seen}
-use Rattle.c_types.proofs.Firsts.{first_append}
+use Rattle.c_expr_types.proofs.Firsts.{first_append}
 use Rattle.c_types.proofs.StatementsByNode.{outside_of_all, statement_faults_step, statement_scopes_step, fault_of_if_else, fault_of_for, sooner_is, turn, walk_of}
 use Rattle.c_types.proofs.walk.+walk.Goals as goal
 

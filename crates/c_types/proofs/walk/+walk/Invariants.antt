@@ -1,5 +1,5 @@
 use Rattle.std.proofs.Common.{◌≡◌, map, drop}
-use Rattle.c_types.specs.Faults.{first, sooner}
+use Rattle.c_expr_types.specs.Faults.{first, sooner}
 use Rattle.c_types.specs.Statements.{in_order, walk}
 use Rattle.c_types.specs.Views.{around_seen}
 use Rattle.c_types.proofs.walk.+walk.Given as goal

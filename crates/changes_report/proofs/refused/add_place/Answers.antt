@@ -8,6 +8,6 @@ use Rattle.changes_report.proofs.refused.add_place.Goals as goal
 pub returns : goal.returns
 returns c =
     on_ok_weaker c.add.result
-    (place_line (codes "not a patch: transform ") (decimal c.args.place.line) (codes ":") (decimal c.args.place.column) (codes "\n") _ _ _ _
-    (c.as_bytes-line.ensures.value ∙ c.format.ensures.text) (c.as_bytes-column.ensures.value ∙ c.format-2.ensures.text))
+    (place_line (codes "not a patch: transform ") (decimal c.args.line) (codes ":") (decimal c.args.column) (codes "\n") _ _ _ _
+    (c.as_bytes-line_text.ensures.value ∙ c.format.ensures.text) (c.as_bytes-column_text.ensures.value ∙ c.format-2.ensures.text))
     c.add.ensures

@@ -1,7 +1,7 @@
 use Rattle.std.proofs.Common.{◌≡◌, take}
 use Rattle.c_semantics.specs.Texts.{definition}
 use Rattle.c_semantics.specs.SourceTexts.{Text}
-use Rattle.resolved_tree.specs.Known.{known_of}
+use Rattle.name_resolution.specs.Known.{known_of}
 use Rattle.check_in_places.specs.CheckIns.{functions_in}
 use Rattle.check_in_places.specs.Bodies.{AreBodiesOf}
 use Rattle.check_in_places.proofs.bodies.bodies_among.Given as goal

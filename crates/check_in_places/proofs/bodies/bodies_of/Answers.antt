@@ -2,7 +2,7 @@ use Rattle.std.proofs.Common.{List, ap, ◌∙◌, subst}
 use Rattle.std.specs.Prelude.{IfOk}
 use Rattle.c_tree.specs.declared.def.Def.{Def}
 use Rattle.c_semantics.specs.SourceTexts.{text_of}
-use Rattle.resolved_tree.specs.Known.{known_of}
+use Rattle.name_resolution.specs.Known.{known_of}
 use Rattle.check_in_places.specs.CheckIns.{functions_in}
 use Rattle.check_in_places.specs.Bodies.{AreBodiesOf}
 use Rattle.check_in_places.proofs.bodies.bodies_of.Goals as goal

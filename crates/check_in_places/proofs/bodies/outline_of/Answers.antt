@@ -2,10 +2,10 @@ use Rattle.std.proofs.Common.{◌≡◌, Some, ap, ◌∙◌}
 use Rattle.c_tree.specs.Bare.{bare_function}
 use Rattle.c_semantics.specs.Resolution.{resolved_body}
 use Rattle.c_semantics.specs.Skeletons.{skeleton}
-use Rattle.resolved_tree.specs.Known.{known_of}
+use Rattle.name_resolution.specs.Known.{known_of}
 use Rattle.resolved_tree.specs.Nodes.{statements_at}
 use Rattle.resolved_tree.specs.Trees.{table}
-use Rattle.resolved_tree.proofs.Kept.{grows_refl}
+use Rattle.name_resolution.proofs.Kept.{grows_refl}
 use Rattle.check_in_places.proofs.bodies.outline_of.Goals as goal
 
 pub returns-in-Ok : goal.returns-in-Ok

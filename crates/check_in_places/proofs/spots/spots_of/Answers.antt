@@ -2,7 +2,7 @@ use Rattle.std.proofs.Common.{◌≡◌, ◌∙◌, ◌++◌, ap, sym, length, s
 use Rattle.std.proofs.lemmas.List.{length-map}
 use Rattle.std.proofs.lemmas.Grind.{common_steps}
 use Rattle.std.proofs.lemmas.Option.{gets, slice_get_within}
-use Rattle.bytecode.specs.Skeleton.{check_in_of}
+use Rattle.run_types.specs.Skeleton.{check_in_of}
 use Rattle.skeletons.specs.Meaning.{kind_of, meant}
 use Rattle.check_in_places.specs.CheckIns.{check_in_if}
 use Rattle.check_in_places.specs.Bodies.{shown, check_ins_before}

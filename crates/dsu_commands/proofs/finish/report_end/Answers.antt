@@ -1,5 +1,5 @@
 use Rattle.std.proofs.Common.{List, inl, refl, subst}
-use Rattle.bytecode.specs.declared.run.Event.{Event}
+use Rattle.run_types.specs.declared.run.Event.{Event}
 use Rattle.source_model.specs.Journals.{answers}
 use Rattle.dsu_commands.specs.Calls.{Shows, output_of}
 use Rattle.dsu_commands.specs.Reports.{run_text}

@@ -1,5 +1,5 @@
 use Rattle.std.proofs.lemmas.Result.{err_from_is_err_and}
-use Rattle.bytecode.specs.declared.run.Ending.TheVariants.{Deadlock}
+use Rattle.run_types.specs.declared.run.Ending.TheVariants.{Deadlock}
 use Rattle.dsu_journal.proofs.Pieces.{AppendsFront-first, PutAppends-then}
 use Rattle.dsu_report.specs.Endings.{report_text}
 use Rattle.dsu_commands.specs.Reports.{waits_text}

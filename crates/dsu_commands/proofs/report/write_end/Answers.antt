@@ -1,5 +1,5 @@
 use Rattle.std.proofs.Common.{sym, subst}
-use Rattle.bytecode.specs.declared.run.Ending.{Ending}
+use Rattle.run_types.specs.declared.run.Ending.{Ending}
 use Rattle.dsu_io.specs.Sinks.{PutAppends}
 use Rattle.dsu_commands.specs.Reports.{ending_text}
 use Rattle.dsu_commands.proofs.report.write_end.Goals as goal

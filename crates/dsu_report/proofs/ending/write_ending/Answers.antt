@@ -1,5 +1,5 @@
 use Rattle.std.proofs.Common.{subst, sym}
-use Rattle.bytecode.specs.declared.run.Ending.{Ending}
+use Rattle.run_types.specs.declared.run.Ending.{Ending}
 use Rattle.dsu_io.specs.Sinks.{PutAppends}
 use Rattle.dsu_report.specs.Endings.{report_text}
 use Rattle.dsu_report.proofs.ending.write_ending.Goals as goal

@@ -1,6 +1,6 @@
 use Rattle.std.proofs.Common.{◌∙◌, ◌∷◌, ◌+◌, [], ap, length, length-append, refl, sym, subst, arith}
 use Rattle.std.specs.Prelude.{slice_index_or}
-use Rattle.bytecode.specs.declared.run.Event.TheVariants.{Move}
+use Rattle.run_types.specs.declared.run.Event.TheVariants.{Move}
 use Rattle.source_model.specs.Endings.{ending, int_ending}
 use Rattle.dsu_runs.specs.Replays.{Replayed}
 use Rattle.dsu_runs.specs.Turns.{history_after}

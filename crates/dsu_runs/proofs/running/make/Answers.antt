@@ -33,7 +33,7 @@ returns-in-Decide-clause-made g c = λ setup x at.
     let e = g.E.Engine in
     subst
     (λ event. IfOk c.decide.result
-    (MakesAt (λ y. e.is_at setup y c.decide.new.self) setup event x (e.told c.args.engine.now) (e.told c.decide.new.self)))
+    (MakesAt (λ y. e.is_at setup y c.decide.new.engine) setup event x (e.told c.args.engine.now) (e.told c.decide.new.engine)))
     (sym c.in-Decide.is) (c.decide.ensures.made setup x at)
 
 pub returns-in-Withdraw-clause-made : goal.returns-in-Withdraw-clause-made

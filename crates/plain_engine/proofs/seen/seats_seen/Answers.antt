@@ -16,11 +16,11 @@ loop-slot-preserved c =
     let k = c.loop-slot.slot in
     let below : k < length seats = omega (arith, c.loop-slot-test.true) in (
       length-set c.loop-slot.all k _ ∙ c.loop-slot.invariant.0,
-      one_more (λ n seen. (kept : Seat) × (slice_get seats n ≡ Some kept) × IsSeen (words_of c.args.run.now) c.args.names.now kept seen)
-          c.loop-slot.all _ k _ refl (_, slice_get-get_or seats k _ below, c.in_ok-all.ensures.kept) c.loop-slot.invariant.1,
+      one_more (λ n seen. (kept : Seat) × (slice_get seats n ≡ Some kept) × IsSeen (words_of c.args.run.now) c.args.names.now c.args.versions kept seen)
+          c.loop-slot.all _ k _ refl (_, slice_get-get_or seats k _ below, c.seen.ensures.kept) c.loop-slot.invariant.1,
       λ texts limits moves w run reached.
           one_more (λ n seen. in_transaction (in_slot w n) ≡ seen.in_transaction) c.loop-slot.all _ k _ refl
-          (c.in_ok-all.ensures.within texts limits moves w run reached)
+          (c.seen.ensures.within texts limits moves w run reached)
           (c.loop-slot.invariant.2 texts limits moves w run reached),
     )
 

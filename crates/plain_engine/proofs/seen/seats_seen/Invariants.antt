@@ -13,7 +13,7 @@ use Rattle.plain_engine.proofs.seen.seats_seen.Given as goal
 abbrev pub invariant-loop-slot : goal.invariant-loop-slot
 invariant-loop-slot l =
     (length l.all ≡ 16)
-    × AreFilled (λ n seen. (kept : Seat) × (slice_get l.seats n ≡ Some kept) × IsSeen (words_of l.run) l.names kept seen) l.slot l.all
+    × AreFilled (λ n seen. (kept : Seat) × (slice_get l.seats n ≡ Some kept) × IsSeen (words_of l.run) l.names l.versions kept seen) l.slot l.all
     × ((texts : List (List BareDef)) (limits : Limits) (moves : List Made) (w : World) → IsRun texts limits moves l.run
     → world_after texts limits moves ≡ Some w
     → AreFilled (λ n seen. in_transaction (in_slot w n) ≡ seen.in_transaction) l.slot l.all)

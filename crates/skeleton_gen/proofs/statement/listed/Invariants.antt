@@ -1,5 +1,5 @@
 use Rattle.std.proofs.Common.{◌≡◌, map}
-use Rattle.resolved_tree.specs.Found.{before}
+use Rattle.name_resolution.specs.Found.{before}
 use Rattle.resolved_tree.specs.Nodes.{statement_at, statements_at}
 use Rattle.resolved_tree.specs.Trees.{table}
 use Rattle.skeleton_gen.specs.Weights.{of_statements}

@@ -1,4 +1,4 @@
-use Rattle.resolved_tree.proofs.Kept.{grows_refl}
+use Rattle.name_resolution.proofs.Kept.{grows_refl}
 use Rattle.source_programs.proofs.programs.texts_and_main.Goals as goal
 
 pub returns-clause-ready : goal.returns-clause-ready

@@ -1,7 +1,7 @@
 use Rattle.std.proofs.Common.{◌≡◌, ◌∷◌, [], ◌++◌, length, map, sym, ap, ◌∙◌, append_assoc, append-nil, arith}
 use Rattle.std.specs.Vec.Iter.{into_iter_items}
 use Rattle.std.proofs.lemmas.List.{map-append}
-use Rattle.resolved_tree.proofs.Kept.{grows_refl, grows_trans}
+use Rattle.name_resolution.proofs.Kept.{grows_refl, grows_trans}
 use Rattle.source_programs.specs.Programs.{IsReady}
 use Rattle.source_programs.proofs.Items.{all_more, all_none, nothing_left}
 use Rattle.source_programs.proofs.ready.all_ready.Goals as goal

@@ -1,7 +1,7 @@
 use Rattle.std.proofs.Common.{◌≡◌, ◌++◌, length, map}
 use Rattle.std.specs.Prelude.{All}
 use Rattle.std.specs.Vec.Iter.{into_iter_items, into_iter_len}
-use Rattle.resolved_tree.specs.Found.{Grows}
+use Rattle.name_resolution.specs.Found.{Grows}
 use Rattle.resolved_tree.specs.Nodes.{Table}
 use Rattle.resolved_tree.specs.Trees.{table}
 use Rattle.source_programs.specs.Programs.{IsReady}

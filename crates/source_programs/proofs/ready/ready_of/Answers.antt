@@ -5,7 +5,7 @@ use Rattle.c_types.specs.Definitions.{Types}
 use Rattle.c_semantics.specs.Names.{struct_name}
 use Rattle.resolved_tree.specs.Nodes.{word}
 use Rattle.resolved_tree.specs.Trees.{table}
-use Rattle.resolved_tree.proofs.Kept.{grows_refl}
+use Rattle.name_resolution.proofs.Kept.{grows_refl}
 use Rattle.source_programs.specs.Definitions.{AreDefinitions, HaveTrees, names_in}
 use Rattle.source_programs.proofs.Mains.{has_main}
 use Rattle.source_programs.proofs.Placed.{same_position}

@@ -1,6 +1,6 @@
 use Rattle.c_tree.specs.Bare.{bare_binding}
 use Rattle.source_programs.specs.Definitions.{binding_of}
-use Rattle.resolved_tree.proofs.Kept.{grows_refl, grows_trans, mapped_once}
+use Rattle.name_resolution.proofs.Kept.{grows_refl, grows_trans, mapped_once}
 use Rattle.source_programs.proofs.resolved.bindings.Goals as goal
 
 pub loop-one-preserved : goal.loop-one-preserved

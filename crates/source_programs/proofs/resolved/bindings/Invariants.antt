@@ -1,7 +1,7 @@
 use Rattle.std.proofs.Common.{◌≡◌, map, take}
 use Rattle.c_tree.specs.Bare.{bare_binding}
 use Rattle.resolved_tree.specs.Nodes.{Table}
-use Rattle.resolved_tree.specs.Found.{Grows}
+use Rattle.name_resolution.specs.Found.{Grows}
 use Rattle.resolved_tree.specs.Trees.{table}
 use Rattle.source_programs.specs.Definitions.{bindings_of}
 use Rattle.source_programs.proofs.resolved.bindings.Given as goal

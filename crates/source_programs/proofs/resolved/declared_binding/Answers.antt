@@ -2,7 +2,7 @@ use Rattle.std.proofs.Common.{ap, ◌∙◌}
 use Rattle.resolved_tree.specs.Nodes.{type_of}
 use Rattle.c_tree.specs.BareDef.{BareBinding}
 use Rattle.c_tree.specs.BareExpr.{Bytes, BareType}
-use Rattle.resolved_tree.proofs.Kept.{grows_trans}
+use Rattle.name_resolution.proofs.Kept.{grows_trans}
 use Rattle.source_programs.proofs.resolved.declared_binding.Goals as goal
 
 made : BareType → Bytes → BareBinding

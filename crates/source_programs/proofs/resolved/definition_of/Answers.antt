@@ -1,7 +1,7 @@
 use Rattle.std.proofs.Common.{map, ap, sym, subst, ◌∙◌}
 use Rattle.c_tree.specs.BareDef.{BareDef, Struct}
 use Rattle.c_tree.specs.Bare.{bare_binding, bare_kind}
-use Rattle.resolved_tree.specs.Known.{known_of}
+use Rattle.name_resolution.specs.Known.{known_of}
 use Rattle.source_programs.specs.Definitions.{Defines}
 use Rattle.source_programs.proofs.resolved.definition_of.Goals as goal
 

@@ -1,4 +1,4 @@
-use Rattle.resolved_tree.proofs.Kept.{grows_refl}
+use Rattle.name_resolution.proofs.Kept.{grows_refl}
 use Rattle.source_programs.proofs.Defining.{defined_by_text}
 use Rattle.source_programs.proofs.resolved.definitions_of.Goals as goal
 

@@ -1,7 +1,7 @@
 use Rattle.std.proofs.Common.{refl, Some, map, ap, sym, ◌∙◌}
 use Rattle.c_tree.specs.Bare.{bare_binding}
 use Rattle.source_programs.specs.Definitions.{bindings_of}
-use Rattle.resolved_tree.proofs.Kept.{grows_trans}
+use Rattle.name_resolution.proofs.Kept.{grows_trans}
 use Rattle.source_programs.proofs.resolved.function_of.Goals as goal
 
 pub returns-clause-made : goal.returns-clause-made

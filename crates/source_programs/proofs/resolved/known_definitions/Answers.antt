@@ -2,11 +2,11 @@ use Rattle.std.proofs.Common.{◌≡◌, ◌+◌, [], Some, map, option_map, tak
 use Rattle.std.specs.Prelude.{slice_get}
 use Rattle.std.proofs.lemmas.Option.{slice_get-map, slice_get_read}
 use Rattle.c_tree.specs.Bare.{bare_def}
-use Rattle.resolved_tree.specs.Found.{Grows}
-use Rattle.resolved_tree.specs.Known.{known_of}
+use Rattle.name_resolution.specs.Found.{Grows}
+use Rattle.name_resolution.specs.Known.{known_of}
 use Rattle.resolved_tree.specs.Nodes.{Table}
 use Rattle.resolved_tree.specs.Trees.{table}
-use Rattle.resolved_tree.proofs.Kept.{grows_refl, grows_trans}
+use Rattle.name_resolution.proofs.Kept.{grows_refl, grows_trans}
 use Rattle.source_programs.proofs.Defining.{AreOf, are_of_more, are_of_none, are_of_same, defines_none, defines_some, next_definition, place_some}
 use Rattle.source_programs.proofs.resolved.known_definitions.Goals.{in-Some+in_ok-push, in_default}
 use Rattle.source_programs.proofs.resolved.known_definitions.Goals as goal

@@ -3,8 +3,8 @@ use Rattle.c_tree.specs.BareExpr.{Bytes}
 use Rattle.c_tree.specs.Bare.{bare_def}
 use Rattle.c_semantics.specs.Texts.{definition, names}
 use Rattle.resolved_tree.specs.Nodes.{Table}
-use Rattle.resolved_tree.specs.Known.{known_of}
-use Rattle.resolved_tree.specs.Found.{Grows}
+use Rattle.name_resolution.specs.Known.{known_of}
+use Rattle.name_resolution.specs.Found.{Grows}
 use Rattle.resolved_tree.specs.Trees.{table}
 use Rattle.source_programs.specs.Definitions.{kept, IsDefinition, names_in, tree_kept}
 use Rattle.source_programs.proofs.resolved.known_definitions.Given as goal

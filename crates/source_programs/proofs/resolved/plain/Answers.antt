@@ -1,5 +1,5 @@
 use Rattle.resolved_tree.specs.Trees.{table}
-use Rattle.resolved_tree.proofs.Kept.{grows_trans}
+use Rattle.name_resolution.proofs.Kept.{grows_trans}
 use Rattle.source_programs.proofs.Defining.{plain_ok}
 use Rattle.source_programs.proofs.resolved.plain.Goals as goal
 

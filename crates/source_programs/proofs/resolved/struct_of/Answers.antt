@@ -1,7 +1,7 @@
 use Rattle.std.proofs.Common.{map, ◌∙◌}
 use Rattle.c_tree.specs.Bare.{bare_binding}
 use Rattle.resolved_tree.specs.Trees.{table}
-use Rattle.resolved_tree.proofs.Kept.{grows_refl, grows_trans}
+use Rattle.name_resolution.proofs.Kept.{grows_refl, grows_trans}
 use Rattle.source_programs.proofs.Defining.{struct_ok}
 use Rattle.source_programs.proofs.resolved.struct_of.Goals as goal
 

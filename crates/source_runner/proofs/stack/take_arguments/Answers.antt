@@ -1,5 +1,5 @@
 use Rattle.std.proofs.Common.{◌≡◌, ◌-◌, length, arith}
-use Rattle.source_runner.proofs.Taken.{arguments_taken, rest_taken}
+use Rattle.source_data.proofs.Taken.{arguments_taken, rest_taken}
 use Rattle.source_runner.proofs.stack.take_arguments.Goals as goal
 
 pub returns-clause-arguments : goal.returns-clause-arguments

@@ -1,10 +1,10 @@
 use Rattle.std.proofs.Common.{◌≡◌, Some}
 use Rattle.c_tree.specs.Bare.{bare_function}
 use Rattle.c_semantics.specs.Resolution.{resolved_body}
-use Rattle.resolved_tree.specs.Known.{known_of}
+use Rattle.name_resolution.specs.Known.{known_of}
 use Rattle.resolved_tree.specs.Nodes.{statements_at}
 use Rattle.resolved_tree.specs.Trees.{table}
-use Rattle.resolved_tree.proofs.Kept.{grows_refl}
+use Rattle.name_resolution.proofs.Kept.{grows_refl}
 use Rattle.thread_notes.proofs.places.map_of.Goals as goal
 
 pub returns : goal.returns

@@ -1,5 +1,5 @@
 use Rattle.std.proofs.Common.{◌≡◌, drop}
-use Rattle.c_types.specs.Index.{with_names, table_of}
+use Rattle.c_definitions.specs.Index.{with_names, table_of}
 use Rattle.type_transformers.specs.Newer.{keys}
 use Rattle.type_transformers.proofs.newer.table_of.Given as goal
 

@@ -1,7 +1,7 @@
 use Rattle.std.proofs.Common.{◌∙◌, ap, take}
 use Rattle.std.specs.List.{list_any}
-use Rattle.c_types.specs.declared.key.Key.TheVariants as by
-use Rattle.c_types.specs.Index.{is_key, keys}
+use Rattle.c_definitions.specs.declared.key.Key.TheVariants as by
+use Rattle.c_definitions.specs.Index.{is_key, keys}
 use Rattle.c_types.proofs.Counts.{global_transformed}
 use Rattle.c_types.proofs.context.Context.is_global_transformed.Goals as goal
 

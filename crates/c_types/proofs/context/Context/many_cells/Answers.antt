@@ -1,6 +1,6 @@
 use Rattle.std.proofs.Common.{◌∙◌, ap, min, ltb, ◌++◌, ◌∷◌, [], take}
-use Rattle.c_types.specs.declared.fault.TypeKind.TheVariants.{OverLimit}
-use Rattle.c_types.specs.Faults.{first, unless}
+use Rattle.c_expr_types.specs.declared.fault.TypeKind.TheVariants.{OverLimit}
+use Rattle.c_expr_types.specs.Faults.{first, unless}
 use Rattle.c_types.specs.Definitions.{cells_of}
 use Rattle.c_types.proofs.Counts.{taken_more, few}
 use Rattle.c_types.proofs.context.Context.many_cells.Goals as goal

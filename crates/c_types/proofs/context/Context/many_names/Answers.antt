@@ -1,7 +1,7 @@
 use Rattle.std.proofs.Common.{◌∙◌, ap, leb}
 use Rattle.name_sets.specs.Limit.{most_names}
-use Rattle.c_types.specs.declared.fault.TypeKind.TheVariants.{OverLimit}
-use Rattle.c_types.specs.Faults.{first, unless}
+use Rattle.c_expr_types.specs.declared.fault.TypeKind.TheVariants.{OverLimit}
+use Rattle.c_expr_types.specs.Faults.{first, unless}
 use Rattle.c_types.specs.Definitions.{names_of}
 use Rattle.c_types.proofs.Counts.{taken_more}
 use Rattle.c_types.proofs.context.Context.many_names.Goals as goal

@@ -1,9 +1,9 @@
 use Rattle.std.proofs.Common.{◌∙◌, ap, not, take}
 use Rattle.std.specs.List.{list_any}
-use Rattle.c_types.specs.declared.fault.TypeKind.TheVariants.{DeclaredTwice}
-use Rattle.c_types.specs.declared.key.Key.TheVariants as by
-use Rattle.c_types.specs.Faults.{first, unless}
-use Rattle.c_types.specs.Index.{is_key, keys}
+use Rattle.c_expr_types.specs.declared.fault.TypeKind.TheVariants.{DeclaredTwice}
+use Rattle.c_definitions.specs.declared.key.Key.TheVariants as by
+use Rattle.c_expr_types.specs.Faults.{first, unless}
+use Rattle.c_definitions.specs.Index.{is_key, keys}
 use Rattle.c_types.proofs.Counts.{name_free}
 use Rattle.c_types.proofs.context.Context.named_twice.Goals as goal
 

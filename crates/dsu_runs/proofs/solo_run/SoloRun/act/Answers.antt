@@ -1,7 +1,7 @@
 use Rattle.std.proofs.Common.{◌∙◌, Some, ap, sym}
 use Rattle.std.specs.Prelude.{option_map}
 use Rattle.std.specs.Option.{option_or}
-use Rattle.bytecode.specs.declared.run.Event.TheVariants.{Decide}
+use Rattle.run_types.specs.declared.run.Event.TheVariants.{Decide}
 use Rattle.dsu_runs.specs.Turns.{next_within, offer_or_act}
 use Rattle.dsu_runs.proofs.Ends.{next_going}
 use Rattle.dsu_runs.proofs.Standing.{still_going}

@@ -1,4 +1,4 @@
-use Rattle.bytecode.specs.declared.run.Event.TheVariants.{CheckIn}
+use Rattle.run_types.specs.declared.run.Event.TheVariants.{CheckIn}
 use Rattle.dsu_runs.proofs.Acting.{kept, no_check_in, not_done}
 use Rattle.dsu_runs.proofs.solo_run.SoloRun.check_in.Goals as goal
 

@@ -1,7 +1,7 @@
 use Rattle.std.proofs.Common.{◌∙◌, Some, ap, sym}
 use Rattle.std.specs.Prelude.{length, option_map}
 use Rattle.std.specs.Option.{option_or}
-use Rattle.bytecode.specs.declared.run.Event.TheVariants.{Offer}
+use Rattle.run_types.specs.declared.run.Event.TheVariants.{Offer}
 use Rattle.source_model.specs.Schedules.{first_act, slots_after}
 use Rattle.dsu_runs.specs.Turns.{offer_or_act}
 use Rattle.dsu_runs.proofs.Offering.{act_left, act_within_moves, opened}

@@ -1,5 +1,5 @@
 use Rattle.std.proofs.Common.{subst}
-use Rattle.bytecode.specs.declared.run.Event.TheVariants.{Move}
+use Rattle.run_types.specs.declared.run.Event.TheVariants.{Move}
 use Rattle.plain_engine.specs.Steps.{MovesTo}
 use Rattle.plain_engine.proofs.Engines.{moves, refuses, within}
 use Rattle.plain_engine.proofs.events.PlainEngineEngine.act.Goals as goal

@@ -1,5 +1,5 @@
 use Rattle.std.proofs.Common.{sym, subst}
-use Rattle.bytecode.specs.declared.run.Event.TheVariants.{Withdraw}
+use Rattle.run_types.specs.declared.run.Event.TheVariants.{Withdraw}
 use Rattle.dsu_runs.specs.Engines.{MakesAt}
 use Rattle.plain_engine.specs.Plain.{IsAt}
 use Rattle.plain_engine.proofs.Engines.{comes, is_written}

@@ -1,17 +1,30 @@
-use Rattle.std.proofs.Common.{◌≡◌, map, All, sym, subst}
+use Rattle.std.proofs.Common.{◌≡◌, ◌++◌, false, map, All, sym, subst}
 use Rattle.c_semantics.specs.SourceTexts.{text_of}
-use Rattle.bytecode.specs.declared.run.Event.TheVariants.{Decide}
+use Rattle.run_types.specs.declared.run.Event.TheVariants.{Decide}
 use Rattle.source_model.specs.JournalLaws.{texts_of}
 use Rattle.source_model.specs.Runs.{Install}
 use Rattle.source_runner.specs.SourceRuns.{CameBy}
 use Rattle.type_transformers.specs.Changes.{IsChange, changing, name_of}
 use Rattle.plain_engine.specs.Plain.{IsStateAt}
 use Rattle.plain_engine.specs.Steps.{Stayed}
-use Rattle.plain_engine.proofs.Installing.{after, cannot, changing_is, followed, installs_so, names_are, store_is, transforms_are}
+use Rattle.code_store.specs.Limits.{are_too_many}
+use Rattle.code_store.specs.Stored.{meant_body}
+use Rattle.plain_engine.proofs.Installing.{after, cannot, changing_is, few, followed, installs_so, names_are, roomy, store_is, transforms_are}
 use Rattle.plain_engine.proofs.Moving.{unmoved}
 use Rattle.version_laws.specs.Histories.{last_text, versions_by}
 use Rattle.std.specs.Prelude.{slice_index_or, []}
 use Rattle.plain_engine.proofs.state.State.install.Goals as goal
+
+pub returns-then-not-has_room-clause-made : goal.returns-then-not-has_room-clause-made
+returns-then-not-has_room-clause-made c = λ setup g at going right offered some is.
+    let s = c.args.self.now in
+    let k = c.args.k in
+    let patch = c.args.patch in
+    let pins = c.args.pins.now in
+    absurd
+    (c.has_room.ensures.full c.if-not-has_room.true setup g at (few setup g k s at going right offered some patch pins is)
+    (λ names. subst (λ bodies. are_too_many (map (meant_body names) s.installed.store ++ map (meant_body names) bodies) ≡ false)
+    (sym c.deref.ensures.value) (roomy setup g k s at going right offered some patch pins is names)))
 
 pub returns-in-Ok-Done-clause-made : goal.returns-in-Ok-Done-clause-made
 returns-in-Ok-Done-clause-made c = λ setup g at going right offered some is.

@@ -2,7 +2,7 @@ use Rattle.std.proofs.Common.{◌≡◌, Bool, true, false, ◌∙◌, sym, Some
 use Rattle.std.specs.Prelude.{if◌then◌else◌}
 use Rattle.std.proofs.lemmas.Bool.{true≢false}
 use Rattle.source_model.specs.Guards.{Guard, Setup, can_open, has_ended}
-use Rattle.bytecode.specs.declared.run.Event.TheVariants.{Offer}
+use Rattle.run_types.specs.declared.run.Event.TheVariants.{Offer}
 use Rattle.dsu_runs.specs.Books.{Entries, IsBook}
 use Rattle.plain_engine.specs.declared.state.State.{State}
 use Rattle.plain_engine.specs.Plain.{IsStateAt}

@@ -3,7 +3,7 @@ use Rattle.std.specs.Option.{is_none, is_some}
 use Rattle.std.specs.Prelude.{Option, None, true}
 use Rattle.std.proofs.lemmas.Bool.{true≢false, false≢true}
 use Rattle.std.proofs.lemmas.Option.{slice_get-get_or}
-use Rattle.bytecode.specs.declared.run.Event.TheVariants.{CheckIn}
+use Rattle.run_types.specs.declared.run.Event.TheVariants.{CheckIn}
 use Rattle.source_model.specs.JournalLaws.{texts_of}
 use Rattle.source_model.specs.Worlds.{in_slot, is_over}
 use Rattle.source_runner.specs.Queries.{innermost_in}

@@ -1,8 +1,8 @@
 use Rattle.std.proofs.Common.{refl}
 use Rattle.source_model.specs.Moves.{gone_on}
-use Rattle.source_runner.specs.declared.shared_stops.Did.TheVariants.{On, Trap, Nothing}
+use Rattle.source_data.specs.declared.shared_stops.Did.TheVariants.{On, Trap, Nothing}
 use Rattle.source_programs.specs.Programs.{table_of}
-use Rattle.source_runner.specs.Stores.{with_store}
+use Rattle.source_data.specs.Stores.{with_store}
 use Rattle.source_runner.specs.Machines.{standing_at}
 use Rattle.local_evaluation.specs.Work.{newest}
 use Rattle.source_runner.proofs.Halted.{at_over}

@@ -1,7 +1,7 @@
 use Rattle.std.proofs.Common.{not, sym, ap, ◌∙◌}
 use Rattle.source_programs.specs.Programs.{trees_of}
 use Rattle.source_runner.proofs.Installing.{installs, installed_run, none_cannot, over_cannot}
-use Rattle.source_runner.proofs.Texts.{asked_none, asked_some}
+use Rattle.source_data.proofs.Texts.{asked_none, asked_some}
 use Rattle.source_runner.proofs.run.SourceRun.install.Goals as goal
 
 pub returns-then-is_over-clause-made : goal.returns-then-is_over-clause-made

@@ -5,7 +5,7 @@ use Rattle.source_model.specs.Worlds.{Limits, first_world}
 use Rattle.source_programs.specs.Programs.{text_in, texts_of, trees_of, versions_of}
 use Rattle.source_runner.specs.Machines.{Stands}
 use Rattle.source_runner.proofs.Running.{first_run}
-use Rattle.source_runner.proofs.Texts.{texts_are}
+use Rattle.source_data.proofs.Texts.{texts_are}
 use Rattle.source_runner.proofs.run.SourceRun.new.Goals as goal
 
 pub returns-clause-run : goal.returns-clause-run

@@ -1,5 +1,5 @@
 use Rattle.std.proofs.Common.{ap, ◌∙◌, length, ◌≤◌}
-use Rattle.c_types.specs.Lookup.{declared_as}
+use Rattle.c_definitions.specs.Lookup.{declared_as}
 use Rattle.versioned_structs.specs.Limits.{most_fields}
 use Rattle.type_transformers.specs.Newer.{members_in}
 use Rattle.type_transformers.proofs.Defined.{definition_found, lent}

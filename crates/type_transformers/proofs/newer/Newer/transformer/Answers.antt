@@ -1,6 +1,6 @@
 use Rattle.std.proofs.Common.{ap, ◌∙◌, slice_get}
 use Rattle.std.specs.Prelude.{option_and_then}
-use Rattle.c_types.proofs.Index.{found}
+use Rattle.c_definitions.proofs.Index.{found}
 use Rattle.type_transformers.specs.Newer.{target_name}
 use Rattle.type_transformers.proofs.newer.Newer.transformer.Goals as goal
 

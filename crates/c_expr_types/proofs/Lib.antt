@@ -1,0 +1,4 @@
+pub mod Conversions
+pub mod Firsts
+pub mod InferredByForm
+pub mod Needs

@@ -1,9 +1,0 @@
-use Rattle.std.proofs.Common.{◌≡◌, ◌≤◌, length, map, drop, min}
-use Rattle.c_types.specs.Need.{in_turn, need}
-use Rattle.c_types.proofs.need.+need.Given as goal
-
-abbrev pub invariant-in_turn-loop-i : goal.invariant-in_turn-loop-i
-invariant-in_turn-loop-i l = (l.i ≤ length l.exprs) × (l.most ≡ min (in_turn (map need (drop l.i l.exprs))) 65)
-
-abbrev pub decreases-in_turn-loop-i : goal.decreases-in_turn-loop-i
-decreases-in_turn-loop-i l = l.i

@@ -1,0 +1,41 @@
+use Rattle.std.proofs.Common.{ap, refl, subst}
+use Rattle.std.specs.Prelude.{IfSome}
+use Rattle.con_freeness.specs.Verdicts.{refusal_seen}
+use Rattle.source_model.specs.Answers.{NoPatch, RefusedFor}
+use Rattle.source_model.specs.Guards.{decide}
+use Rattle.plain_engine.specs.Steps.{IsDecided}
+use Rattle.plain_engine.proofs.Deciding.{never_decides, none_there, no_patch, refused, refusal_says}
+use Rattle.plain_engine.proofs.state.State.decide_open.Goals as goal
+
+pub returns-in-None-clause-made : goal.returns-in-None-clause-made
+returns-in-None-clause-made c = λ setup g at going right offered some.
+    let k = c.args.k in
+    never_decides setup g k c.args.self.now at
+    (λ on there rules rows.
+    ap (decide rules g k) (none_there c.in_ok-decided.decided c.in-None.is c.in_ok-decided.ensures.none setup g at some))
+
+pub returns-in-Some-NotPatch-clause-made : goal.returns-in-Some-NotPatch-clause-made
+returns-in-Some-NotPatch-clause-made c = λ setup g at going right offered some.
+    let s = c.args.self.now in
+    let k = c.args.k in
+    let cause = c.in-Some-NotPatch.cause in
+    no_patch setup g k s at going right offered some cause c.close.new.self
+    (subst (IsDecided s k) c.in-Some-NotPatch.field-0-is (subst (λ d. IfSome d (IsDecided s k)) c.in-Some-NotPatch.is c.in_ok-decided.ensures.decided))
+    (c.close.ensures setup g s.installed.names (NoPatch cause) at.book offered (λ more. refl))
+
+pub returns-in-Some-Refused-clause-made : goal.returns-in-Some-Refused-clause-made
+returns-in-Some-Refused-clause-made c = λ setup g at going right offered some.
+    let s = c.args.self.now in
+    let k = c.args.k in
+    let r = c.in-Some-Refused.refusal in
+    let is = subst (IsDecided s k) c.in-Some-Refused.field-0-is (subst (λ d. IfSome d (IsDecided s k)) c.in-Some-Refused.is c.in_ok-decided.ensures.decided) in
+    refused setup g k s at going right offered some r c.close-in-Some-Refused.new.self is
+    (c.close-in-Some-Refused.ensures setup g s.installed.names (RefusedFor (refusal_seen s.installed.names r)) at.book offered
+    (refusal_says setup g k s at going right offered some r is))
+
+pub returns-in-Some-Admitted-clause-made : goal.returns-in-Some-Admitted-clause-made
+returns-in-Some-Admitted-clause-made c = λ setup g at going right offered some.
+    let s = c.args.self.now in
+    let k = c.args.k in
+    c.install.ensures.made setup g at going right offered some
+    (subst (IsDecided s k) c.in-Some-Admitted.field-0-is (subst (λ d. IfSome d (IsDecided s k)) c.in-Some-Admitted.is c.in_ok-decided.ensures.decided))

@@ -1,0 +1,11 @@
+pub mod Counting
+pub mod DataChanges
+pub mod Fields
+pub mod Globals
+pub mod Holders
+pub mod Newest
+pub mod Performing
+pub mod Printing
+pub mod Seen
+pub mod Taken
+pub mod Texts

@@ -1,0 +1,4 @@
+pub mod BroughtObjects
+pub mod CarriedCells
+pub mod GlobalNames
+pub mod InstallSteps

@@ -1,0 +1,3 @@
+pub mod FoundChanges
+pub mod NewData
+pub mod OwnNames

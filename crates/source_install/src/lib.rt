@@ -1,0 +1,13 @@
+//! The data of a run after an install of a newer text.
+//!
+//! [`prepare`] makes the new data beside the old, so that an install that runs out of memory changes nothing;
+//! [`NewData::put_into`] puts it in place.
+//!
+//! Read in this order: `changes` (changes of data by name), `own_names` (names that no struct has), `install`.
+#![tactic(auto)]
+
+mod changes;
+mod install;
+mod own_names;
+
+pub use install::prepare;
