@@ -1,4 +1,4 @@
+pub mod Words
+pub mod Instructions
 pub mod Meaning
-pub mod Trap
-pub mod CheckIns
-pub mod Skeleton
+pub mod Seen

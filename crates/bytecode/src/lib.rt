@@ -1,17 +1,15 @@
-//! The instructions that texts are compiled to, and the plain types in which a run is reported.
+//! The code of functions: its instructions, and what they mean.
 //!
-//! What an instruction does is a definition, `specs/Meaning.antt`, which every machine that runs code
-//! meets. The types carry no behaviour of their own but the trap that an operator's trap becomes.
+//! Code works on words of 64 bits; which kind of value a word is follows from its place in the code. What a private
+//! instruction does is a definition, `specs/Meaning.antt`, which each machine that runs code meets. A stop and a check-in are
+//! instructions too, each with the number of its point in the function's skeleton.
 //!
-//! Read in this order: `instr` (instructions), `trap` (the traps), `run` (the events and endings of a run,
-//! and what its threads wait for). `specs/Skeleton.antt` is what is left of a function's code where only the order and the
-//! names of its stops count.
+//! Read `kind`, then `specs/Words` (values as words), `specs/Instructions` and `specs/Meaning`; then `instr`, the instructions
+//! with words for names, and `specs/Seen` (which instruction of the definitions each of them is).
 #![tactic(auto)]
 
 mod instr;
-mod run;
-mod trap;
+mod kind;
 
 pub use instr::Instr;
-pub use run::{Ending, Event, Wait};
-pub use trap::TrapKind;
+pub use kind::ValueKind;

@@ -1,0 +1,9 @@
+pub mod Parts
+pub mod Expressions
+pub mod Statements
+pub mod Sets
+pub mod Exact
+pub mod Going
+pub mod GoingExpressions
+pub mod GoingStatements
+pub mod Leading

@@ -1,0 +1,3 @@
+pub mod CodePoints
+pub mod CodeWays
+pub mod PointLaws

@@ -1,0 +1,5 @@
+pub mod Scope
+pub mod Kinds
+pub mod Operands
+pub mod Endings
+pub mod Walk

@@ -1,0 +1,4 @@
+pub mod Ranges
+pub mod Code
+pub mod CodedPieces
+pub mod CodeLaws
