@@ -1,7 +1,5 @@
 -- Texts that grow by the lines of items.
-use Rattle.std.proofs.Common.{◌≡◌, ◌⊎◌, inl, inr, ℕ, ◌+◌, ◌≤◌, ◌<◌, Bor, List, [], ◌∷◌, ◌++◌, length, take, drop, get_or, map, refl, sym, ◌∙◌, ap, append_assoc, append-nil, arith, subst, Result, Ok, Err}
-use Rattle.std.specs.Prelude.{All, IfOk}
-use Rattle.std.proofs.lemmas.List.Elements.{All-push}
+use Rattle.std.proofs.Common.{◌≡◌, ◌⊎◌, inl, inr, ℕ, ◌+◌, ◌≤◌, ◌<◌, Bor, List, [], ◌∷◌, ◌++◌, length, take, drop, get_or, map, refl, sym, ◌∙◌, ap, append_assoc, append-nil, arith}
 use Rattle.std.proofs.lemmas.List.{get_or-map, take_all, take_more, drop_more, drop_all, length-map}
 use Rattle.std.proofs.lemmas.List.Concat.{flat_map-append}
 use Rattle.std.specs.List.{flat_map}
@@ -114,19 +112,3 @@ fields_all v w name new total xs ys i (inl all) had =
 fields_all v w name new total xs ys i (inr all) had =
     sym (append-nil new) ∙ ap (λ bytes. new ++ bytes) (sym (none_left name (drop i (map v xs))))
     ∙ ap (λ hows. new ++ fields_text name (drop i (map v xs)) hows) (sym (drop_all i (map w ys) (omega (arith, length-map ys w)))) ∙ had
-
--- ---- what holds of each item so far
-
-pub all_more : {X : Type 0} (P : X → Type 0) (xs : List X) (i : ℕ) (x : X) → i < length xs → x ≡ get_or xs i x
-    → All P (take i xs) → P x → All P (take (i + 1) xs)
-all_more {X} P xs i x within is all here =
-    subst {A = List X} (All P) (ap (λ y. take i xs ++ y ∷ []) is ∙ sym (take_more xs i x within)) (All-push P (take i xs) x all here)
-
-pub all_of : {X : Type 0} (P : X → Type 0) (xs : List X) (i : ℕ) → length xs ≤ i → All P (take i xs) → All P xs
-all_of {X} P xs i past all = subst {A = List X} (All P) (take_all i xs past) all
-
--- ---- what holds of a value by two facts
-
-pub by_both : {T E : Type 0} (r : Result T E) (P Q R : T → Type 0) → ((x : T) → P x → Q x → R x) → IfOk r P → IfOk r Q → IfOk r R
-by_both (Ok x) P Q R f p q = f x p q
-by_both (Err e) P Q R f p q = tt

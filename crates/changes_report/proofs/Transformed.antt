@@ -15,11 +15,11 @@ use Rattle.c_semantics.specs.Texts.{defined, defines, definition, members_of}
 use Rattle.c_semantics.specs.Changes.{interface}
 use Rattle.c_semantics.specs.Transformers.{given_fields, given_value}
 use Rattle.type_transformers.specs.Hows.{How, how_field, how_global, how_of_global}
-use Rattle.type_transformers.specs.Changes.{IsChange, changing, has_data, name_of}
+use Rattle.type_transformers.specs.Changes.{IsChange, changing, has_cells, has_data, is_struct, name_of}
 use Rattle.type_transformers.specs.declared.change.Change.{Change}
 use Rattle.type_transformers.specs.declared.change.Change.TheVariants as change
 use Rattle.changes_report.specs.ChangesText.{field_line, global_line, lines_by, transform_lines}
-use Rattle.changes_report.specs.Shown.{change_text, fields_text, has_cells, is_of, is_struct}
+use Rattle.changes_report.specs.Shown.{change_text, fields_text}
 
 -- names without lines may be left out
 pub kept_lines : {X : Type 0} (f : X → List ℕ) (test : X → Bool) → ((x : X) → test x ≡ false → f x ≡ []) → (xs : List X)
@@ -132,25 +132,25 @@ global_is q name (Some old) (Some (def.TransformStruct tag values)) how there ho
 global_is q name (Some old) (Some (def.TransformGlobal own e)) how there holds is = absurd (false≢true holds)
 
 -- a change has the lines of its name
-shown : (p q : List BareDef) (c : Change) → IsChange p q c → is_of q c ≡ true → is_some (definition p (name_of c)) ≡ true
+shown : (p q : List BareDef) (c : Change) → IsChange p q c → is_some (definition p (name_of c)) ≡ true
     → change_text q c ≡ transform_lines p q (name_of c)
-shown p q (change.Struct tag t) is of there =
+shown p q (change.Struct tag t) is there =
     let name : Bytes = struct_name tag in
     let how : BareBinding → How = how_field (members_of (definition p name)) (given_fields q tag) in
     ap (fields_text name (members_of (definition q name))) is.hows ∙ fields_are name how (members_of (definition q name))
-    ∙ struct_is q tag (definition p name) (definition q name) there of (same_tag q tag)
-shown p q (change.Global name c) is of there =
-    global_is q name (definition p name) (definition q name) (how_of_global c) there of is.how
+    ∙ struct_is q tag (definition p name) (definition q name) there is.defined (same_tag q tag)
+shown p q (change.Global name c) is there =
+    global_is q name (definition p name) (definition q name) (how_of_global c) there is.defined is.how
 
-all_shown : (p q : List BareDef) (changes : List Change) → All (IsChange p q) changes → All (λ c. is_of q c ≡ true) changes
+all_shown : (p q : List BareDef) (changes : List Change) → All (IsChange p q) changes
     → All (λ z. is_some (definition p z) ≡ true) (map name_of changes)
     → All (λ c. change_text q c ≡ transform_lines p q (name_of c)) changes
-all_shown p q [] all of there = All-nil (λ c. change_text q c ≡ transform_lines p q (name_of c))
-all_shown p q (c ∷ changes) all of there =
+all_shown p q [] all there = All-nil (λ c. change_text q c ≡ transform_lines p q (name_of c))
+all_shown p q (c ∷ changes) all there =
     All-cons (λ c. change_text q c ≡ transform_lines p q (name_of c)) c changes
-    (shown p q c (All-head (IsChange p q) c changes all) (All-head (λ c. is_of q c ≡ true) c changes of)
+    (shown p q c (All-head (IsChange p q) c changes all)
     (All-head (λ z. is_some (definition p z) ≡ true) (name_of c) (map name_of changes) there))
-    (all_shown p q changes (All-tail (IsChange p q) c changes all) (All-tail (λ c. is_of q c ≡ true) c changes of)
+    (all_shown p q changes (All-tail (IsChange p q) c changes all)
     (All-tail (λ z. is_some (definition p z) ≡ true) (name_of c) (map name_of changes) there))
 
 -- the test of a name that passed a filter has its first part
@@ -166,11 +166,10 @@ passed first second (name ∷ names) = by (first name && second name) refl (pass
 
 -- all changes have the lines of the interface
 pub transforms_are : (p q : List BareDef) (changes : List Change) → map name_of changes ≡ changing p q → All (IsChange p q) changes
-    → All (λ c. is_of q c ≡ true) changes
     → flat_map (change_text q) changes ≡ flat_map (transform_lines p q) (interface p q)
-transforms_are p q changes names all of =
+transforms_are p q changes names all =
     named_lines (transform_lines p q) (change_text q) name_of changes
-    (all_shown p q changes all of
+    (all_shown p q changes all
     (subst {A = List Bytes} (All (λ z. is_some (definition p z) ≡ true)) (sym names)
     (passed (λ z. is_some (definition p z)) (λ z. has_data (definition q z)) (interface p q))))
     ∙ ap (flat_map (transform_lines p q)) names

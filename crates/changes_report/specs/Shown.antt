@@ -1,9 +1,8 @@
 -- What the parts of the text show.
-use Rattle.std.specs.Prelude.{◌≡◌, Bool, true, false, Option, Some, List, [], ◌∷◌, ◌++◌, map, codes}
+use Rattle.std.specs.Prelude.{◌≡◌, List, [], ◌∷◌, ◌++◌, map, codes}
 use Rattle.std.specs.List.{flat_map}
 use Rattle.c_tree.specs.BareExpr.{Bytes}
 use Rattle.c_tree.specs.BareDef.{BareBinding, BareDef}
-use Rattle.c_tree.specs.BareDef as def
 use Rattle.c_semantics.specs.Names.{struct_name}
 use Rattle.c_semantics.specs.Texts.{definition, members_of}
 use Rattle.c_semantics.specs.Changes.{changed, interface, added}
@@ -29,21 +28,6 @@ lists_text changes =
 abbrev pub fields_text : Bytes → List BareBinding → List How → Bytes
 fields_text name (b ∷ bs) (how ∷ hows) = field_line name b.name how ++ fields_text name bs hows
 fields_text name _ _ = []
-
--- a struct, and a variable or an array
-abbrev pub is_struct : Option BareDef → Bool
-is_struct (Some (def.Struct tag fields)) = true
-is_struct _ = false
-
-abbrev pub has_cells : Option BareDef → Bool
-has_cells (Some (def.Global d)) = true
-has_cells (Some (def.Array type name n values)) = true
-has_cells _ = false
-
--- the text q defines the name of a change as what the change is of
-abbrev pub is_of : List BareDef → Change → Bool
-is_of q (Struct tag transform) = is_struct (definition q (struct_name tag))
-is_of q (Global name change) = has_cells (definition q name)
 
 -- the lines of a change to the text q
 abbrev pub change_text : List BareDef → Change → Bytes

@@ -1,11 +1,11 @@
 //! The whole text.
-ghost use Rattle.std.specs.Prelude.{◌≡◌, ◌≤◌, ◌++◌, true, All, IfOk, IsErr, IsErrOf, OnOk, map};
+ghost use Rattle.std.specs.Prelude.{◌≡◌, ◌≤◌, ◌++◌, IfOk, IsErr, IsErrOf, OnOk, map};
 ghost use Rattle.std.specs.List.{flat_map};
 ghost use Rattle.c_tree.specs.Bare.{bare_def};
 ghost use Rattle.dsu_io.specs.Causes.{Rose};
 ghost use Rattle.patch_faults.specs.TransformFaults.{place_of};
 ghost use Rattle.changes_report.specs.ChangesText.{changes_text, fault_text, text_by_fault};
-ghost use Rattle.changes_report.specs.Shown.{AreChanges, change_text, is_of, lists_text};
+ghost use Rattle.changes_report.specs.Shown.{AreChanges, change_text, lists_text};
 ghost use Rattle.changes_report.specs.Writing.{Writes};
 
 use crate::lines::add_names;
@@ -22,9 +22,6 @@ use std::alloc::{AllocError, Global};
 use type_transformers::{Change, transforms};
 
 /// Writes what changes from one typed text to another. `new_text` has the bytes of the newer one.
-///
-/// `Memory` is also the answer where a variable or an array of the newer text has the name of a struct. No typed text has
-/// one, but that isn't proved.
 pub fn write_changes<S: Sink>(
     alloc: Global,
     old: &Typed,
@@ -82,8 +79,7 @@ fn text_of_patch(
     changes: &Changes,
     transforms: &[Change],
 ) -> Result<Vec<u8>, AllocError>
-    ensures of { OnOk result (All (λ change. is_of (map bare_def new.now.definitions) change ≡ true) transforms.now) }
-    ensures text { IfOk result (λ text. text.items ≡ lists_text changes.now
+    ensures { IfOk result (λ text. text.items ≡ lists_text changes.now
         ++ flat_map (change_text (map bare_def new.now.definitions)) transforms.now) }
 {
     let known = Known::of(alloc, new.definitions.as_slice())?;
@@ -97,8 +93,7 @@ fn text_among(
     changes: &Changes,
     transforms: &[Change],
 ) -> Result<Vec<u8>, AllocError>
-    ensures of { OnOk result (All (λ change. is_of (map bare_def new.now) change ≡ true) transforms.now) }
-    ensures text { IfOk result (λ text. text.items ≡ lists_text changes.now
+    ensures { IfOk result (λ text. text.items ≡ lists_text changes.now
         ++ flat_map (change_text (map bare_def new.now)) transforms.now) }
 {
     let mut text = Vec::new(alloc);

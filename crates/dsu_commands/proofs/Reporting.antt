@@ -1,6 +1,7 @@
 -- A run of an engine that was reported is one to which a call came.
-use Rattle.std.proofs.Common.{◌≡◌, inl, inr, ℕ, Bool, List, [], Option, Some, None, refl, ◌∙◌, ap, subst}
+use Rattle.std.proofs.Common.{◌≡◌, inl, inr, ℕ, Bool, List, [], Option, Some, None, refl, sym, ◌∙◌, ap, subst}
 use Rattle.std.specs.Prelude.{length, option_map}
+use Rattle.std.proofs.lemmas.Bool.{false≢true}
 use Rattle.run_types.specs.declared.run.Ending.{Ending}
 use Rattle.source_model.specs.declared.answer.OfferAnswer.{OfferAnswer}
 use Rattle.source_model.specs.Guards.{Guard, Setup}
@@ -17,7 +18,7 @@ use Rattle.dsu_report.specs.Statuses.{status_of_ending}
 use Rattle.dsu_runs.specs.Rows.{RulesExist}
 use Rattle.dsu_runs.specs.declared.ran.Ran.{Ran}
 use Rattle.dsu_runs.specs.declared.ran.StopCause.{StopCause}
-use Rattle.dsu_runs.specs.declared.ran.StopCause.TheVariants.{Ended, SinkFailed, CannotHappen, Memory}
+use Rattle.dsu_runs.specs.declared.ran.StopCause.TheVariants.{Ended, SinkFailed, CannotHappen, Memory, Misused}
 use Rattle.dsu_commands.specs.declared.finish.Finish.{Finish}
 use Rattle.dsu_commands.specs.declared.outcome.InForce.{InForce}
 use Rattle.dsu_commands.specs.Calls.{Call, NoEnd, Output, Shows, ShowsPrefix, Writes, output_of, run_call}
@@ -52,6 +53,11 @@ module _ {T : Type 0} (plan : Plan) (setup : Setup) (is_at : Guard → T → Typ
 
   pub stopped : (cause : StopCause) → r.cause ≡ cause → StoppedBy plan setup is_at told faults engine r by.guard cause
   stopped cause is = subst (StoppedBy plan setup is_at told faults engine r by.guard) is by.stopped
+
+  -- no definition is misused, so no run stops for that
+  pub never_misused : (line : ℕ) → r.cause ≡ Misused line → ⊥
+  never_misused line is =
+      false≢true (sym (whole exist.0 setup r.history.items by.guard exist.1 accepted (by.legal exist.0 exist.1)).unmisused ∙ stopped (Misused line) is)
 
   -- the ending is that of the guard, with main's number as it is
   pub ends_as : (end : Ending) → EndedBy plan setup is_at told by.guard end engine r → end ≡ ending_of by.guard

@@ -1,5 +1,5 @@
 -- What a schedule hands back, by its plan. The functions that report a run cite this.
-use Rattle.std.specs.Prelude.{◌≡◌, ◌⊎◌, ℕ, List, [], Option, Some, None}
+use Rattle.std.specs.Prelude.{◌≡◌, ◌⊎◌, ℕ, true, List, [], Option, Some, None}
 use Rattle.run_types.specs.declared.run.Ending.{Ending}
 use Rattle.source_model.specs.declared.answer.OfferAnswer.{OfferAnswer}
 use Rattle.source_model.specs.Guards.{Guard, Rules, Setup}
@@ -10,7 +10,7 @@ use Rattle.effects.specs.Rows.{AreRows}
 use Rattle.dsu_runs.specs.Ran.{FailedAt, Printed}
 use Rattle.dsu_runs.specs.declared.ran.Ran.{Ran}
 use Rattle.dsu_runs.specs.declared.ran.StopCause.{StopCause}
-use Rattle.dsu_runs.specs.declared.ran.StopCause.TheVariants.{Ended, SinkFailed, CannotHappen, Memory}
+use Rattle.dsu_runs.specs.declared.ran.StopCause.TheVariants.{Ended, SinkFailed, CannotHappen, Memory, Misused}
 use Rattle.dsu_commands.specs.declared.finish.Finish.{Finish}
 use Rattle.dsu_commands.specs.declared.outcome.InForce.{InForce}
 use Rattle.dsu_commands.specs.Calls.{Output, Shows, ShowsPrefix}
@@ -31,7 +31,7 @@ pub record RefusedBy {T : Type 0} (plan : Plan) (setup : Setup) (told : T → Op
   pub impossible : Impossible plan setup ran.history.items g line
   pub printed : Printed (told engine) (told ran.engine) g
 
--- by why no further event was made
+-- by why no further event was made; that a definition was misused comes of no run of accepted texts
 abbrev pub StoppedBy : {T : Type 0} (plan : Plan) (setup : Setup) (is_at : Guard → T → Type 0) (told : T → Option (List ℕ))
     (faults : T → ℕ) → T → Ran T → Guard → StopCause → Type 0
 StoppedBy plan setup is_at told faults engine ran g (Ended end) = EndedBy plan setup is_at told g end engine ran
@@ -39,6 +39,7 @@ StoppedBy plan setup is_at told faults engine ran g SinkFailed =
     FailedAt setup ran.history.items g (told engine) (told ran.engine) (faults engine) (faults ran.engine)
 StoppedBy plan setup is_at told faults engine ran g (CannotHappen line) = RefusedBy plan setup told g line engine ran
 StoppedBy plan setup is_at told faults engine ran g Memory = Printed (told engine) (told ran.engine) g
+StoppedBy plan setup is_at told faults engine ran g (Misused line) = g.world.misused ≡ true
 
 -- the events of a plan were made by an engine, up to why no further one was
 pub record RanBy {T : Type 0} (plan : Plan) (setup : Setup) (is_at : Guard → T → Type 0) (told : T → Option (List ℕ))

@@ -59,6 +59,10 @@ pub(crate) fn report_run<T: Engine, E: Sink>(
             fail(FaultLine::Line(line, LineWord::CannotHappen), file, err)
         }
         StopCause::Memory => fail(FaultLine::Memory, "", err),
+        // No run of accepted texts misuses a definition.
+        StopCause::Misused(line) => {
+            fail(FaultLine::Line(line, LineWord::CannotHappen), file, err)
+        }
     }
 }
 

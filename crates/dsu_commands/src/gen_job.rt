@@ -25,7 +25,7 @@ use crate::summary::summary_of;
 use accepted_runs::accepted_runs_are_version_consistent;
 use c_types::Typed;
 use dsu_io::{List, NullSink, Sink, put};
-use dsu_report::{FaultLine, ending_status};
+use dsu_report::{FaultLine, LineWord, ending_status};
 use dsu_runs::{Ran, StopCause, rules_exist, solo};
 use frame_bodies::texts_of_programs_are_accepted;
 use plain_engine::PlainEngine;
@@ -123,9 +123,13 @@ fn run_engine<O: Sink, E: Sink>(
     let ran = solo(alloc, engine, MOVES);
     match ran.cause {
         StopCause::Ended(ending) => summarize(alloc, seed, size, ran, ending, texts, out, err),
-        // The sink takes all bytes, and the schedule has no event that can't happen.
-        StopCause::SinkFailed | StopCause::CannotHappen(_) | StopCause::Memory => {
-            stop(alloc, FaultLine::Memory, "", out, err)
+        StopCause::Memory => stop(alloc, FaultLine::Memory, "", out, err),
+        // The sink takes all bytes.
+        StopCause::SinkFailed => stop(alloc, FaultLine::Write, "", out, err),
+        // The schedule has no event that can't happen, and withdraws an offer that isn't decided.
+        StopCause::CannotHappen(line) | StopCause::Misused(line) => {
+            let fault = FaultLine::Line(line, LineWord::CannotHappen);
+            stop(alloc, fault, "", out, err)
         }
     }
 }

@@ -9,4 +9,5 @@ mod Room
 mod Seats
 mod Soloing
 mod Standing
+mod Stepping
 mod Turns

@@ -292,6 +292,11 @@ module _ {E : Type 0} (setup : Setup) (is_at : Guard → E → Type 0) (told : E
               at.guard a.silent at.came;
         }
 
+    -- a turn comes to nothing only where no event was next
+    pub came_to_nothing : (step ≡ steps.CannotHappen) ⊎ (step ≡ steps.Misused) → step ≡ steps.CannotHappen
+    came_to_nothing (inl is) = is
+    came_to_nothing (inr is) = absurd (came_of steps.Misused is)
+
     -- nothing was next, and the run is as it was
     pub waits : (is : step ≡ steps.CannotHappen) → (now : Going new) × (next_within setup now.guard now.last new.left ≡ None)
     waits is =

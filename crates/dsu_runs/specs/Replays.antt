@@ -1,6 +1,7 @@
 -- What a replay hands back.
-use Rattle.std.specs.Prelude.{◌≡◌, ℕ, ◌≤◌, List, length, map, slice_get, take, Option, Some, None}
+use Rattle.std.specs.Prelude.{◌≡◌, ℕ, ◌≤◌, true, List, length, map, slice_get, take, Option, Some, None}
 use Rattle.run_types.specs.declared.run.Event.{Event}
+use Rattle.run_types.specs.declared.run.Event.TheVariants.{Decide}
 use Rattle.run_types.specs.declared.run.Ending.{Ending}
 use Rattle.source_model.specs.Guards.{Guard, Rules, Setup}
 use Rattle.source_model.specs.Journals.{guard_after, happens}
@@ -9,7 +10,7 @@ use Rattle.effects.specs.Rows.{AreRows}
 use Rattle.dsu_runs.specs.Ran.{FailedAt, Printed}
 use Rattle.dsu_runs.specs.declared.ran.Ran.{Ran}
 use Rattle.dsu_runs.specs.declared.ran.StopCause.{StopCause}
-use Rattle.dsu_runs.specs.declared.ran.StopCause.TheVariants.{Ended, SinkFailed, CannotHappen, Memory}
+use Rattle.dsu_runs.specs.declared.ran.StopCause.TheVariants.{Ended, SinkFailed, CannotHappen, Memory, Misused}
 
 -- a journal's events, each without its line
 abbrev pub events_of : List (ℕ × Event) → List Event
@@ -32,6 +33,15 @@ pub record Refused {E : Type 0} (setup : Setup) (is_at : Guard → E → Type 0)
   pub there : is_at g ran.engine
   pub printed : Printed (told engine) (told ran.engine) g
 
+-- the decision of a line isn't made, since a definition was misused in what those that were made come to
+pub record MisusedReplay {E : Type 0} (is_at : Guard → E → Type 0) (told : E → Option (List ℕ)) (lines : List (ℕ × Event))
+    (g : Guard) (line : ℕ) (engine : E) (ran : Ran E) : Type 0 where
+  pub offer : ℕ
+  pub next : slice_get lines (length ran.history.items) ≡ Some (line, Decide offer)
+  pub misused : g.world.misused ≡ true
+  pub there : is_at g ran.engine
+  pub printed : Printed (told engine) (told ran.engine) g
+
 -- by why no further event was made
 abbrev pub StoppedReplay : {E : Type 0} (setup : Setup) (is_at : Guard → E → Type 0) (told : E → Option (List ℕ)) (faults : E → ℕ)
     → E → List (ℕ × Event) → Ran E → Guard → StopCause → Type 0
@@ -41,6 +51,7 @@ StoppedReplay setup is_at told faults engine lines ran g SinkFailed =
 StoppedReplay setup is_at told faults engine lines ran g (CannotHappen line) =
     Refused setup is_at told lines g line engine ran
 StoppedReplay setup is_at told faults engine lines ran g Memory = Printed (told engine) (told ran.engine) g
+StoppedReplay setup is_at told faults engine lines ran g (Misused line) = MisusedReplay is_at told lines g line engine ran
 
 -- the replay of a journal by an engine: a prefix of its events was made
 pub record Replayed {E : Type 0} (setup : Setup) (is_at : Guard → E → Type 0) (told : E → Option (List ℕ)) (faults : E → ℕ)

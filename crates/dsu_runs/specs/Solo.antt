@@ -10,7 +10,7 @@ use Rattle.effects.specs.Rows.{AreRows}
 use Rattle.dsu_runs.specs.Ran.{FailedAt, Printed}
 use Rattle.dsu_runs.specs.declared.ran.Ran.{Ran}
 use Rattle.dsu_runs.specs.declared.ran.StopCause.{StopCause}
-use Rattle.dsu_runs.specs.declared.ran.StopCause.TheVariants.{Ended, SinkFailed, CannotHappen, Memory}
+use Rattle.dsu_runs.specs.declared.ran.StopCause.TheVariants.{Ended, SinkFailed, CannotHappen, Memory, Misused}
 
 -- each event was made where the run, which may make so many moves, hadn't ended
 abbrev pub EachBeforeTheEnd : Setup → ℕ → List Event → Type 0
@@ -27,8 +27,8 @@ pub record EndedSolo {E : Type 0} (setup : Setup) (is_at : Guard → E → Type 
   pub there : is_at g ran.engine
   pub printed : Printed (told engine) (told ran.engine) g
 
--- by why it made no further event. The schedule's next event can happen, or it is a decision that can't be made and the
--- offer is withdrawn
+-- by why it made no further event. The schedule's next event can happen, or it is a decision that can't be made, or isn't, and
+-- the offer is withdrawn
 abbrev pub StoppedSolo : {E : Type 0} (setup : Setup) (is_at : Guard → E → Type 0) (told : E → Option (List ℕ)) (faults : E → ℕ)
     → E → ℕ → Ran E → Guard → StopCause → Type 0
 StoppedSolo setup is_at told faults engine moves ran g (Ended e) = EndedSolo setup is_at told moves g e engine ran
@@ -36,6 +36,7 @@ StoppedSolo setup is_at told faults engine moves ran g SinkFailed =
     FailedAt setup ran.history.items g (told engine) (told ran.engine) (faults engine) (faults ran.engine)
 StoppedSolo setup is_at told faults engine moves ran g (CannotHappen line) = ⊥
 StoppedSolo setup is_at told faults engine moves ran g Memory = Printed (told engine) (told ran.engine) g
+StoppedSolo setup is_at told faults engine moves ran g (Misused line) = ⊥
 
 -- the run of an engine by the solo schedule, with so many moves at most
 pub record RanSolo {E : Type 0} (setup : Setup) (is_at : Guard → E → Type 0) (told : E → Option (List ℕ)) (faults : E → ℕ)

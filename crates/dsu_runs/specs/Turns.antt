@@ -1,6 +1,5 @@
 -- What comes of one event, and of one turn of the solo schedule.
 use Rattle.std.specs.Prelude.{◌≡◌, ℕ, ◌+◌, ◌≤◌, ◌==◌, ◌&&◌, ◌||◌, not, List, [], ◌∷◌, ◌++◌, length, true, false, Option, Some, None, option_map, Result, Ok, Err, if◌then◌else◌}
-use Rattle.std.specs.declared.alloc.AllocError.{AllocError}
 use Rattle.std.specs.Option.{option_or}
 use Rattle.std.specs.Vec.{vec_capacity}
 use Rattle.dsu_io.specs.Causes.{Rose}
@@ -12,23 +11,26 @@ use Rattle.source_model.specs.Endings.{is_stuck}
 use Rattle.dsu_runs.specs.Engines.{Fails, Makes, Refuses}
 use Rattle.dsu_runs.specs.declared.engine.Made.{Made}
 use Rattle.dsu_runs.specs.declared.engine.Made.TheVariants as made
+use Rattle.dsu_runs.specs.declared.engine.Undecided.{Undecided}
+use Rattle.dsu_runs.specs.declared.engine.Undecided.TheVariants as why
 use Rattle.dsu_runs.specs.declared.ran.Ran.{Ran}
 use Rattle.dsu_runs.specs.declared.ran.StopCause.{StopCause}
 use Rattle.dsu_runs.specs.declared.running.Running.{Running}
 use Rattle.dsu_runs.specs.declared.running.Step.{Step}
-use Rattle.dsu_runs.specs.declared.running.Step.TheVariants.{Done, CannotHappen, SinkFailed, Memory}
+use Rattle.dsu_runs.specs.declared.running.Step.TheVariants.{Done, CannotHappen, SinkFailed, Memory, Misused}
 use Rattle.dsu_runs.specs.declared.solo_run.SoloRun.{SoloRun}
 
 -- what a schedule hands back of a run that it stops
 abbrev pub ran_of : {E : Type 0} → Running E → StopCause → Ran E
 ran_of running cause = record { engine = running.engine; history = running.history; cause = cause }
 
--- what came of an event, out of memory among it
-abbrev pub step_by : Result Made AllocError → Step
+-- what came of an event, with why it wasn't made
+abbrev pub step_by : Result Made Undecided → Step
 step_by (Ok made.Done) = Done
 step_by (Ok made.CannotHappen) = CannotHappen
 step_by (Ok made.SinkFailed) = SinkFailed
-step_by (Err e) = Memory
+step_by (Err why.Memory) = Memory
+step_by (Err why.Misused) = Misused
 
 -- the events so far, with one that was made
 abbrev pub history_after : Event → List Event → Step → List Event
@@ -36,6 +38,14 @@ history_after e es Done = es ++ e ∷ []
 history_after e es CannotHappen = es
 history_after e es SinkFailed = es ++ e ∷ []
 history_after e es Memory = es
+history_after e es Misused = es
+
+-- an offer isn't decided, since a definition was misused in what the run came to: nothing changed
+pub record Misuses (at : Guard → Type 0) (e : Event) (g : Guard) (told now : Option (List ℕ)) : Type 0 where
+  pub decides : (k : ℕ) × (e ≡ Decide k)
+  pub misused : g.world.misused ≡ true
+  pub stays : at g
+  pub silent : now ≡ told
 
 -- what came of an event at a guard; out of memory nothing was printed
 abbrev pub Steps : (at : Guard → Type 0) → Setup → Event → Guard → Option (List ℕ) → Option (List ℕ) → Step → Type 0
@@ -43,6 +53,7 @@ Steps at setup e g told now Done = Makes at setup e g told now
 Steps at setup e g told now CannotHappen = Refuses at setup e g told now
 Steps at setup e g told now SinkFailed = Fails setup e g told now
 Steps at setup e g told now Memory = now ≡ told
+Steps at setup e g told now Misused = Misuses at e g told now
 
 -- the slot that comes first after the one that acted last
 abbrev pub first_after : Option ℕ → ℕ
@@ -101,13 +112,14 @@ pub record Lacks {E : Type 0} (told : E → Option (List ℕ)) (old new : SoloRu
   pub silent : told new.running.engine ≡ told old.running.engine
   pub history : new.running.history.items ≡ old.running.history.items
 
--- what came of a turn in which an event is next, or none
+-- what came of a turn in which an event is next, or none; an offer is withdrawn where its decision is kept back by a misuse
 abbrev pub Turned : {E : Type 0} (is_at : Guard → E → Type 0) (told : E → Option (List ℕ)) → Setup → Guard → Option Event
     → SoloRun E → SoloRun E → Step → Type 0
 Turned is_at told setup g next old new Done = Acts is_at told setup g next old new
 Turned is_at told setup g next old new CannotHappen = Waits is_at told g next old new
 Turned is_at told setup g next old new SinkFailed = Breaks told setup g next old new
 Turned is_at told setup g next old new Memory = Lacks told old new
+Turned is_at told setup g next old new Misused = ⊥
 
 -- nothing but the engine changed
 pub record SameBut {E : Type 0} (old new : SoloRun E) : Type 0 where

@@ -11,6 +11,9 @@ pub enum StopCause {
     CannotHappen(u32),
     /// Out of memory.
     Memory,
+    /// The decision of that line of the journal isn't made, since a definition was misused. No run of accepted texts comes
+    /// there.
+    Misused(u32),
 }
 
 /// What a schedule hands back.

@@ -27,6 +27,7 @@ pub fn replay<E: Engine>(alloc: Global, engine: E, events: &[(u32, Event)]) -> R
             Step::CannotHappen => return running.stop(StopCause::CannotHappen(*line)),
             Step::SinkFailed => return running.stop(StopCause::SinkFailed),
             Step::Memory => return running.stop(StopCause::Memory),
+            Step::Misused => return running.stop(StopCause::Misused(*line)),
         }
     }
     running.end()

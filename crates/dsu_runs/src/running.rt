@@ -1,17 +1,16 @@
-ghost use Rattle.std.specs.Prelude.{◌≡◌, ◌≢◌, ◌≤◌, ◌<◌, length, [], ◌∷◌, ◌++◌, true, false, IfOk, OnErr, Ok};
+ghost use Rattle.std.specs.Prelude.{◌≡◌, ◌≢◌, ◌≤◌, ◌<◌, ℕ, length, [], ◌∷◌, ◌++◌, true, false, IfOk, OnErr, Ok, Err};
 ghost use Rattle.std.specs.Vec.{vec_capacity};
 ghost use Rattle.dsu_io.specs.Causes.{Rose};
 ghost use Rattle.source_model.specs.Guards.{Guard, Setup};
-ghost use Rattle.run_types.specs.declared.run.Event.TheVariants.{Decide};
+ghost use Rattle.run_types.specs.declared.run.Event.TheVariants.{Decide, Move};
 ghost use Rattle.source_model.specs.Schedules.{makes_move};
 ghost use Rattle.source_model.specs.Endings.{ending as ending_of, int_ending};
 ghost use Rattle.dsu_runs.specs.Engines.{MakesAt};
 ghost use Rattle.dsu_runs.specs.Turns.{Steps, history_after, ran_of, step_by};
 
 use crate::ending::ending;
-use crate::{Engine, Made, Ran, StopCause};
+use crate::{Engine, Made, Ran, StopCause, Undecided};
 use run_types::Event;
-use std::alloc::AllocError;
 
 /// What came of an event.
 #[derive(Clone, Copy)]
@@ -20,6 +19,8 @@ pub(crate) enum Step {
     CannotHappen,
     SinkFailed,
     Memory,
+    /// An offer isn't decided, since a definition was misused.
+    Misused,
 }
 
 /// A run on its way.
@@ -48,7 +49,7 @@ impl<E: Engine> Running<E> {
         let step = step_of(make(&mut self.engine, event));
         match step {
             Step::Done | Step::SinkFailed => keep(&mut self.history, event),
-            Step::CannotHappen | Step::Memory => {}
+            Step::CannotHappen | Step::Memory | Step::Misused => {}
         }
         step
     }
@@ -75,35 +76,36 @@ impl<E: Engine> Running<E> {
     }
 }
 
-/// What came of an event, out of memory among it.
-fn step_of(made: Result<Made, AllocError>) -> Step
+/// What came of an event, with why it wasn't made.
+fn step_of(made: Result<Made, Undecided>) -> Step
     ensures { result ≡ step_by made }
 {
     match made {
         Ok(Made::Done) => Step::Done,
         Ok(Made::CannotHappen) => Step::CannotHappen,
         Ok(Made::SinkFailed) => Step::SinkFailed,
-        Err(_) => Step::Memory,
+        Err(Undecided::Memory) => Step::Memory,
+        Err(Undecided::Misused) => Step::Misused,
     }
 }
 
-/// Has an engine decide an offer. No run of accepted texts misuses a definition, so there memory alone can be lacking.
-fn decide<E: Engine>(engine: &mut E, k: u8) -> Result<Made, AllocError>
+/// Has an engine make a move.
+fn act<E: Engine>(engine: &mut E, slot: u8) -> Result<Made, Undecided>
     ensures made { (setup : Setup) (g : Guard) → E.is_at setup g engine.old → IfOk result
-        (MakesAt (λ x. E.is_at setup x engine.new) setup (Decide k) g (E.told engine.old) (E.told engine.new)) }
-    ensures stays { OnErr result ((setup : Setup) (g : Guard) → E.is_at setup g engine.old → E.is_at setup g engine.new) }
+        (MakesAt (λ x. E.is_at setup x engine.new) setup (Move slot) g (E.told engine.old) (E.told engine.new)) }
     ensures silent { OnErr result (E.told engine.new ≡ E.told engine.old) }
     ensures later { E.faults engine.old ≤ E.faults engine.new }
-    ensures written { result ≢ Ok Made.SinkFailed }
+    ensures cause { result ≡ Ok Made.SinkFailed → Rose (E.faults engine.old) (E.faults engine.new) }
+    ensures memory { result ≢ Err Undecided.Misused }
 {
-    match engine.decide(k) {
+    match engine.act(slot) {
         Ok(made) => Ok(made),
-        Err(_) => Err(AllocError),
+        Err(_) => Err(Undecided::Memory),
     }
 }
 
 /// Has an engine make an event. Only a move that wants memory leaves the engine as it can't be used any more.
-fn make<E: Engine>(engine: &mut E, event: Event) -> Result<Made, AllocError>
+fn make<E: Engine>(engine: &mut E, event: Event) -> Result<Made, Undecided>
     ensures made { (setup : Setup) (g : Guard) → E.is_at setup g engine.old → IfOk result
         (MakesAt (λ x. E.is_at setup x engine.new) setup event g (E.told engine.old) (E.told engine.new)) }
     ensures silent { OnErr result (E.told engine.new ≡ E.told engine.old) }
@@ -112,12 +114,15 @@ fn make<E: Engine>(engine: &mut E, event: Event) -> Result<Made, AllocError>
     ensures moves { result ≡ Ok Made.SinkFailed → makes_move event ≡ true }
     ensures stays { OnErr result (makes_move event ≡ false → (setup : Setup) (g : Guard)
         → E.is_at setup g engine.old → E.is_at setup g engine.new) }
+    ensures decides { result ≡ Err Undecided.Misused → (k : ℕ) × (event ≡ Decide k) }
+    ensures misused { result ≡ Err Undecided.Misused → (setup : Setup) (g : Guard) → E.is_at setup g engine.old
+        → g.world.misused ≡ true }
 {
     match event {
-        Event::Move(slot) => engine.act(slot),
+        Event::Move(slot) => act(engine, slot),
         Event::CheckIn(slot) => Ok(engine.check_in(slot)),
         Event::Offer(k) => Ok(engine.offer(k)),
-        Event::Decide(k) => decide(engine, k),
+        Event::Decide(k) => engine.decide(k),
         Event::Withdraw(k) => Ok(engine.withdraw(k)),
     }
 }

@@ -50,7 +50,8 @@ pub fn solo<E: Engine>(alloc: Global, engine: E, moves: u32) -> Ran<E>
     for _turn in 0..most {
         match solo.act() {
             Step::Done => {}
-            Step::CannotHappen => return solo.running.end(),
+            // An offer is withdrawn where its decision isn't made, so a turn comes to nothing only where no event is next.
+            Step::CannotHappen | Step::Misused => return solo.running.end(),
             Step::SinkFailed => return solo.running.stop(StopCause::SinkFailed),
             Step::Memory => return solo.running.stop(StopCause::Memory),
         }
@@ -91,7 +92,7 @@ impl<E: Engine> SoloRun<E> {
         !is_stuck(&self.running.engine)
     }
 
-    /// Decides the open offer. Where the decision can't be made, or there is no memory for it, it withdraws the offer.
+    /// Decides the open offer. Where the decision can't be made, or isn't, it withdraws the offer.
     fn close(&mut self, k: u8) -> Step
         requires room { length self.old.running.history.items < vec_capacity self.old.running.history }
         ensures turned { (setup : Setup) (g : Guard) → E.is_at setup g self.old.running.engine → has_ended g ≡ false
@@ -99,7 +100,9 @@ impl<E: Engine> SoloRun<E> {
         ensures kept { Keeps E.faults self.old self.new result }
     {
         match self.running.make(Event::Decide(k)) {
-            Step::CannotHappen | Step::Memory => self.running.make(Event::Withdraw(k)),
+            Step::CannotHappen | Step::Memory | Step::Misused => {
+                self.running.make(Event::Withdraw(k))
+            }
             step => step,
         }
     }
@@ -187,7 +190,7 @@ impl<E: Engine> SoloRun<E> {
         let step = self.running.make(Event::CheckIn(slot));
         match step {
             Step::Done => self.first = slot + 1,
-            Step::CannotHappen | Step::SinkFailed | Step::Memory => {}
+            Step::CannotHappen | Step::SinkFailed | Step::Memory | Step::Misused => {}
         }
         step
     }
@@ -208,7 +211,7 @@ impl<E: Engine> SoloRun<E> {
                 self.first = slot + 1;
                 self.left -= 1;
             }
-            Step::CannotHappen | Step::Memory => {}
+            Step::CannotHappen | Step::Memory | Step::Misused => {}
         }
         step
     }

@@ -1,5 +1,6 @@
 //! The whole text.
 ghost use Rattle.std.specs.Prelude.{◌≡◌, ◌≤◌, [], ◌∷◌, length, map, All, IfOk, IsErrOf};
+ghost use Rattle.c_types.specs.Definitions.{Types};
 ghost use Rattle.c_semantics.specs.SourceTexts.{text_of};
 ghost use Rattle.c_semantics.specs.Store.{store};
 ghost use Rattle.c_semantics.specs.Texts.{definition};
@@ -22,8 +23,8 @@ use std::alloc::{AllocError, Global};
 
 /// Writes the effects of a typed text. `text` has the bytes of the text.
 ///
-/// `Memory` is also the answer where the text has more than 2,048 names, uses a name that it doesn't define, or has a place
-/// that isn't in `text` or is 2^32 - 1 or more: none of these occurs in a typed text and its bytes, but that isn't proved.
+/// `Memory` is also the answer where the text uses a name that it doesn't define, or has a place that isn't in `text` or is
+/// 2^32 - 1 or more: none of these occurs in a typed text and its bytes, but that isn't proved.
 pub fn write_effects<S: Sink>(
     alloc: Global,
     typed: &Typed,
@@ -53,6 +54,7 @@ pub fn write_effects<S: Sink>(
 
 /// What is written of a program with the bytes of its text.
 fn report_of<'a>(alloc: Global, program: &Program, text: &'a [u8]) -> Result<Report<'a>, AllocError>
+    requires { Types program.now }
     ensures blocks { let read = text_of program.now in
         IfOk result (λ report. AreBlocksFrom (store (read ∷ [])) (definition read.definitions) 0
         (functions program.now) (map (block_of report.names report.effects) report.sections.items)) }

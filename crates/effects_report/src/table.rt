@@ -1,15 +1,19 @@
 //! The table of names.
-ghost use Rattle.std.specs.Prelude.{◌≡◌, map, string_bytes, IfOk};
+ghost use Rattle.std.specs.Prelude.{◌≡◌, ◌≤◌, length, map, string_bytes, IfOk};
+ghost use Rattle.name_sets.specs.Limit.{most_names};
+ghost use Rattle.name_sets.specs.NameLists.{name_set};
+ghost use Rattle.c_tree.specs.Bare.{bare_def};
+ghost use Rattle.c_semantics.specs.Texts.{names};
 ghost use Rattle.effects_report.specs.Tables.{Ascend, IsOrdered};
 
 use c_tree::Def;
-use name_sets::Names;
+use name_sets::{Names, NamesFault};
 use sorted_names::names_in_order;
 use std::alloc::{AllocError, Global};
 
-/// The names that some definitions define, in the order of their bytes. More than 2,048 names are answered as lack of
-/// memory.
+/// The names that some definitions define, in the order of their bytes. A table has room for them.
 pub(crate) fn names_of(alloc: Global, definitions: &[Def]) -> Result<Names, AllocError>
+    requires { length (name_set (names (map bare_def definitions.now))) ≤ most_names }
     ensures { IfOk result (λ names. IsOrdered names) }
 {
     let texts = names_in_order(alloc, definitions)?;
@@ -20,13 +24,17 @@ pub(crate) fn names_of(alloc: Global, definitions: &[Def]) -> Result<Names, Allo
 
 /// The table of some texts, in their order.
 fn table_of(alloc: Global, texts: &[String]) -> Result<Names, AllocError>
-    ensures { Ascend (map string_bytes texts.now) → IfOk result (λ names. names ≡ map string_bytes texts.now) }
+    requires ascend { Ascend (map string_bytes texts.now) }
+    requires few { length texts.now ≤ most_names }
+    ensures { IfOk result (λ names. names ≡ map string_bytes texts.now) }
 {
     let mut names = Names::new(alloc);
     for text in texts {
-        let Ok(_) = names.add(text.as_str()) else {
-            return Err(AllocError);
-        };
+        match names.add(text.as_str()) {
+            Ok(_) => {}
+            Err(NamesFault::Memory) => return Err(AllocError),
+            Err(NamesFault::Full) => unreachable!(),
+        }
     }
     Ok(names)
 }

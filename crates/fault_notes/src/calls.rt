@@ -17,22 +17,22 @@ pub(crate) fn wrong_count(
     let word = token.text.as_str();
     let given = arguments_from(tokens, number.saturating_add(2));
     let mut draft = Draft::new(alloc);
-    draft.word(word)?;
+    draft.word(word);
     match parameters_of(program, word) {
         Some(taken) => {
-            draft.say(" takes ")?;
-            draft.count(taken, "argument")?;
+            draft.say(" takes ");
+            draft.count(taken, "argument");
         }
-        None => draft.say(" takes another number of arguments")?,
+        None => draft.say(" takes another number of arguments"),
     }
-    draft.say(", and ")?;
-    draft.number(given)?;
+    draft.say(", and ");
+    draft.number(given);
     draft.say(if given == 1 {
         " is given"
     } else {
         " are given"
-    })?;
-    Ok(draft)
+    });
+    draft.done()
 }
 
 /// How many parameters the function with a name has.
@@ -185,13 +185,13 @@ pub(crate) fn bad_format(
         );
     }
     let mut draft = Draft::of(alloc, "the format has ")?;
-    draft.count(found.count, "conversion")?;
-    draft.say(", and ")?;
-    draft.count(given, "argument")?;
+    draft.count(found.count, "conversion");
+    draft.say(", and ");
+    draft.count(given, "argument");
     draft.say(if given == 1 {
         " comes after it"
     } else {
         " come after it"
-    })?;
-    Ok(draft)
+    });
+    draft.done()
 }

@@ -27,12 +27,12 @@ fn of_first(alloc: Global, first: u8) -> Result<Draft, AllocError> {
     }
     let mut draft = Draft::of(alloc, "no token begins with ")?;
     if first.is_ascii_graphic() {
-        draft.byte(first)?;
+        draft.byte(first);
     } else {
-        draft.say("the byte ")?;
-        draft.number(usize::from(first))?;
+        draft.say("the byte ");
+        draft.number(usize::from(first));
     }
-    Ok(draft)
+    draft.done()
 }
 
 /// What is wrong with a constant or a string.

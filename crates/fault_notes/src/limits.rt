@@ -55,11 +55,11 @@ fn of_function(alloc: Global, function: &Function) -> Result<Draft, AllocError> 
         return has_more(alloc, name, parameters, "parameter", MOST_PARAMETERS);
     }
     let mut draft = Draft::new(alloc);
-    draft.word(name)?;
+    draft.word(name);
     draft.say(
         " has more than 64 variables, or an expression that needs more than 64 operands at once",
-    )?;
-    Ok(draft)
+    );
+    draft.done()
 }
 
 fn of_struct(alloc: Global, tag: &str, fields: usize) -> Result<Draft, AllocError> {
@@ -71,11 +71,11 @@ fn of_struct(alloc: Global, tag: &str, fields: usize) -> Result<Draft, AllocErro
 
 fn of_array(alloc: Global, array: &Array) -> Result<Draft, AllocError> {
     let mut draft = Draft::new(alloc);
-    draft.word(array.name.text.as_str())?;
+    draft.word(array.name.text.as_str());
     draft.say(
         " has no elements or more than 65536, or the globals up to here have more than 65536 cells",
-    )?;
-    Ok(draft)
+    );
+    draft.done()
 }
 
 /// Says that a definition has more of something than it may have.
@@ -87,10 +87,10 @@ fn has_more(
     most: usize,
 ) -> Result<Draft, AllocError> {
     let mut draft = Draft::new(alloc);
-    draft.word(name)?;
-    draft.say(" has ")?;
-    draft.count(number, one)?;
-    draft.say(", and may have ")?;
-    draft.number(most)?;
-    Ok(draft)
+    draft.word(name);
+    draft.say(" has ");
+    draft.count(number, one);
+    draft.say(", and may have ");
+    draft.number(most);
+    draft.done()
 }

@@ -22,28 +22,25 @@ pub(crate) fn unknown_name(
     let word = token.text.as_str();
     let mut draft = Draft::new(alloc);
     if has_prototype(program, word) {
-        draft.word(word)?;
-        draft.say(" has a prototype, and the text doesn't define it")?;
-        return Ok(draft);
+        draft.word(word);
+        draft.say(" has a prototype, and the text doesn't define it");
+        return draft.done();
     }
-    draft.say("nothing declares ")?;
-    draft.word(word)?;
+    draft.say("nothing declares ");
+    draft.word(word);
     say_nearest(
         &mut draft,
         nearest(alloc, tokens, word, sort_at(tokens, number))?,
-    )?;
-    Ok(draft)
+    );
+    draft.done()
 }
 
 /// Says which name may be meant.
-fn say_nearest(draft: &mut Draft, nearest: Option<&str>) -> Result<(), AllocError> {
-    match nearest {
-        Some(name) => {
-            draft.say("; is ")?;
-            draft.word(name)?;
-            draft.say(" meant?")
-        }
-        None => Ok(()),
+fn say_nearest(draft: &mut Draft, nearest: Option<&str>) {
+    if let Some(name) = nearest {
+        draft.say("; is ");
+        draft.word(name);
+        draft.say(" meant?");
     }
 }
 
@@ -169,16 +166,16 @@ pub(crate) fn declared_twice(
         return Draft::of(alloc, "this is declared before");
     };
     let mut draft = Draft::new(alloc);
-    draft.word(token.text.as_str())?;
+    draft.word(token.text.as_str());
     match first_of(tokens, number, token.text.as_str()) {
         Some(at) if at <= text.len() && at < u32::MAX as usize => {
-            draft.say(" is declared in line ")?;
-            draft.number(place_of(text, at).line as usize)?;
-            draft.say(" too")?;
+            draft.say(" is declared in line ");
+            draft.number(place_of(text, at).line as usize);
+            draft.say(" too");
         }
-        _ => draft.say(" is declared before")?,
+        _ => draft.say(" is declared before"),
     }
-    Ok(draft)
+    draft.done()
 }
 
 /// The place of the first token before one with the same word that is declared there.
@@ -206,7 +203,7 @@ pub(crate) fn unknown_field(
     };
     let word = token.text.as_str();
     let mut draft = Draft::of(alloc, "the struct has no field ")?;
-    draft.word(word)?;
-    say_nearest(&mut draft, nearest(alloc, tokens, word, Sort::Field)?)?;
-    Ok(draft)
+    draft.word(word);
+    say_nearest(&mut draft, nearest(alloc, tokens, word, Sort::Field)?);
+    draft.done()
 }

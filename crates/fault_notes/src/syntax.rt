@@ -51,11 +51,11 @@ pub(crate) fn syntax(alloc: Global, text: &[u8], at: usize) -> Result<Draft, All
     };
     let number = number_at(&tokens, at);
     let mut draft = Draft::new(alloc);
-    if say_found(&mut draft, tokens.get(number))? {
-        return Ok(draft);
+    if say_found(&mut draft, tokens.get(number)) {
+        return draft.done();
     }
     say_expected(alloc, &mut draft, tokens, number)?;
-    Ok(draft)
+    draft.done()
 }
 
 /// The number of the token at a byte; how many there are if none is there.
@@ -69,20 +69,20 @@ pub(crate) fn number_at(tokens: &[Token], at: usize) -> usize {
 }
 
 /// Says which token is there; the answer is whether that is all, since it is a word of C that is left out.
-fn say_found(draft: &mut Draft, found: Option<&Token>) -> Result<bool, AllocError> {
+fn say_found(draft: &mut Draft, found: Option<&Token>) -> bool {
     let Some(token) = found else {
-        draft.say("the text ends here")?;
-        return Ok(false);
+        draft.say("the text ends here");
+        return false;
     };
     let word = token.text.as_str();
     if token.kind == TokenKind::Keyword && !USED.contains(&word) {
-        draft.word(word)?;
-        draft.say(" is left out of this C: see docs/language.md")?;
-        return Ok(true);
+        draft.word(word);
+        draft.say(" is left out of this C: see docs/language.md");
+        return true;
     }
-    draft.word(word)?;
-    draft.say(" doesn't fit")?;
-    Ok(false)
+    draft.word(word);
+    draft.say(" doesn't fit");
+    false
 }
 
 /// Says what could have come at the token of a number.
@@ -162,12 +162,12 @@ fn say_choices(
     let places = choices(draft.alloc(), fits)?;
     let many = places.len().saturating_add(usize::from(may_end));
     for index in 0..places.len() {
-        draft.say(before_choice(index, many))?;
-        say_choice(draft, fits, spelled, places[index])?;
+        draft.say(before_choice(index, many));
+        say_choice(draft, fits, spelled, places[index]);
     }
     if may_end {
-        draft.say(before_choice(places.len(), many))?;
-        draft.say("the end of the text")?;
+        draft.say(before_choice(places.len(), many));
+        draft.say("the end of the text");
     }
     Ok(())
 }
@@ -184,12 +184,7 @@ fn before_choice(index: usize, many: usize) -> &'static str {
 }
 
 /// Says a candidate.
-fn say_choice(
-    draft: &mut Draft,
-    fits: &[bool],
-    spelled: &[Token],
-    place: usize,
-) -> Result<(), AllocError> {
+fn say_choice(draft: &mut Draft, fits: &[bool], spelled: &[Token], place: usize) {
     match place {
         OPERATOR => draft.say("an operator"),
         STRING => draft.say("a string"),
@@ -203,7 +198,7 @@ fn say_choice(
         STATEMENT => draft.say("a statement"),
         _ => match spelled.get(place) {
             Some(token) => draft.word(token.text.as_str()),
-            None => Ok(()),
+            None => {}
         },
     }
 }

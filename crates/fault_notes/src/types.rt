@@ -57,12 +57,12 @@ pub(crate) fn types(
 fn of_word(alloc: Global, kind: TypeKind, found: Option<&Token>) -> Result<Draft, AllocError> {
     let mut draft = Draft::new(alloc);
     let Some(token) = found else {
-        draft.say("the text defines no 'int main(void)'")?;
-        return Ok(draft);
+        draft.say("the text defines no 'int main(void)'");
+        return draft.done();
     };
-    draft.word(token.text.as_str())?;
-    draft.say(rule_of(kind))?;
-    Ok(draft)
+    draft.word(token.text.as_str());
+    draft.say(rule_of(kind));
+    draft.done()
 }
 
 /// The rule that is broken, said of the word at the place.

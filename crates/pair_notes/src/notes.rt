@@ -3,7 +3,8 @@ ghost use Rattle.std.specs.Prelude.{IfOk};
 ghost use Rattle.fault_notes.specs.Notes.{AreNotes};
 
 use crate::causes::{cause_of_admission, cause_of_changes};
-use offer_notes::{SourceText, add_no_patch_notes};
+use offer_drafts::SourceText;
+use patch_notes::add_no_patch_notes;
 use source_model::NotPatch;
 use std::alloc::{AllocError, Global};
 

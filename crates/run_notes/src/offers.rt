@@ -6,8 +6,9 @@ use crate::stands::{text_at, texts_of, thread_in, threads_of};
 use con_freeness::Refusal;
 use dsu_io::Sink;
 use dsu_runs::Engine;
-use offer_notes::{Stand, add_install_notes, add_no_patch_notes, add_refusal_notes};
+use patch_notes::{add_install_notes, add_no_patch_notes};
 use plain_engine::PlainEngine;
+use refusal_notes::{Stand, add_refusal_notes};
 use source_model::{NotPatch, OfferAnswer};
 use std::alloc::{AllocError, Global};
 use thread_notes::Source;
@@ -28,11 +29,9 @@ pub(crate) fn decision_notes<S: Sink>(
         return Ok(Vec::new(alloc));
     };
     match answer {
-        OfferAnswer::Installed(_) => install_notes(alloc, mark, engine, number, before),
-        OfferAnswer::Refused(refusal) => refusal_notes(
-            alloc, mark, engine, sources, number, *refusal,
-        ),
-        OfferAnswer::NotPatch(cause) => no_patch_notes(
+        OfferAnswer::Installed(_) => of_install(alloc, mark, engine, number, before),
+        OfferAnswer::Refused(refusal) => of_refusal(alloc, mark, engine, sources, number, *refusal),
+        OfferAnswer::NotPatch(cause) => of_no_patch(
             alloc, mark, engine, sources, number, before, cause,
         ),
         OfferAnswer::Withdrawn | OfferAnswer::NotOffered => Ok(Vec::new(alloc)),
@@ -40,7 +39,7 @@ pub(crate) fn decision_notes<S: Sink>(
 }
 
 /// Of an install.
-fn install_notes<S: Sink>(
+fn of_install<S: Sink>(
     alloc: Global,
     mark: &[u8],
     engine: &PlainEngine<S>,
@@ -62,7 +61,7 @@ fn install_notes<S: Sink>(
 }
 
 /// Of a refusal.
-fn refusal_notes<S: Sink>(
+fn of_refusal<S: Sink>(
     alloc: Global,
     mark: &[u8],
     engine: &PlainEngine<S>,
@@ -93,7 +92,7 @@ fn refusal_notes<S: Sink>(
 }
 
 /// Where the text is no patch.
-fn no_patch_notes<S: Sink>(
+fn of_no_patch<S: Sink>(
     alloc: Global,
     mark: &[u8],
     engine: &PlainEngine<S>,

@@ -1,7 +1,7 @@
 //! Texts and threads as the notes of an offer need them.
 use dsu_io::Sink;
 use dsu_runs::Engine;
-use offer_notes::{Frame, RowFrom, SourceText, Thread};
+use offer_drafts::{Frame, RowFrom, SourceText, Thread};
 use plain_engine::{PlainEngine, RowOf};
 use source_model::OfferAnswer;
 use source_runner::FrameAt;

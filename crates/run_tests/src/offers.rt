@@ -121,6 +121,18 @@ fn an_offer_without_memory_is_withdrawn(rt: HostRuntime) {
     assert!(rt; ends(rt.alloc(), &WANTS_MEMORY, 2, &WITHDRAWN) == Some(true));
 }
 
+/// The same with a definition that is misused.
+static MISUSED: Script = Script {
+    lines: &[1, 2],
+    moves: 3,
+    decision: Decision::IsMisused,
+};
+
+#[test]
+fn an_offer_after_a_misuse_is_withdrawn(rt: HostRuntime) {
+    assert!(rt; ends(rt.alloc(), &MISUSED, 2, &WITHDRAWN) == Some(true));
+}
+
 /// The same with decisions that can't be made.
 static CANNOT_HAPPEN: Script = Script {
     lines: &[1, 2],
@@ -201,4 +213,17 @@ static OUT_OF_MEMORY: Answered = Answered {
 #[test]
 fn replay_stops_without_memory_for_a_decision(rt: HostRuntime) {
     assert!(rt; replays(rt.alloc(), &WANTS_MEMORY, &DECIDING, &OUT_OF_MEMORY) == Some(true));
+}
+
+static AFTER_A_MISUSE: Answered = Answered {
+    end: End {
+        cause: StopCause::Misused(4),
+        events: &[Event::Move(0), Event::Offer(1)],
+    },
+    answers: "[NotOffered, NotOffered]",
+};
+
+#[test]
+fn replay_stops_at_the_decision_after_a_misuse(rt: HostRuntime) {
+    assert!(rt; replays(rt.alloc(), &MISUSED, &DECIDING, &AFTER_A_MISUSE) == Some(true));
 }

@@ -11,6 +11,8 @@ pub enum Decision {
     Installs,
     /// Memory is never enough.
     WantsMemory,
+    /// A definition is misused.
+    IsMisused,
     /// It can't be made.
     CannotHappen,
 }
@@ -122,6 +124,7 @@ impl Engine for Scripted {
                 Ok(Made::Done)
             }
             Decision::WantsMemory => Err(Undecided::Memory),
+            Decision::IsMisused => Err(Undecided::Misused),
             Decision::CannotHappen => Ok(Made::CannotHappen),
         }
     }

@@ -7,7 +7,7 @@ use dsu_cli::Job;
 use dsu_io::Files;
 use input_files::{Source as Read, source_of};
 use noted_reports::FAULT_MARK;
-use offer_notes::SourceText;
+use offer_drafts::SourceText;
 use pair_notes::{admission_notes, change_notes};
 use std::alloc::{AllocError, Global};
 

@@ -33,18 +33,18 @@ pub(crate) fn inside_at<'a>(
     function: &'a Function,
     at: usize,
 ) -> Result<Option<Inside<'a>>, AllocError> {
-    declare_parameters(scopes, function.parameters.as_slice())?;
+    declare_bindings(scopes, function.parameters.as_slice())?;
     in_body(scopes, function.body.as_slice(), at)
 }
 
-/// Declares parameters.
-fn declare_parameters(
+/// Declares variables by their names and types.
+pub(crate) fn declare_bindings(
     scopes: &mut Scopes<CType>,
-    parameters: &[Binding],
+    bindings: &[Binding],
 ) -> Result<(), AllocError> {
-    for parameter in parameters {
-        let declared = parameter.declared.copy()?;
-        scopes.declare(parameter.name.text.as_str(), declared)?;
+    for binding in bindings {
+        let declared = binding.declared.copy()?;
+        scopes.declare(binding.name.text.as_str(), declared)?;
     }
     Ok(())
 }

@@ -4,20 +4,14 @@ use crate::found::{say_converted, say_found};
 use c_definitions::{Meaning, Names};
 use c_tree::{CType, Expr, ExprNode as Node, Function, Name};
 use dsu_io::{Boxed, List};
-use std::alloc::AllocError;
 
 /// Says what is wrong with an expression at a place that is no operator with its operands.
-pub(crate) fn say_call(
-    draft: &mut Draft,
-    names: &Names,
-    expr: &Expr,
-    at: usize,
-) -> Result<(), AllocError> {
+pub(crate) fn say_call(draft: &mut Draft, names: &Names, expr: &Expr, at: usize) {
     let is_own = expr.place == at;
     match &expr.node {
         Node::Call(name, _) | Node::Element(name, _) if is_own => {
-            draft.word(name.as_str())?;
-            draft.say(sort_of(expr))
+            draft.word(name.as_str());
+            draft.say(sort_of(expr));
         }
         Node::Call(name, list) => say_argument(draft, names, name.as_str(), list, at),
         Node::Print { arguments, .. } => say_printed(draft, names, arguments, at),
@@ -31,13 +25,14 @@ pub(crate) fn say_call(
         Node::JoinInto(a, b) => say_join(draft, names, a, b, at),
         Node::Create(a, name, b) => {
             if is_own {
-                return say_thread(draft, name);
+                say_thread(draft, name);
+            } else {
+                say_create(draft, names, a, name, b, at);
             }
-            say_create(draft, names, a, name, b, at)
         }
         Node::InitMutex(name) | Node::Lock(name) | Node::Unlock(name) => {
-            draft.word(name.text.as_str())?;
-            draft.say(" is no mutex")
+            draft.word(name.text.as_str());
+            draft.say(" is no mutex");
         }
         _ => draft.say(UNKNOWN),
     }
@@ -55,14 +50,9 @@ fn sort_of(expr: &Expr) -> &'static str {
 }
 
 /// Says what is taken, and what was found.
-fn say_taken(
-    draft: &mut Draft,
-    names: &Names,
-    words: &str,
-    a: &Boxed<Expr>,
-) -> Result<(), AllocError> {
-    draft.say(words)?;
-    say_found(draft, names, a.get())
+fn say_taken(draft: &mut Draft, names: &Names, words: &str, a: &Boxed<Expr>) {
+    draft.say(words);
+    say_found(draft, names, a.get());
 }
 
 /// The number of the argument at a place.
@@ -99,74 +89,52 @@ fn type_at(function: &Function, count: usize, number: usize) -> Option<&CType> {
 }
 
 /// Says what is wrong with the argument at a place.
-fn say_argument(
-    draft: &mut Draft,
-    names: &Names,
-    name: &str,
-    list: &List<Expr>,
-    at: usize,
-) -> Result<(), AllocError> {
+fn say_argument(draft: &mut Draft, names: &Names, name: &str, list: &List<Expr>, at: usize) {
     let arguments = list.as_slice();
-    let Some(number) = number_at(arguments, at) else {
-        return draft.say(UNKNOWN);
-    };
-    let declared = parameter_type(names, name, arguments.len(), number);
-    match arguments.get(number) {
-        Some(argument) => say_value(draft, names, declared, argument),
-        None => draft.say(UNKNOWN),
+    match number_at(arguments, at) {
+        Some(number) if number < arguments.len() => {
+            let declared = parameter_type(names, name, arguments.len(), number);
+            say_value(draft, names, declared, &arguments[number]);
+        }
+        _ => draft.say(UNKNOWN),
     }
 }
 
 /// Says which type is expected of a value, where that is known, and what was found.
-fn say_value(
-    draft: &mut Draft,
-    names: &Names,
-    declared: Option<&CType>,
-    expr: &Expr,
-) -> Result<(), AllocError> {
+fn say_value(draft: &mut Draft, names: &Names, declared: Option<&CType>, expr: &Expr) {
     match declared {
         Some(declared) => say_converted(draft, names, declared, expr),
         None => {
-            draft.say("expected a value")?;
-            say_found(draft, names, expr)
+            draft.say("expected a value");
+            say_found(draft, names, expr);
         }
     }
 }
 
 /// Says what is wrong with the argument of a `printf` at a place.
-fn say_printed(
-    draft: &mut Draft,
-    names: &Names,
-    arguments: &List<Expr>,
-    at: usize,
-) -> Result<(), AllocError> {
+fn say_printed(draft: &mut Draft, names: &Names, arguments: &List<Expr>, at: usize) {
     let list = arguments.as_slice();
     match number_at(list, at) {
         Some(number) if number < list.len() => {
-            draft.say("printf takes integers")?;
-            say_found(draft, names, &list[number])
+            draft.say("printf takes integers");
+            say_found(draft, names, &list[number]);
         }
         _ => draft.say(UNKNOWN),
     }
 }
 
 /// Says what is wrong with an operand of `thrd_join` at a place.
-fn say_join(
-    draft: &mut Draft,
-    names: &Names,
-    a: &Boxed<Expr>,
-    b: &Boxed<Expr>,
-    at: usize,
-) -> Result<(), AllocError> {
+fn say_join(draft: &mut Draft, names: &Names, a: &Boxed<Expr>, b: &Boxed<Expr>, at: usize) {
     if a.get().place == at {
-        return say_taken(draft, names, "thrd_join takes a thrd_t", a);
+        say_taken(draft, names, "thrd_join takes a thrd_t", a);
+    } else {
+        say_taken(draft, names, "thrd_join stores an int", b);
     }
-    say_taken(draft, names, "thrd_join stores an int", b)
 }
 
 /// Says that a name is no function that a thread can run.
-fn say_thread(draft: &mut Draft, name: &Name) -> Result<(), AllocError> {
-    draft.word(name.text.as_str())?;
+fn say_thread(draft: &mut Draft, name: &Name) {
+    draft.word(name.text.as_str());
     draft.say(
         " is no function with one parameter, an integer or a pointer, and the result int: no thread can run it",
     )
@@ -185,9 +153,10 @@ fn say_create(
     name: &Name,
     b: &Boxed<Expr>,
     at: usize,
-) -> Result<(), AllocError> {
+) {
     if a.get().place == at {
-        return say_taken(draft, names, "thrd_create stores a thrd_t", a);
+        say_taken(draft, names, "thrd_create stores a thrd_t", a);
+    } else {
+        say_value(draft, names, only_parameter(names, name), b.get());
     }
-    say_value(draft, names, only_parameter(names, name), b.get())
 }

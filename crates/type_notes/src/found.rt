@@ -20,18 +20,18 @@ pub(crate) fn is_tested(alloc: Global, names: &Names, expr: &Expr) -> Result<boo
 }
 
 /// Says what a name by itself is.
-fn say_name(draft: &mut Draft, names: &Names, name: &str) -> Result<(), AllocError> {
+fn say_name(draft: &mut Draft, names: &Names, name: &str) {
     draft.say(match names.meaning_of(name) {
         Some(Meaning::Function(_)) => "the function ",
         Some(Meaning::Array(_)) => "the array ",
         Some(Meaning::Mutex) => "the mutex ",
         _ => "the name ",
-    })?;
-    draft.word(name)
+    });
+    draft.word(name);
 }
 
 /// Says what an expression is that has no type.
-fn say_untyped(draft: &mut Draft, names: &Names, expr: &Expr) -> Result<(), AllocError> {
+fn say_untyped(draft: &mut Draft, names: &Names, expr: &Expr) {
     match &expr.node {
         Node::Variable(name) => say_name(draft, names, name.as_str()),
         _ => draft.say("no value"),
@@ -39,7 +39,7 @@ fn say_untyped(draft: &mut Draft, names: &Names, expr: &Expr) -> Result<(), Allo
 }
 
 /// Says what an expression was found to be: its type, or what it is instead of a value.
-fn say_part(draft: &mut Draft, names: &Names, expr: &Expr, part: &Part) -> Result<(), AllocError> {
+fn say_part(draft: &mut Draft, names: &Names, expr: &Expr, part: &Part) {
     match &part.found {
         Found::Place(declared) | Found::Value(declared) => say_type(draft, declared),
         Found::Zero(kind) => draft.say(integer_words(*kind)),
@@ -51,40 +51,38 @@ fn say_part(draft: &mut Draft, names: &Names, expr: &Expr, part: &Part) -> Resul
 }
 
 /// Says what an expression is found to be.
-fn say_expr(draft: &mut Draft, names: &Names, expr: &Expr) -> Result<(), AllocError> {
-    let part = infer(draft.alloc(), names, expr)?;
-    say_part(draft, names, expr, &part)
+fn say_expr(draft: &mut Draft, names: &Names, expr: &Expr) {
+    match infer(draft.alloc(), names, expr) {
+        Ok(part) => say_part(draft, names, expr, &part),
+        Err(_) => draft.cut(),
+    }
 }
 
 /// Says what was found in place of what was expected.
-pub(crate) fn say_found(draft: &mut Draft, names: &Names, expr: &Expr) -> Result<(), AllocError> {
-    draft.say(", found ")?;
-    say_expr(draft, names, expr)
+pub(crate) fn say_found(draft: &mut Draft, names: &Names, expr: &Expr) {
+    draft.say(", found ");
+    say_expr(draft, names, expr);
 }
 
 /// Says which two were found; only the first where the second has a fault of its own.
-pub(crate) fn say_both(
-    draft: &mut Draft,
-    names: &Names,
-    a: &Boxed<Expr>,
-    b: &Boxed<Expr>,
-) -> Result<(), AllocError> {
-    say_found(draft, names, a.get())?;
-    if is_wrong(draft.alloc(), names, b.get())? {
-        return Ok(());
+pub(crate) fn say_both(draft: &mut Draft, names: &Names, a: &Boxed<Expr>, b: &Boxed<Expr>) {
+    say_found(draft, names, a.get());
+    match is_wrong(draft.alloc(), names, b.get()) {
+        Ok(false) => say_second(draft, names, b.get()),
+        Ok(true) => {}
+        Err(_) => draft.cut(),
     }
-    draft.say(" and ")?;
-    say_expr(draft, names, b.get())
+}
+
+/// Says what the second of two was found to be.
+fn say_second(draft: &mut Draft, names: &Names, expr: &Expr) {
+    draft.say(" and ");
+    say_expr(draft, names, expr);
 }
 
 /// Says which type is expected and what was found.
-pub(crate) fn say_converted(
-    draft: &mut Draft,
-    names: &Names,
-    expected: &CType,
-    expr: &Expr,
-) -> Result<(), AllocError> {
-    draft.say("expected ")?;
-    say_type(draft, expected)?;
-    say_found(draft, names, expr)
+pub(crate) fn say_converted(draft: &mut Draft, names: &Names, expected: &CType, expr: &Expr) {
+    draft.say("expected ");
+    say_type(draft, expected);
+    say_found(draft, names, expr);
 }

@@ -2,10 +2,9 @@
 use crate::draft::Draft;
 use c_ints::{BinOp, Kind, UnOp};
 use c_tree::{CType, StepOp};
-use std::alloc::AllocError;
 
 /// The words of an integer type.
-pub(crate) fn integer_words(kind: Kind) -> &'static str {
+pub fn integer_words(kind: Kind) -> &'static str {
     match kind {
         Kind::I8 => "char",
         Kind::U8 => "unsigned char",
@@ -19,20 +18,20 @@ pub(crate) fn integer_words(kind: Kind) -> &'static str {
 }
 
 /// Says a type.
-pub(crate) fn say_type(draft: &mut Draft, declared: &CType) -> Result<(), AllocError> {
+pub(crate) fn say_type(draft: &mut Draft, declared: &CType) {
     match declared {
         CType::Integer(kind) => draft.say(integer_words(*kind)),
         CType::Handle(tag) => {
-            draft.say("struct ")?;
-            draft.name(tag.text.as_str())?;
-            draft.say(" *")
+            draft.say("struct ");
+            draft.name(tag.text.as_str());
+            draft.say(" *");
         }
         CType::Thread => draft.say("thrd_t"),
     }
 }
 
 /// Says the type of a function's result.
-pub(crate) fn say_result(draft: &mut Draft, declared: &Option<CType>) -> Result<(), AllocError> {
+pub(crate) fn say_result(draft: &mut Draft, declared: &Option<CType>) {
     match declared {
         Some(declared) => say_type(draft, declared),
         None => draft.say("void"),

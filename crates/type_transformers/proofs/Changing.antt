@@ -20,7 +20,7 @@ use Rattle.type_transformers.specs.declared.global.GlobalChange.{GlobalChange}
 use Rattle.type_transformers.specs.Hows.{how_global}
 use Rattle.type_transformers.specs.Fields.{AreFieldChanges}
 use Rattle.type_transformers.specs.Globals.{IsGlobalBy}
-use Rattle.type_transformers.specs.Changes.{has_data, changing, name_of, IsChange}
+use Rattle.type_transformers.specs.Changes.{has_cells, has_data, is_struct, changing, name_of, IsChange}
 use Rattle.type_transformers.specs.Made.{has_new_data, changes_data, is_changing, IsMadeFrom, IsMadeIf, IsChangeFor, Adds}
 use Rattle.type_transformers.proofs.FieldChanges.{changes_transform, hows}
 
@@ -41,21 +41,23 @@ struct_made a q tag layout members given changes layout_is given_is are = λ p n
     record {
       named = same;
       is = record {
+        defined = ap is_struct (ap (definition q) same ∙ is);
         transform = changes_transform p q tag changes all;
         hows = hows (layout_in p tag) (given_fields q tag) (layout_in q tag) changes all;
       };
     }
 
 pub global_made : (a b : BareDef) (own : Bytes) (q : List BareDef) (given : Option BareExpr) (made : GlobalChange)
-    → defined b ≡ Some own → given ≡ given_value q own → IsGlobalBy (Some a) (Some b) given made
+    → defined b ≡ Some own → has_cells (Some b) ≡ true → given ≡ given_value q own → IsGlobalBy (Some a) (Some b) given made
     → IsMadeFrom a b q (change.Global own made)
-global_made a b own q given made owns given_is by = λ p name named was is.
+global_made a b own q given made owns cells given_is by = λ p name named was is.
     let same : own ≡ name = cc in
     let before : definition p own ≡ Some a = ap (definition p) same ∙ was in
     let after : definition q own ≡ Some b = ap (definition q) same ∙ is in
     record {
       named = same;
       is = record {
+        defined = ap has_cells after ∙ cells;
         cells = λ cells.
             by.cells cells
             ∙ sym (ap (λ o. new_cells o (definition q own) (given_value q own) cells) before

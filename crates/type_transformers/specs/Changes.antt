@@ -16,6 +16,16 @@ use Rattle.type_transformers.specs.declared.global.GlobalChange.{GlobalChange}
 use Rattle.type_transformers.specs.Cells.{cells_by}
 use Rattle.type_transformers.specs.Hows.{how_field, how_global, how_of, how_of_global}
 
+-- a struct, and a variable or an array
+abbrev pub is_struct : Option BareDef → Bool
+is_struct (Some (def.Struct tag fields)) = true
+is_struct _ = false
+
+abbrev pub has_cells : Option BareDef → Bool
+has_cells (Some (def.Global d)) = true
+has_cells (Some (def.Array type name n values)) = true
+has_cells _ = false
+
 -- a struct, a variable or an array
 abbrev pub has_data : Option BareDef → Bool
 has_data (Some (def.Struct tag members)) = true
@@ -32,13 +42,17 @@ abbrev pub name_of : Change → Bytes
 name_of (Struct tag transform) = struct_name tag
 name_of (Global name change) = name
 
--- an object of a struct becomes what the definitions say, and each field comes as it is told of the texts
+-- an object of a struct becomes what the definitions say, and each field comes as it is told of the texts; its name is that
+-- of a struct
 pub record IsStructChange (p q : List BareDef) (tag : Bytes) (changes : List FieldChange) : Type 0 where
+  pub defined : is_struct (definition q (struct_name tag)) ≡ true
   pub transform : IsTransformOf p q tag changes
   pub hows : map how_of changes ≡ map (how_field (layout_in p tag) (given_fields q tag)) (layout_in q tag)
 
--- the cells of a global become what the definitions say, and come as it is told of the texts
+-- the cells of a global become what the definitions say, and come as it is told of the texts; its name is that of a variable
+-- or an array
 pub record IsGlobalChange (p q : List BareDef) (name : Bytes) (change : GlobalChange) : Type 0 where
+  pub defined : has_cells (definition q name) ≡ true
   pub cells : (cells : List Value) → cells_by change cells ≡ transformed_global p q name cells
   pub how : how_of_global change ≡ how_global (definition p name) (definition q name) (given_value q name)
 

@@ -1,5 +1,5 @@
 use Rattle.dsu_commands.specs.Calls.{output_of}
-use Rattle.dsu_commands.proofs.Reporting.{cannot_happen, ended, out_of_memory, sink_failed}
+use Rattle.dsu_commands.proofs.Reporting.{cannot_happen, ended, never_misused, out_of_memory, sink_failed}
 use Rattle.dsu_commands.proofs.finish.report_run.Goals as goal
 
 pub returns-in-Ended : goal.returns-in-Ended
@@ -39,3 +39,10 @@ returns-in-Memory g c = λ plan setup engine accepted by given installed hands.
     c.args.texts.now c.args.journal c.args.file.now f.result (output_of g.E.Sink.told g.E.Sink.faults c.args.err.now f.new.err)
     given installed hands c.in-Memory.is
     (record { status_is = f.ensures.status; ending = f.ensures.ending; shown = f.ensures.err })
+
+pub returns-in-Misused : goal.returns-in-Misused
+returns-in-Misused g c = λ plan setup engine accepted by given installed hands.
+    let e = g.T.Engine in
+    absurd (never_misused plan setup (e.is_at setup) e.told e.faults engine c.args.ran.now c.rules_exist.ensures c.journal_is_a_run.ensures
+    c.accepted_runs_are_version_consistent.ensures c.mains_result_is_an_int.ensures c.deadlocked_threads_wait.ensures accepted by
+    c.in-Misused.line c.in-Misused.is)

@@ -1,5 +1,5 @@
-use Rattle.std.proofs.Common.{inr}
-use Rattle.dsu_commands.proofs.Planned.{ran_by_schedule}
+use Rattle.std.proofs.Common.{inr, refl}
+use Rattle.dsu_commands.proofs.Planned.{no_print_fails, ran_by_schedule, stops_at_no_event}
 use Rattle.dsu_commands.proofs.Summing.{summarized}
 use Rattle.dsu_commands.proofs.gen_job.run_engine.Goals as goal
 
@@ -10,5 +10,13 @@ returns-in-Ended g c = λ setup accepted at one.
     (ran_by_schedule setup _ _ _ c.args.engine c.solo_schedule_is_prompt.ensures.prompt 1000000 c.solo-ran.result (c.solo-ran.ensures setup at))
     c.args.seed c.args.size c.args.texts.now one c.in-Ended.ending c.in-Ended.is c.seats_fit_their_slots.ensures _ (c.summarize.ensures setup)
 
+pub returns-in-Memory : goal.returns-in-Memory
+returns-in-Memory g c = λ setup accepted at one. inr (inr c.stop.ensures)
+
 pub returns-in-SinkFailed : goal.returns-in-SinkFailed
-returns-in-SinkFailed g c = λ setup accepted at one. inr (inr c.stop.ensures)
+returns-in-SinkFailed g c = λ setup accepted at one.
+    absurd (no_print_fails setup _ _ _ c.args.engine 1000000 c.solo-ran.result (λ e. refl) (c.solo-ran.ensures setup at) c.in-SinkFailed.is)
+
+pub returns-in-CannotHappen : goal.returns-in-CannotHappen
+returns-in-CannotHappen g c = λ setup accepted at one.
+    absurd (stops_at_no_event setup _ _ _ c.args.engine 1000000 c.solo-ran.result c.in-CannotHappen.line (c.solo-ran.ensures setup at) c.in-CannotHappen.is)

@@ -7,7 +7,7 @@ returns-in-Move-clause-made g c = λ setup x at.
     let e = g.E.Engine in
     subst
     (λ event. IfOk c.act.result
-    (MakesAt (λ y. e.is_at setup y c.act.new.self) setup event x (e.told c.args.engine.now) (e.told c.act.new.self)))
+    (MakesAt (λ y. e.is_at setup y c.act.new.engine) setup event x (e.told c.args.engine.now) (e.told c.act.new.engine)))
     (sym c.in-Move.is) (c.act.ensures.made setup x at)
 
 pub returns-in-CheckIn-clause-made : goal.returns-in-CheckIn-clause-made
@@ -33,8 +33,11 @@ returns-in-Decide-clause-made g c = λ setup x at.
     let e = g.E.Engine in
     subst
     (λ event. IfOk c.decide.result
-    (MakesAt (λ y. e.is_at setup y c.decide.new.engine) setup event x (e.told c.args.engine.now) (e.told c.decide.new.engine)))
+    (MakesAt (λ y. e.is_at setup y c.decide.new.self) setup event x (e.told c.args.engine.now) (e.told c.decide.new.self)))
     (sym c.in-Decide.is) (c.decide.ensures.made setup x at)
+
+pub returns-in-Decide-clause-decides : goal.returns-in-Decide-clause-decides
+returns-in-Decide-clause-decides g c = λ is. (c.in-Decide.k, c.in-Decide.is)
 
 pub returns-in-Withdraw-clause-made : goal.returns-in-Withdraw-clause-made
 returns-in-Withdraw-clause-made g c = λ setup x at.

@@ -2,7 +2,7 @@ use Rattle.std.proofs.Common.{◌∙◌, ◌+◌, ap, length, refl, subst, sym, 
 use Rattle.source_model.specs.Guards.{first_guard}
 use Rattle.dsu_runs.specs.Solo.{RanSolo}
 use Rattle.dsu_runs.proofs.Happening.{any_are_rows, any_rules}
-use Rattle.dsu_runs.proofs.Soloing.{failed, finished, lacks, no_room, none_next, one_more, room_taken, starts, waits}
+use Rattle.dsu_runs.proofs.Soloing.{came_to_nothing, failed, finished, lacks, no_room, none_next, one_more, room_taken, starts, waits}
 use Rattle.dsu_runs.proofs.solo_run.solo.Goals as goal
 
 pub returns-in_default : goal.returns-in_default
@@ -49,9 +49,13 @@ returns-in-CannotHappen g c = λ setup start.
     let at = c.loop-turn.invariant.going setup start in
     let seats =
     c.seats_fit_their_slots.ensures any_rules setup old.running.history.items at.guard (at.came.legal any_rules any_are_rows) in
+    let turned = c.act.ensures.turned setup at.guard at.last at.there seats.count at.first in
+    let nothing =
+    came_to_nothing setup (e.is_at setup) e.told e.faults c.args.engine c.args.moves old new c.act.result at c.act.ensures.kept turned
+    c.in-CannotHappen.is in
     let now =
     waits setup (e.is_at setup) e.told e.faults c.args.engine c.args.moves old new c.act.result at c.act.ensures.kept
-    (c.act.ensures.turned setup at.guard at.last at.there seats.count at.first) c.in-CannotHappen.is in
+    turned nothing in
     let seats_now =
     c.seats_fit_their_slots.ensures any_rules setup new.running.history.items now.0.guard (now.0.came.legal any_rules any_are_rows) in
     subst (RanSolo setup (e.is_at setup) e.told e.faults c.args.engine c.args.moves)

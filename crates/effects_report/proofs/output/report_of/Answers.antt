@@ -1,8 +1,13 @@
-use Rattle.std.proofs.Common.{length}
+use Rattle.std.proofs.Common.{List, ◌≤◌, length, map, subst, sym}
+use Rattle.name_sets.specs.Limit.{most_names}
+use Rattle.name_sets.specs.NameLists.{name_set}
+use Rattle.c_tree.specs.Bare.{bare_def}
+use Rattle.c_tree.specs.declared.def.Def.{Def}
 use Rattle.c_semantics.specs.SourceTexts.{text_of}
-use Rattle.c_semantics.specs.Texts.{definition}
+use Rattle.c_semantics.specs.Texts.{definition, names}
 use Rattle.check_in_places.specs.CheckIns.{functions}
 use Rattle.effects_report.proofs.Assembled.{report_is, report_ready}
+use Rattle.effects_report.proofs.FewNames.{few_names}
 use Rattle.effects_report.proofs.output.report_of.Goals as goal
 
 pub returns-clause-blocks : goal.returns-clause-blocks
@@ -16,3 +21,6 @@ returns-clause-ready c =
     let bodies = c.in_ok-bodies.bodies in
     report_ready c.in_ok-names.names (definition (text_of c.args.program.now).definitions) (length c.args.text.now) (functions c.args.program.now)
     bodies.sections.items 0 c.in_ok-bodies.ensures.sections
+
+pub names_of-requires : goal.names_of-requires
+names_of-requires c = subst {A = List Def} (λ ds. length (name_set (names (map bare_def ds))) ≤ most_names) (sym c.as_slice.ensures) (few_names c.args.program.now c.requires)

@@ -12,4 +12,4 @@ returns c = λ q.
     let b = bare_array c.args.array.now in
     let own = c.args.array.now.name.text in
     subst {A = List ℕ} (λ name. IsMadeFrom a b q (change.Global name c.array_change.result)) (sym c.in_ok-name.ensures.cases)
-    (global_made a b own q (given_value q own) c.array_change.result refl refl (c.array_change.ensures (given_value q own)))
+    (global_made a b own q (given_value q own) c.array_change.result refl refl refl (c.array_change.ensures (given_value q own)))

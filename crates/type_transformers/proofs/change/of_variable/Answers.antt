@@ -17,4 +17,4 @@ returns c =
     c.value_given-given.ensures ∙ ap (given_value q) c.as_str.ensures
     in
     subst {A = List ℕ} (λ name. IsMadeFrom a b q (change.Global name c.in_ok-change.change)) (sym c.in_ok-name.ensures.cases)
-    (global_made a b own q (option_map bare_expr (option_copied c.value_given-given.result)) c.in_ok-change.change refl given c.in_ok-change.ensures)
+    (global_made a b own q (option_map bare_expr (option_copied c.value_given-given.result)) c.in_ok-change.change refl refl given c.in_ok-change.ensures)

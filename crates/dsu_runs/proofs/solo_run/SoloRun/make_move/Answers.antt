@@ -10,7 +10,7 @@ returns-in-Done-clause-turned g c = λ setup x goes at.
     let made = c.make-step.ensures in
     moves_on (e.is_at setup) e.told setup x old c.make-step.new.self c.args.slot c.make-step.result c.requires.left
     (was_made c.make-step.result CannotHappen c.in-Done.is (inl refl))
-    (was_made c.make-step.result Memory c.in-Done.is (inr refl))
+    (was_made c.make-step.result Memory c.in-Done.is (inr (inl refl)))
     (made.made setup x goes.there, made.history, made.moves)
 
 pub returns-in-CannotHappen-clause-turned : goal.returns-in-CannotHappen-clause-turned
