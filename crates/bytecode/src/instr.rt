@@ -43,8 +43,8 @@ pub enum Instr {
     JumpUnlessZero(u32),
     /// A stop other than a back edge, with its point.
     Halt(Stop, u32),
-    /// The back edge of a loop that begins so many instructions before, with its point.
-    Back(u32, u32),
+    /// The back edge of a loop that begins so many instructions before, with its point and the number of variables in scope.
+    Back(u32, u32, u32),
     /// A check-in, with its point.
     CheckIn(CheckInKind, u32),
 }

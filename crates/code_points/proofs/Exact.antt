@@ -7,7 +7,7 @@ use Rattle.c_semantics.specs.Stops as stop
 use Rattle.c_semantics.specs.Skeletons.{Flow, Part, union}
 use Rattle.bytecode.specs.Instructions.{Instruction, Jump, Halt, Back, CheckIn}
 use Rattle.tree_code.specs.Code.{Code}
-use Rattle.tree_code.proofs.CodePlaces.{Span, next}
+use Rattle.tree_code.proofs.CodePlaces.{Span}
 use Rattle.code_points.specs.CodePoints.{CodePoint, point_of}
 use Rattle.code_points.specs.CodeWays.{GoesFrom, Ways, arrives, checked_in, distance_of, goes_on, leaps, steps, stopped, turned}
 use Rattle.code_points.proofs.Sets.{In, here, in_left, in_one, in_right, nothing_in, the_only}
@@ -169,14 +169,14 @@ module _ (code : Code) where
   same_start : (q r d : ℕ) {p : ℕ} → q + d ≡ p → r + d ≡ p → q ≡ r
   same_start q r d e f = omega (arith, e, f)
 
-  pub back_row : {p q : ℕ} {to : List ℕ} (d n : ℕ) → q + d ≡ p → From q to → RowAt p (Back d n) to
-  back_row {p} {q} {to} d n e f = record {
+  pub back_row : {p q : ℕ} {to : List ℕ} (d n v : ℕ) → q + d ≡ p → From q to → RowAt p (Back d n v) to
+  back_row {p} {q} {to} d n v e f = record {
     sound = λ b g. f.sound b (way b g);
-    complete = λ b j. turned d n q b e (f.complete b j);
+    complete = λ b j. turned d n v q b e (f.complete b j);
   }
     where
-      way : (b : ℕ) → GoesFrom code p (Back d n) b → Ways code q b
-      way b (turned c m r x g w) = subst (λ y. Ways code y b) (same_start r q d g e) w
+      way : (b : ℕ) → GoesFrom code p (Back d n v) b → Ways code q b
+      way b (turned c m u r x g w) = subst (λ y. Ways code y b) (same_start r q d g e) w
 
   -- ---- rows
 

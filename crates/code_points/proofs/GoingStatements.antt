@@ -9,7 +9,7 @@ use Rattle.c_semantics.specs.Points.{size, size_if, size_stmt, size_stmts}
 use Rattle.c_semantics.specs.Skeletons.{Flow, Part, Targets, union, before, both, expression, expression_if, goes, on_to, pass, point, skeleton}
 use Rattle.c_semantics.specs.Skeletons as skeleton
 use Rattle.c_semantics.specs.Stops as stop
-use Rattle.typed_trees.specs.ValueTypes.{Environment}
+use Rattle.typed_trees.specs.ValueTypes.{Environment, in_scope}
 use Rattle.typed_trees.specs.StatementTypes.{with_variable, declares, declare_all, jumps, some_jump}
 use Rattle.bytecode.specs.Instructions.{Jump, Halt, Back, CheckIn}
 use Rattle.tree_code.specs.Code.{Code, condition_code, effect_if, guarded, guarded_if, looping, negated, statement, statements, turning, unless_jump}
@@ -30,8 +30,8 @@ unless_forks : (o : Option Expression) (d : ℕ) → Forks (unless_jump o d) d
 unless_forks None d = record { none = refl; far = refl; on = refl }
 unless_forks (Some a) d = record { none = refl; far = refl; on = refl }
 
-back_rests : (d n : ℕ) → Rests (Back d n) n
-back_rests d n = record { point = record { number = n; kind = kind.Back }; is_point = refl; numbered = refl; near = refl; stays = never }
+back_rests : (d n v : ℕ) → Rests (Back d n v) n
+back_rests d n v = record { point = record { number = n; kind = kind.Back }; is_point = refl; numbered = refl; near = refl; stays = never }
 
 -- a test before a flow, with where control goes if it fails
 abbrev tested : Expression → ℕ → Flow → List ℕ → Flow
@@ -63,18 +63,18 @@ module _ (code : Code) where
   reached {p} {q} {to} e f = subst (λ x. From code x to) e f
 
   -- a back edge
-  record Edge (p start end d b : ℕ) : Type 0 where
+  record Edge (p start end d b v : ℕ) : Type 0 where
     edge : From code p (b ∷ [])
     behind : end ≡ suc p
-    row : (to : List ℕ) → From code start to → Rows code p (Back d b ∷ []) (to ∷ [])
+    row : (to : List ℕ) → From code start to → Rows code p (Back d b v ∷ []) (to ∷ [])
 
-  edge_of : (p start end d b : ℕ) → start + d ≡ p → Span code p (Back d b ∷ []) end → Edge p start end d b
-  edge_of p start end d b e s =
-      let x = next code p (Back d b) [] end s in
+  edge_of : (p start end d b v : ℕ) → start + d ≡ p → Span code p (Back d b v ∷ []) end → Edge p start end d b v
+  edge_of p start end d b v e s =
+      let x = next code p (Back d b v) [] end s in
       record {
-        edge = arrived code (Back d b) (back_rests d b) x.stands;
+        edge = arrived code (Back d b v) (back_rests d b v) x.stands;
         behind = nothing_between code (suc p) end x.later;
-        row = λ to f. at_point p (Back d b) (record { number = b; kind = kind.Back }) [] to [] refl (back_row code d b e f) (done (suc p));
+        row = λ to f. at_point p (Back d b v) (record { number = b; kind = kind.Back }) [] to [] refl (back_row code d b v e f) (done (suc p));
       }
 
   module _ (look : Definitions) where
@@ -133,8 +133,8 @@ module _ (code : Code) where
     turning_along env test t turn stepped b body step inner jump broken continued turns steps p end k s h out =
         let is = turn ++ stepped in
         let g = guarded_if look env test t is 1 in
-        let x = halves code p g (Back (length g) b ∷ []) end s in
-        let e = edge_of x.middle p end (length g) b (sym x.first.ends) x.second in
+        let x = halves code p g (Back (length g) b (length (in_scope env)) ∷ []) end s in
+        let e = edge_of x.middle p end (length g) b (length (in_scope env)) (sym x.first.ends) x.second in
         let behind = step (b ∷ []) in
         let targets : Targets = record { on = behind.first; broken = k.on; continued = behind.first } in
         let whole = skeleton.guarded test t (body targets) k.on in
@@ -151,7 +151,7 @@ module _ (code : Code) where
         let first = subst (λ to. From code p to) (loop_first test t (body targets) k.on behind.next) w.first in
         record {
           first = first;
-          rows = subst (λ r. Rows code p (g ++ Back (length g) b ∷ []) r) (loop_rows test t (body targets) k.on behind.next (whole.first ∷ []))
+          rows = subst (λ r. Rows code p (g ++ Back (length g) b (length (in_scope env)) ∷ []) r) (loop_rows test t (body targets) k.on behind.next (whole.first ∷ []))
               (rows_behind code x.first.ends w.rows (e.row whole.first first));
         }
 
@@ -159,15 +159,15 @@ module _ (code : Code) where
         (inner jump : Bool) (broken continued : ℕ)
         → let test = condition_code look env c (negated c) m ++ unless_jump (negated c) 1 ∷ [] in
         Leaves turn inner (suc (length test)) 0 body
-        → Leaves (looping (turn ++ test) b) jump broken continued (skeleton.do_loop body (expression c m) b)
+        → Leaves (looping env (turn ++ test) b) jump broken continued (skeleton.do_loop body (expression c m) b)
     do_along env c m turn b body inner jump broken continued turns p end k s h out =
         let condition = condition_code look env c (negated c) m in
         let leave = unless_jump (negated c) 1 in
         let forks = unless_forks (negated c) 1 in
         let test = condition ++ leave ∷ [] in
         let is = turn ++ test in
-        let x = halves code p is (Back (length is) b ∷ []) end s in
-        let e = edge_of x.middle p end (length is) b (sym x.first.ends) x.second in
+        let x = halves code p is (Back (length is) b (length (in_scope env)) ∷ []) end s in
+        let e = edge_of x.middle p end (length is) b (length (in_scope env)) (sym x.first.ends) x.second in
         let y = halves code p turn test x.middle x.first in
         let z = halves code y.middle condition (leave ∷ []) x.middle y.second in
         let j = next code z.middle leave [] x.middle z.second in

@@ -7,3 +7,4 @@ pub mod Going
 pub mod GoingExpressions
 pub mod GoingStatements
 pub mod Leading
+pub mod Steps

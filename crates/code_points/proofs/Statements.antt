@@ -9,7 +9,7 @@ use Rattle.c_semantics.specs.Texts.{Definitions}
 use Rattle.c_semantics.specs.Resolved.{Expression, Statement, Statements, Block, Empty, Evaluate, Declare, If, IfElse, While, DoWhile, For, Break, Continue, Return, UpdatePoint, Transaction, NoStatements, StatementThen}
 use Rattle.c_semantics.specs.Points.{at_depth, evaluated, evaluated_if, of_statement, of_statements, of_body, size, size_if, size_stmt, size_stmts}
 use Rattle.c_semantics.specs.Stops as stop
-use Rattle.typed_trees.specs.ValueTypes.{Environment}
+use Rattle.typed_trees.specs.ValueTypes.{Environment, in_scope}
 use Rattle.typed_trees.specs.StatementTypes.{with_variable, declares, declare_all}
 use Rattle.bytecode.specs.Instructions.{Store, Jump, Halt, Back, CheckIn}
 use Rattle.tree_code.specs.Code.{Code, condition_code, effect_if, guarded, guarded_if, initial, looping, negated, statement, statements, slot, turning, unless_jump, zero_code, body_code}
@@ -32,8 +32,8 @@ one_on : (n : ℕ) → suc n ≡ n + 1
 one_on n = omega arith
 
 -- some code, and a back edge to its beginning
-looping_points : {n b : ℕ} {a : Code} {ps : Points} → Covers n a ps b → Covers n (looping a b) (λ d. ps d ++ at_depth d kind.Back ∷ []) (suc b)
-looping_points {n} {b} {a} {ps} f = joined f (at_depths (point_then (Back (length a) b) kind.Back refl (λ d. refl) (nothing (suc b))))
+looping_points : {n b : ℕ} {a : Code} {ps : Points} (env : Environment) → Covers n a ps b → Covers n (looping env a b) (λ d. ps d ++ at_depth d kind.Back ∷ []) (suc b)
+looping_points {n} {b} {a} {ps} env f = joined f (at_depths (point_then (Back (length a) b (length (in_scope env))) kind.Back refl (λ d. refl) (nothing (suc b))))
 
 module _ (look : Definitions) where
   -- ---- parts of statements
@@ -85,12 +85,12 @@ module _ (look : Definitions) where
         (statement_points env s m (passed + broken) (passed + continued))))
         (statement_points env t _ broken continued))
     statement_points env (While c s) n broken continued =
-        closed (looping_points (guarded_points env c n 1
+        closed (looping_points env (guarded_points env c n 1
         (ending (sym (none_more _)) (then_pass [] nothing (statement_points env s _ 1 0)))))
     statement_points env (DoWhile s c) n broken continued =
         let m = n + size_stmt s in
         let test = condition_code look env c (negated c) m ++ unless_jump (negated c) 1 ∷ [] in
-        closed (looping_points (joined (statement_points env s n (suc (length test)) 0)
+        closed (looping_points env (joined (statement_points env s n (suc (length test)) 0)
         (at_depths (then_quiet (unless_jump (negated c) 1 ∷ []) (quiet_then (unless_jump (negated c) 1) (unless_is_none (negated c) 1) nothing)
         (condition_points look env c m)))))
     statement_points env (For first test step s) n broken continued =
@@ -103,7 +103,7 @@ module _ (look : Definitions) where
         closed (same (λ d. of_statement d (For first test step s))
         (λ d. in_order (of_statements d first) (evaluated_if d test) (of_statement d s) (evaluated_if d step) (at_depth d kind.Back ∷ []))
         (joined (statements_points ([] ∷ env) first n (length turns + broken) (length turns + continued))
-        (looping_points (guarded_if_points inner test t 1
+        (looping_points inner (guarded_if_points inner test t 1
         (joined (statement_points inner s m (suc (length stepped)) 0) (effect_if_points inner step p))))))
     statement_points env Break n broken continued = closed (at_depths (quiet_then (Jump broken) refl nothing n))
     statement_points env Continue n broken continued = closed (at_depths (quiet_then (Jump continued) refl nothing n))

@@ -15,7 +15,7 @@ pub record CodePoint : Type 0 where
 -- the point that an instruction is, if it is one
 abbrev pub point_of : Instruction → Option CodePoint
 point_of (Halt s n) = Some (record { number = n; kind = kind_of s })
-point_of (Back d n) = Some (record { number = n; kind = kind.Back })
+point_of (Back d n v) = Some (record { number = n; kind = kind.Back })
 point_of (CheckIn k n) = Some (record { number = n; kind = kind.CheckIn k })
 point_of _ = None
 

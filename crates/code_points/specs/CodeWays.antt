@@ -17,7 +17,7 @@ distance_of _ = None
 abbrev pub goes_on : Instruction → Bool
 goes_on (Jump d) = false
 goes_on (Halt s n) = false
-goes_on (Back d n) = false
+goes_on (Back d n v) = false
 goes_on (CheckIn k n) = false
 goes_on _ = true
 
@@ -30,7 +30,7 @@ pub data Ways (code : Code) : ℕ → ℕ → Type 0 where
 -- from a point at a place control may go to another: from a return to none, from a back edge from its loop's beginning
 pub data GoesFrom (code : Code) (p : ℕ) : Instruction → ℕ → Type 0 where
   stopped : (s : Stop) (n b : ℕ) → s ≢ Return → Ways code (suc p) b → GoesFrom code p (Halt s n) b
-  turned : (d n q b : ℕ) → q + d ≡ p → Ways code q b → GoesFrom code p (Back d n) b
+  turned : (d n v q b : ℕ) → q + d ≡ p → Ways code q b → GoesFrom code p (Back d n v) b
   checked_in : (k : CheckInKind) (n b : ℕ) → Ways code (suc p) b → GoesFrom code p (CheckIn k n) b
 
 -- control may go from point a of some code to point b without a point between

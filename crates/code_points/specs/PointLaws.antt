@@ -8,9 +8,10 @@ use Rattle.c_semantics.specs.Resolved.{Statements}
 use Rattle.c_semantics.specs.Points.{of_body}
 use Rattle.c_semantics.specs.Skeletons.{skeleton}
 use Rattle.typed_trees.specs.StatementTypes.{some_jump}
-use Rattle.tree_code.specs.Code.{body_code}
+use Rattle.bytecode.specs.Meaning.{State, Runs}
+use Rattle.tree_code.specs.Code.{Code, body_code}
 use Rattle.code_points.specs.CodePoints.{points_from, Numbered}
-use Rattle.code_points.specs.CodeWays.{CodeLeads}
+use Rattle.code_points.specs.CodeWays.{CodeLeads, Ways}
 
 -- a function's code has the points of its tree, in order
 abbrev pub CodeHasPointsOfTree : Type 0
@@ -32,3 +33,7 @@ CodeGoesAlongSkeleton =
     → some_jump body ≡ false
     → (CodeLeads (body_code look parameters result body) a b → Leads (skeleton body) a b)
     × (Leads (skeleton body) a b → CodeLeads (body_code look parameters result body) a b)
+
+-- where private instructions come from one state of code to another, what comes next in the second comes next in the first
+abbrev pub StepsGoAlongWays : Type 0
+StepsGoAlongWays = (code : Code) (s t : State) (n : ℕ) → Runs code s t → Ways code t.place n → Ways code s.place n

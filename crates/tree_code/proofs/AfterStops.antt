@@ -13,15 +13,15 @@ use Rattle.tree_code.specs.CodeLaws.{CodeGoesOnAfterStops}
 halt_no_jump : (o : Option Instruction) (s : Stop) (n d : ℕ) → o ≡ Some (Halt s n) → o ≡ Some (Jump d) → ⊥
 halt_no_jump o s n d e f = cc
 
-back_no_jump : (o : Option Instruction) (b n d : ℕ) → o ≡ Some (Back b n) → o ≡ Some (Jump d) → ⊥
-back_no_jump o b n d e f = cc
+back_no_jump : (o : Option Instruction) (b n v d : ℕ) → o ≡ Some (Back b n v) → o ≡ Some (Jump d) → ⊥
+back_no_jump o b n v d e f = cc
 
-same_back : (o : Option Instruction) (b d n : ℕ) → o ≡ Some (Back b n) → o ≡ Some (Back d n) → b ≡ d
-same_back o b d n e f = cc
+same_back : (o : Option Instruction) (b d n v w : ℕ) → o ≡ Some (Back b n v) → o ≡ Some (Back d n w) → b ≡ d
+same_back o b d n v w e f = cc
 
 -- at a stop there is no jump
 no_jump : (code : Code) (s : Stop) (n p q d : ℕ) → Stops code s n p q → slice_get code p ≡ Some (Jump d) → ⊥
-no_jump code stop.Back n p q d h e = back_no_jump (slice_get code p) h.0 n d h.2 e
+no_jump code stop.Back n p q d h e = back_no_jump (slice_get code p) h.0 n h.1 d h.3 e
 no_jump code s n p q d h e = halt_no_jump (slice_get code p) s n d h.0 e
 
 stays : (code : Code) (s : Stop) (n p q r : ℕ) → Stops code s n p q → Reaches code p r → r ≡ p
@@ -34,7 +34,7 @@ checked_once code None n p q r h g = h ∙ sym g
 checked_once code (Some kind) n p q r h g = h.1 ∙ sym g.1
 
 once : (code : Code) (s : Stop) (n p q r : ℕ) → Stops code s n p q → Stops code s n p r → q ≡ r
-once code stop.Back n p q r h g = back_to q r h.0 g.0 (same_back (slice_get code p) h.0 g.0 n h.2 g.2) h.1 g.1
+once code stop.Back n p q r h g = back_to q r h.0 g.0 (same_back (slice_get code p) h.0 g.0 n h.1 g.1 h.3 g.3) h.2 g.2
   where
     back_to : (q r d e : ℕ) → d ≡ e → q + d ≡ p → r + e ≡ p → q ≡ r
     back_to q r d e same h g = omega (arith, same, h, g)

@@ -4,7 +4,7 @@ use Rattle.c_semantics.specs.Texts.{Definitions}
 use Rattle.c_semantics.specs.Resolved.{Expression, Statement}
 use Rattle.c_semantics.specs.Points.{size, size_stmt}
 use Rattle.c_semantics.specs.Pieces.{Loop, back_at}
-use Rattle.typed_trees.specs.ValueTypes.{Environment}
+use Rattle.typed_trees.specs.ValueTypes.{Environment, in_scope}
 use Rattle.bytecode.specs.Instructions.{Back}
 use Rattle.tree_code.specs.Code.{Code, condition_code, guarded, looping, negated, turning, unless_jump}
 use Rattle.tree_code.specs.CodedPieces.{HasAt, do_test, do_turn, edge_place, end_place, guard_length, loop_code, step_code, turn_code}
@@ -42,19 +42,19 @@ guard_of code look env e n inside further p end s =
     on m l e = omega (arith, e)
 
 -- some code with a back edge to its beginning
-pub record Round (code : Code) (start : ℕ) (inside : Code) (b end : ℕ) : Type 0 where
+pub record Round (code : Code) (env : Environment) (start : ℕ) (inside : Code) (b end : ℕ) : Type 0 where
   pub inner : Span code start inside end
-  pub back : slice_get code end ≡ Some (Back (length inside) b)
+  pub back : slice_get code end ≡ Some (Back (length inside) b (length (in_scope env)))
 
-pub round_of : (code : Code) (start : ℕ) (inside : Code) (b : ℕ) → HasAt code start (looping inside b)
-    → Round code start inside b (start + length inside)
-round_of code start inside b has =
-    let back = Back (length inside) b ∷ [] in
+pub round_of : (code : Code) (env : Environment) (start : ℕ) (inside : Code) (b : ℕ) → HasAt code start (looping env inside b)
+    → Round code env start inside b (start + length inside)
+round_of code env start inside b has =
+    let back = Back (length inside) b (length (in_scope env)) ∷ [] in
     let all = start + length (inside ++ back) in
     let h = halves code start inside back all (whole code start (inside ++ back) has) in
     record {
       inner = subst (Span code start inside) h.first.ends h.first;
-      back = subst (λ x. slice_get code x ≡ Some (Back (length inside) b)) h.first.ends h.second.has.0;
+      back = subst (λ x. slice_get code x ≡ Some (Back (length inside) b (length (in_scope env)))) h.first.ends h.second.has.0;
     }
 
 -- the parts of a loop with its test
@@ -63,13 +63,13 @@ pub record Parts (code : Code) (look : Definitions) (env : Environment) (test : 
   pub step_is :
       Span code (start + guard_length look env test n + length body) stepped (start + guard_length look env test n + length body + length stepped)
   pub distance : ℕ
-  pub back : slice_get code (start + guard_length look env test n + length body + length stepped) ≡ Some (Back distance b)
+  pub back : slice_get code (start + guard_length look env test n + length body + length stepped) ≡ Some (Back distance b (length (in_scope env)))
   pub round : start + distance ≡ start + guard_length look env test n + length body + length stepped
 
 pub parts_of : (code : Code) (look : Definitions) (env : Environment) (test : Option Expression) (n : ℕ) (body stepped : Code) (b start : ℕ)
     → HasAt code start (turning look env test n body stepped b) → Parts code look env test n body stepped b start
 parts_of code look env None n body stepped b start has =
-    let r = round_of code start (body ++ stepped) b has in
+    let r = round_of code env start (body ++ stepped) b has in
     let h = halves code start body stepped (start + length (body ++ stepped)) r.inner in
     let at = at_first (length body) h.first.ends in
     let stop = at_last (length body) (length stepped) h.middle h.first.ends h.second.ends in
@@ -77,7 +77,7 @@ parts_of code look env None n body stepped b start has =
       body_is = record { has = subst (λ x. HasAt code x body) (sym (none start)) h.first.has; ends = refl };
       step_is = record { has = subst (λ x. HasAt code x stepped) at h.second.has; ends = refl };
       distance = length (body ++ stepped);
-      back = subst (λ x. slice_get code x ≡ Some (Back (length (body ++ stepped)) b)) stop r.back;
+      back = subst (λ x. slice_get code x ≡ Some (Back (length (body ++ stepped)) b (length (in_scope env)))) stop r.back;
       round = stop;
     }
   where
@@ -92,7 +92,7 @@ parts_of code look env None n body stepped b start has =
 parts_of code look env (Some e) n body stepped b start has =
     let inside = guarded look env e n (body ++ stepped) 1 in
     let g = length (condition_code look env e (negated e) n) in
-    let r = round_of code start inside b has in
+    let r = round_of code env start inside b has in
     let x = guard_of code look env e n (body ++ stepped) 1 start (start + length inside) r.inner in
     let h = halves code (suc x.middle) body stepped (start + length inside) x.inner in
     let at = at_first g (length body) (suc x.middle) x.starts h.first.ends in
@@ -101,7 +101,7 @@ parts_of code look env (Some e) n body stepped b start has =
       body_is = record { has = subst (λ z. HasAt code z body) x.starts h.first.has; ends = refl };
       step_is = record { has = subst (λ z. HasAt code z stepped) at h.second.has; ends = refl };
       distance = length inside;
-      back = subst (λ z. slice_get code z ≡ Some (Back (length inside) b)) stop r.back;
+      back = subst (λ z. slice_get code z ≡ Some (Back (length inside) b (length (in_scope env)))) stop r.back;
       round = stop;
     }
   where
@@ -124,7 +124,7 @@ pub guarded_of : (code : Code) (look : Definitions) (env : Environment) (e : Exp
     → HasAt code start (turning look env (Some e) n body stepped b) → Guarded code look env e n body stepped start
 guarded_of code look env e n body stepped b start has =
     let inside = guarded look env e n (body ++ stepped) 1 in
-    let r = round_of code start inside b has in
+    let r = round_of code env start inside b has in
     let x = guard_of code look env e n (body ++ stepped) 1 start (start + length inside) r.inner in
     record {
       middle = x.middle;
@@ -147,15 +147,15 @@ pub record DoParts (code : Code) (look : Definitions) (env : Environment) (s : S
   pub jump : slice_get code middle ≡ Some (unless_jump (negated e) 1)
   pub edge : suc middle ≡ start + length (do_turn look env s e n) + length (do_test look env s e n)
   pub distance : ℕ
-  pub back : slice_get code (start + length (do_turn look env s e n) + length (do_test look env s e n)) ≡ Some (Back distance (n + size_stmt s + size e))
+  pub back : slice_get code (start + length (do_turn look env s e n) + length (do_test look env s e n)) ≡ Some (Back distance (n + size_stmt s + size e) (length (in_scope env)))
   pub round : start + distance ≡ start + length (do_turn look env s e n) + length (do_test look env s e n)
 
 pub do_parts_of : (code : Code) (look : Definitions) (env : Environment) (s : Statement) (e : Expression) (n start : ℕ)
-    → HasAt code start (looping (do_turn look env s e n ++ do_test look env s e n) (n + size_stmt s + size e)) → DoParts code look env s e n start
+    → HasAt code start (looping env (do_turn look env s e n ++ do_test look env s e n) (n + size_stmt s + size e)) → DoParts code look env s e n start
 do_parts_of code look env s e n start has =
     let turn = do_turn look env s e n in
     let test = do_test look env s e n in
-    let r = round_of code start (turn ++ test) (n + size_stmt s + size e) has in
+    let r = round_of code env start (turn ++ test) (n + size_stmt s + size e) has in
     let all = start + length (turn ++ test) in
     let h = halves code start turn test all r.inner in
     let condition = condition_code look env e (negated e) (n + size_stmt s) in
@@ -168,7 +168,7 @@ do_parts_of code look env s e n start has =
       jump = i.second.has.0;
       edge = after i.middle i.second.ends ∙ at;
       distance = length (turn ++ test);
-      back = subst (λ x. slice_get code x ≡ Some (Back (length (turn ++ test)) (n + size_stmt s + size e))) at r.back;
+      back = subst (λ x. slice_get code x ≡ Some (Back (length (turn ++ test)) (n + size_stmt s + size e) (length (in_scope env)))) at r.back;
       round = at;
     }
   where
@@ -184,8 +184,8 @@ pub loop_ends : (code : Code) (look : Definitions) (env : Environment) (l : Loop
 loop_ends code look env l p end s =
     s.ends ∙ of_test l.test
   where
-    inner : (is : Code) (b : ℕ) → length (looping is b) ≡ suc (length is)
-    inner is b = length-append is (Back (length is) b ∷ []) ∙ one_on (length is)
+    inner : (is : Code) (b : ℕ) → length (looping env is b) ≡ suc (length is)
+    inner is b = length-append is (Back (length is) b (length (in_scope env)) ∷ []) ∙ one_on (length is)
       where
         one_on : (a : ℕ) → a + 1 ≡ suc a
         one_on a = omega arith
@@ -209,12 +209,12 @@ loop_ends code look env l p end s =
         behind g a b d e f = omega (arith, d, e, f)
 
 pub do_ends : (code : Code) (look : Definitions) (env : Environment) (s : Statement) (e : Expression) (n p end : ℕ)
-    → Span code p (looping (do_turn look env s e n ++ do_test look env s e n) (n + size_stmt s + size e)) end → end ≡ suc (edge_place look env s e n p)
+    → Span code p (looping env (do_turn look env s e n ++ do_test look env s e n) (n + size_stmt s + size e)) end → end ≡ suc (edge_place look env s e n p)
 do_ends code look env s e n p end x =
     let inside = do_turn look env s e n ++ do_test look env s e n in
     x.ends
     ∙ whole_is (length (do_turn look env s e n)) (length (do_test look env s e n)) (length-append (do_turn look env s e n) (do_test look env s e n))
-    (length-append inside (Back (length inside) (n + size_stmt s + size e) ∷ []))
+    (length-append inside (Back (length inside) (n + size_stmt s + size e) (length (in_scope env)) ∷ []))
   where
     whole_is : (l k : ℕ) {y z : ℕ} → y ≡ l + k → z ≡ y + 1 → p + z ≡ suc (p + l + k)
     whole_is l k e f = omega (arith, e, f)

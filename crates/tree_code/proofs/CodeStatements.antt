@@ -9,7 +9,7 @@ use Rattle.c_semantics.specs.Stops as stop
 use Rattle.c_semantics.specs.Pieces.{Loop, Piece, back_at, body_at, step_at, Then, ThenElse, Turn, Repeat, Do, Close, LoopTest, AfterBody, BackEdge, Until}
 use Rattle.c_semantics.specs.Evaluation.{Next, Ways, back_edge, choose, close_scope, closing, drop, loop_of, loop_test, looped, only, repeated, set, stepped, stop_at, tested, until}
 use Rattle.c_semantics.specs.Evaluation as ev
-use Rattle.typed_trees.specs.ValueTypes.{Environment}
+use Rattle.typed_trees.specs.ValueTypes.{Environment, in_scope}
 use Rattle.typed_trees.specs.ExpressionTypes.{IsScalar}
 use Rattle.typed_trees.specs.StatementTypes.{ConditionIf, IsPart, StatementTyped, TypedIf, declares, jumps}
 use Rattle.typed_trees.specs.PieceTypes.{DoTyped, Inside, LoopTyped, Stack}
@@ -177,7 +177,7 @@ module _ (c : Setting) where
       record {
         coded = (t, (back, there back, (start, x, refl, f)));
         ready =
-            (stop_fine c stop.Back (back_at l) (LoopTest l ∷ ps) stack env back start (y.distance, y.round, y.back)
+            (stop_fine c stop.Back (back_at l) (LoopTest l ∷ ps) stack env back start (y.distance, length (in_scope env), y.round, y.back)
             (t, (start, there start, (x, f)))).ready;
       }
 
@@ -294,10 +294,10 @@ module _ (c : Setting) where
         ends =
             whole_is (length (do_turn c.look env s e n)) (length (do_test c.look env s e n))
             (length-append (do_turn c.look env s e n) (do_test c.look env s e n))
-            (length-append inside (instruction.Back (length inside) (n + size_stmt s + size e) ∷ []));
+            (length-append inside (instruction.Back (length inside) (n + size_stmt s + size e) (length (in_scope env)) ∷ []));
         room = x.room;
       } in
-      (stop_fine c stop.Back (n + size_stmt s + size e) (Do (DoWhile s e) n ∷ ps) stack env edge start (y.distance, y.round, y.back)
+      (stop_fine c stop.Back (n + size_stmt s + size e) (Do (DoWhile s e) n ∷ ps) stack env edge start (y.distance, length (in_scope env), y.round, y.back)
       ((t.condition, t.body, t.part), (start, there start, (0, 0, suc edge, at, (λ j. absurd (never j)), f)))).ready
     where
       whole_is : (l k : ℕ) {y z : ℕ} → y ≡ l + k → z ≡ y + 1 → suc (start + l + k) ≡ start + z

@@ -142,7 +142,7 @@ abbrev counting : Statement
 counting = tree.While (tree.Binary Lt i (constant 10)) (tree.Evaluate (tree.Postfix int Add (tree.Local (codes "i"))))
 
 counting_code : statement look env counting 1 0 0
-    ≡ Load 0 ∷ int_word 10 ∷ Binary Lt I32 ∷ JumpIfZero 5 ∷ Load 0 ∷ int_word 1 ∷ Binary Add I32 ∷ Store 0 ∷ Back 8 1 ∷ []
+    ≡ Load 0 ∷ int_word 10 ∷ Binary Lt I32 ∷ JumpIfZero 5 ∷ Load 0 ∷ int_word 1 ∷ Binary Add I32 ∷ Store 0 ∷ Back 8 1 3 ∷ []
 counting_code = refl
 
 -- a turn rests at the back edge, and the last test ends the loop
@@ -168,7 +168,7 @@ leaving_code : statement look env leaving 1 0 0
     ∷ Load 1 ∷ JumpIfZero 1 ∷ Jump 3
     ∷ Load 0 ∷ JumpIfZero 1 ∷ Jump 5
     ∷ Load 0 ∷ int_word 1 ∷ Binary Add I32 ∷ Store 0
-    ∷ Back 14 1 ∷ []
+    ∷ Back 14 1 3 ∷ []
 leaving_code = refl
 
 -- through the body, by a `continue` to the step, by a `break` to the end

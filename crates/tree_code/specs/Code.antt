@@ -258,12 +258,12 @@ guarded_if look env None n inside further = inside
 guarded_if look env (Some c) n inside further = guarded look env c n inside further
 
 -- such code and a back edge to its beginning, which is the point b
-abbrev pub looping : Code → ℕ → Code
-looping inside b = inside ++ Back (length inside) b ∷ []
+abbrev pub looping : Environment → Code → ℕ → Code
+looping env inside b = inside ++ Back (length inside) b (length (in_scope env)) ∷ []
 
 -- a loop with its test, of the code of its body and of its step
 abbrev pub turning : Definitions → Environment → Option Expression → ℕ → Code → Code → ℕ → Code
-turning look env test n body stepped b = looping (guarded_if look env test n (body ++ stepped) 1) b
+turning look env test n body stepped b = looping env (guarded_if look env test n (body ++ stepped) 1) b
 
 -- the first value of a variable in its own scope
 abbrev pub initial : Definitions → Environment → BareType → Bytes → Option Expression → ℕ → Code
@@ -292,7 +292,7 @@ abbrev mutual
   statement look env (DoWhile s c) n broken continued =
       let m = n + size_stmt s in
       let test = condition_code look env c (negated c) m ++ unless_jump (negated c) 1 ∷ [] in
-      looping (statement look env s n (suc (length test)) 0 ++ test) (m + size c)
+      looping env (statement look env s n (suc (length test)) 0 ++ test) (m + size c)
   statement look env (For first test step s) n broken continued =
       let inner = declare_all first ([] ∷ env) in
       let t = n + size_stmts first in

@@ -72,7 +72,7 @@ CheckedIn code None n p q = q ≡ p
 CheckedIn code (Some kind) n p q = (slice_get code p ≡ Some (CheckIn kind (suc n))) × (q ≡ suc p)
 
 abbrev pub Stops : Code → Stop → ℕ → ℕ → ℕ → Type 0
-Stops code stop.Back n p q = (d : ℕ) × (q + d ≡ p) × (slice_get code p ≡ Some (Back d n))
+Stops code stop.Back n p q = (d v : ℕ) × (q + d ≡ p) × (slice_get code p ≡ Some (Back d n v))
 Stops code s n p q = (slice_get code p ≡ Some (Halt s n)) × CheckedIn code (check_in_after (kind_of s)) n (suc p) q
 
 -- ---- statements and loops at places
@@ -135,7 +135,7 @@ abbrev pub edge_place : Definitions → Environment → Statement → Expression
 edge_place look env s c n start = test_place look env s c n start + length (do_test look env s c n)
 
 pub record DoAt (code : Code) (most : ℕ) (look : Definitions) (env : Environment) (s : Statement) (c : Expression) (n start : ℕ) : Type 0 where
-  pub there : HasAt code start (looping (do_turn look env s c n ++ do_test look env s c n) (n + size_stmt s + size c))
+  pub there : HasAt code start (looping env (do_turn look env s c n ++ do_test look env s c n) (n + size_stmt s + size c))
   pub room : HasRoom most env s
 
 -- ---- pieces

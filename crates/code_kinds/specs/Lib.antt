@@ -1,0 +1,4 @@
+pub mod WordKinds
+pub mod StopKinds
+pub mod Shapes
+pub mod WellFormed

@@ -1,0 +1,9 @@
+pub mod Lists
+pub mod Below
+pub mod Meets
+pub mod Passes
+pub mod Tables
+pub mod Edges
+pub mod Following
+pub mod Taking
+pub mod Exclusive

@@ -1,0 +1,10 @@
+mod Lists
+mod Segments
+mod Instructions
+mod Words
+mod Branches
+mod Values
+mod Declared
+mod Bodies
+mod Whole
+mod Examples
