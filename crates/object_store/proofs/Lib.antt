@@ -1,0 +1,4 @@
+pub mod HandleMaps
+pub mod LiveObjects
+pub mod NamedObjects
+mod Examples

@@ -1,0 +1,4 @@
+pub mod FrameWords
+pub mod TurnLaws
+pub mod BurstLaws
+mod Examples

@@ -1,0 +1,4 @@
+pub mod Frames
+pub mod Heights
+pub mod Turns
+pub mod Bursts

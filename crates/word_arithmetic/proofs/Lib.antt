@@ -1,0 +1,2 @@
+pub mod WholeWords
+pub mod SignedResults
