@@ -1,0 +1,5 @@
+mod ConstantWords
+mod Limits
+mod Unbroken
+mod FineCode
+mod TextCode

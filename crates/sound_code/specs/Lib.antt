@@ -1,0 +1,3 @@
+pub mod StopWords
+pub mod Executable
+pub mod SoundLaws
