@@ -1,0 +1,4 @@
+pub mod DataMatches
+pub mod ThreadMatches
+pub mod WorldMatches
+pub mod MoveLaws

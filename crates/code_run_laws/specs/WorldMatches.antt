@@ -1,0 +1,33 @@
+-- When a state of a run of code stands for a world of the source machine.
+use Rattle.std.specs.Prelude.{◌≡◌, false, List, Contains, length, None}
+use Rattle.c_tree.specs.BareExpr.{Bytes}
+use Rattle.c_tree.specs.BareDef.{BareDef}
+use Rattle.c_semantics.specs.Texts.{definition}
+use Rattle.c_semantics.specs.Values.{ThreadRef}
+use Rattle.source_model.specs.Worlds.{World}
+use Rattle.typed_transformers.specs.TransformerTypes.{HasCells}
+use Rattle.typed_trees.specs.ExpressionTypes.{IsMutex}
+use Rattle.typed_runs.specs.TypedWorlds.{tags_of}
+use Rattle.bytecode.specs.Words.{Naming}
+use Rattle.object_store.specs.Naming.{Objects}
+use Rattle.code_runs.specs.CodeData.{Names, thread_word}
+use Rattle.code_runs.specs.CodeThreads.{CodeWorld}
+use Rattle.code_run_laws.specs.DataMatches.{DataMatches}
+use Rattle.code_run_laws.specs.ThreadMatches.{SlotsMatch}
+
+-- each text has its globals, arrays and mutexes among the numbered names
+pub record Numbers (names : Names) (text : List BareDef) : Type 0 where
+  pub cells : (name : Bytes) → HasCells (definition text name) → Contains names.cells name
+  pub mutexes : (name : Bytes) → IsMutex (definition text name) → Contains names.mutexes name
+
+-- it stands for a world, by the definitions of the versions so far. What threads do next is no matter once the run has ended
+pub record WorldMatches (texts : List (List BareDef)) (names : Names) (w : World) (own : CodeWorld) : Type 0 where
+  pub naming : Naming
+  pub threads_named : (r : ThreadRef) → naming.thread r ≡ thread_word r
+  pub objects : Objects
+  pub shared : DataMatches names naming objects w own.shared
+  pub count : length own.slots ≡ length w.slots
+  pub slots : w.finish ≡ None → SlotsMatch texts (tags_of w.objects) naming w.slots own.slots
+  pub threads : own.threads ≡ w.threads
+  pub finish : own.finish ≡ w.finish
+  pub used_well : w.misused ≡ false

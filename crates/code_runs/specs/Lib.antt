@@ -1,0 +1,5 @@
+pub mod CodeData
+pub mod CodeThreads
+pub mod SharedStops
+pub mod CodeMoves
+pub mod CodeWaits
