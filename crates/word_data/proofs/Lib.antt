@@ -1,0 +1,3 @@
+pub mod StackWords
+pub mod SharedChanges
+pub mod Creations

@@ -1,0 +1,4 @@
+pub mod Stacks
+pub mod Kept
+pub mod Resolved
+pub mod Performing

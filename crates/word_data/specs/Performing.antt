@@ -1,0 +1,50 @@
+-- What a stop came to, as the definitions of runs of code have it.
+use Rattle.std.specs.Prelude.{◌≡◌, ℕ, List, []}
+use Rattle.c_tree.specs.BareExpr.{Bytes}
+use Rattle.c_tree.specs.BareDef.{BareDef}
+use Rattle.c_semantics.specs.Stops.{Stop, Lock}
+use Rattle.object_store.specs.Handles.{creation_limit}
+use Rattle.program_locks.specs.declared.answer.LockAnswer.{LockAnswer}
+use Rattle.program_locks.specs.declared.answer.LockAnswer.TheVariants.{Done as LockDone, Waits as LockWaits}
+use Rattle.program_locks.specs.Locking.{holder_of, lock_answer}
+use Rattle.code_runs.specs.CodeData.{Data, Names, number_of}
+use Rattle.code_runs.specs.SharedStops as shared
+use Rattle.code_runs.specs.SharedStops.{Answered, Does, Done}
+use Rattle.word_data.specs.declared.stop.SharedStop.{SharedStop}
+use Rattle.word_data.specs.declared.stop.SharedStop.TheVariants.{New, Print}
+use Rattle.word_data.specs.declared.stop.Stack.{Stack}
+use Rattle.word_data.specs.declared.stop.Did.{Did}
+use Rattle.word_data.specs.declared.stop.Did.TheVariants.{On, Trap, Waits}
+use Rattle.word_data.specs.Stacks.{stack_at, stack_of}
+
+-- a stop was made, and what it came to is as a definition says: with what is shared after it, the words of the frame's stack in a row, and
+-- what it printed
+abbrev pub Made : Data → List ℕ → Stack → List ℕ → Did → (Done → Type 0) → Type 0
+Made new after stack printed (On height) means = means (record { shared = new; printed = printed; came = shared.On (stack_at after stack height) })
+Made new after stack printed (Trap kind) means = means (record { shared = new; printed = printed; came = shared.Traps kind })
+Made new after stack printed (Waits holder) means = ⊥
+
+-- nothing changes where a call on a mutex isn't made
+abbrev pub Settles : LockAnswer → Data → Data → Type 0
+Settles LockDone old new = Unit {0}
+Settles _ old new = new ≡ old
+
+-- a call on a mutex that has an answer: it is made, or the thread waits for the holder and nothing has changed
+abbrev pub Calls : LockAnswer → Data → Data → List ℕ → Stack → Did → List ℕ → Type 0
+Calls answer old new words stack (Waits holder) after = (answer ≡ LockWaits holder) × (new ≡ old) × (after ≡ words)
+Calls answer old new words stack did after = Made new after stack [] did (Answered answer old new (stack_of words stack))
+
+-- a stop of a thread in a slot, with these words before, and what it came to: it was made, or it is a lock that waits and nothing has
+-- changed
+abbrev pub Performs : Names → List BareDef → ℕ → Stop → Stack → Data → List ℕ → Did → Data → List ℕ → List ℕ → Type 0
+Performs names text slot stop stack old words (Waits holder) new after printed =
+    (name : Bytes) × ((stop ≡ Lock name) × (lock_answer (holder_of old.holders (number_of names.mutexes name)) slot ≡ LockWaits holder)
+    × (new ≡ old) × (after ≡ words) × (printed ≡ []))
+Performs names text slot stop stack old words did new after printed =
+    Made new after stack printed did (Does names text slot stop old (stack_of words stack))
+
+-- where a stop may be out of memory: its bytes don't fit, or all handles were given
+abbrev pub MayFail : SharedStop → Data → Type 0
+MayFail (New tag) d = d.objects.created ≡ creation_limit
+MayFail (Print format count) d = Unit {0}
+MayFail _ d = ⊥

@@ -1,0 +1,19 @@
+//! What the threads of compiled code share, in words: globals and arrays, objects, mutexes; and the stops that read or change it.
+//!
+//! A stop has the numbers of what it names, so nothing is looked up when it is made. It takes its words from the stack of a frame and
+//! leaves its own there, exactly as the definitions of runs of code say; but for the bytes of a print it takes no memory.
+//!
+//! Read `specs/Stacks`, `specs/Resolved` and `specs/Performing`; then [`stop`] (what is asked and answered), [`shared`] (what is kept,
+//! and which stop does what), and `cells`, `objects`, `mutexes` and `print` (what each does), over `stack` (the words of a frame).
+#![tactic(auto)]
+
+mod cells;
+mod mutexes;
+mod objects;
+mod print;
+mod shared;
+mod stack;
+mod stop;
+
+pub use shared::WordData;
+pub use stop::{Did, SharedStop, Stack};

@@ -1,0 +1,3 @@
+pub mod WordRows
+pub mod FrameLists
+pub mod FrameCalls

@@ -1,0 +1,4 @@
+pub mod Blocks
+pub mod Seen
+pub mod Changes
+pub mod Laws
