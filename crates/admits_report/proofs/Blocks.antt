@@ -3,7 +3,7 @@ use Rattle.std.proofs.Common.{◌≡◌, ℕ, ◌+◌, ◌<◌, List, [], ◌∷
 use Rattle.std.specs.Prelude.{All, slice_get}
 use Rattle.std.specs.List.{AllZip}
 use Rattle.std.proofs.lemmas.List.{map_push, take_more}
-use Rattle.std.proofs.lemmas.List.Elements.{All-nil, All-cons, All-head, All-tail, All-weaker}
+use Rattle.std.proofs.lemmas.List.Elements.{All-head, All-tail}
 use Rattle.std.proofs.lemmas.Option.{get_or_from_slice_get}
 use Rattle.name_sets.specs.Texts.{text_of}
 use Rattle.run_types.specs.Skeleton.{Skeleton}
@@ -20,14 +20,14 @@ use Rattle.con_freeness.specs.Rows.{Names}
 use Rattle.check_in_places.specs.declared.section.Spot.{Spot}
 use Rattle.check_in_places.specs.declared.section.Section.{Section}
 use Rattle.check_in_places.specs.CheckIns.{CheckIn}
-use Rattle.check_in_places.specs.Bodies.{shown, IsSpotOf, IsWithin, IsCounted, IsSectionFor, AreSections, body_of}
+use Rattle.check_in_places.specs.Bodies.{shown, IsCounted, IsSectionFor, AreSections, body_of}
 use Rattle.check_in_places.proofs.CheckIns.{ascending_shown}
 use Rattle.admits_report.specs.declared.admission.Admission.{Admission}
 use Rattle.admits_report.specs.declared.answers.CheckInAnswer.{CheckInAnswer}
 use Rattle.admits_report.specs.declared.answers.FunctionAnswers.{FunctionAnswers}
 use Rattle.admits_report.specs.AdmitsText.{IsAnswer, IsLineOf, IsBlockOf}
-use Rattle.admits_report.specs.Answered.{IsAdmissionOver, AnswersFor, AreAnswersOf, AreWithin, spot_of}
-use Rattle.admits_report.specs.Shown.{answer_shown, line_of, block_of, IsReady, IsReadyLine}
+use Rattle.admits_report.specs.Answered.{IsAdmissionOver, AnswersFor, AreAnswersOf, spot_of}
+use Rattle.admits_report.specs.Shown.{answer_shown, line_of, block_of}
 
 -- ---- lists side by side
 
@@ -76,12 +76,12 @@ lines_are a bodies changed interface body (line ∷ lines) over say counted =
 
 -- ---- the block of a function, and those of all
 
-block_is : (a : Admission) (bodies : List Body) (changed interface : Names) (q : Text) (size first : ℕ) (f : Function) (section : Section)
+block_is : (a : Admission) (bodies : List Body) (changed interface : Names) (q : Text) (first : ℕ) (f : Function) (section : Section)
     (g : FunctionAnswers)
     → IsAdmissionOver bodies changed interface a
-    → IsSectionFor a.names.now (definition q.definitions) size first f section → AreAnswersOf a section g
+    → IsSectionFor a.names.now (definition q.definitions) first f section → AreAnswersOf a section g
     → IsBlockOf bodies changed interface q f (block_of a.names.now g)
-block_is a bodies changed interface q size first f section g over is are =
+block_is a bodies changed interface q first f section g over is are =
     let names = a.names.now in
     let body = body_of q f in
     let spots = section.spots.items in
@@ -100,47 +100,18 @@ block_is a bodies changed interface q size first f section g over is are =
       };
     }
 
-pub blocks_are : (a : Admission) (bodies : List Body) (changed interface : Names) (q : Text) (size first : ℕ) (fs : List Function)
+pub blocks_are : (a : Admission) (bodies : List Body) (changed interface : Names) (q : Text) (first : ℕ) (fs : List Function)
     (sections : List Section) (gs : List FunctionAnswers)
     → IsAdmissionOver bodies changed interface a
-    → AreSections a.names.now (definition q.definitions) size first fs sections → AllZip (AreAnswersOf a) sections gs
+    → AreSections a.names.now (definition q.definitions) first fs sections → AllZip (AreAnswersOf a) sections gs
     → AllZip (IsBlockOf bodies changed interface q) fs (map (block_of a.names.now) gs)
-blocks_are a bodies changed interface q size first [] [] [] over of are = tt
-blocks_are a bodies changed interface q size first [] [] (g ∷ gs) over of are = absurd are
-blocks_are a bodies changed interface q size first [] (section ∷ sections) gs over of are = absurd of
-blocks_are a bodies changed interface q size first (f ∷ fs) [] gs over of are = absurd of
-blocks_are a bodies changed interface q size first (f ∷ fs) (section ∷ sections) [] over of are = absurd are
-blocks_are a bodies changed interface q size first (f ∷ fs) (section ∷ sections) (g ∷ gs) over of are = (
-  block_is a bodies changed interface q size first f section g over of.0 are.0,
-  blocks_are a bodies changed interface q size (first + length (skeleton_of (definition q.definitions) (Some (bare_function f))).points) fs sections gs
+blocks_are a bodies changed interface q first [] [] [] over of are = tt
+blocks_are a bodies changed interface q first [] [] (g ∷ gs) over of are = absurd are
+blocks_are a bodies changed interface q first [] (section ∷ sections) gs over of are = absurd of
+blocks_are a bodies changed interface q first (f ∷ fs) [] gs over of are = absurd of
+blocks_are a bodies changed interface q first (f ∷ fs) (section ∷ sections) [] over of are = absurd are
+blocks_are a bodies changed interface q first (f ∷ fs) (section ∷ sections) (g ∷ gs) over of are = (
+  block_is a bodies changed interface q first f section g over of.0 are.0,
+  blocks_are a bodies changed interface q (first + length (skeleton_of (definition q.definitions) (Some (bare_function f))).points) fs sections gs
       over of.1 are.1,
 )
-
--- ---- they can be written
-
-pub sections_within : (names : List Bytes) (look : Definitions) (size first : ℕ) (fs : List Function) (sections : List Section)
-    → AreSections names look size first fs sections → All (AreWithin size) sections
-sections_within names look size first [] [] of = All-nil (AreWithin size)
-sections_within names look size first [] (section ∷ sections) of = absurd of
-sections_within names look size first (f ∷ fs) [] of = absurd of
-sections_within names look size first (f ∷ fs) (section ∷ sections) of =
-    All-cons (AreWithin size) section sections
-    (All-weaker (IsSpotOf first size) (IsWithin size) (λ spot is. is.within) section.spots.items of.0.section.spots)
-    (sections_within names look size (first + length (skeleton_of look (Some (bare_function f))).points) fs sections of.1)
-
-lines_within : (size : ℕ) (lines : List CheckInAnswer) → All (IsWithin size) (map spot_of lines) → All (IsReadyLine size) lines
-lines_within size [] within = All-nil (IsReadyLine size)
-lines_within size (line ∷ lines) within =
-    All-cons (IsReadyLine size) line lines (All-head (IsWithin size) line.spot (map spot_of lines) within)
-    (lines_within size lines (All-tail (IsWithin size) line.spot (map spot_of lines) within))
-
-pub answers_ready : (a : Admission) (size : ℕ) (sections : List Section) (gs : List FunctionAnswers) → AllZip (AreAnswersOf a) sections gs
-    → All (AreWithin size) sections → All (IsReady size) gs
-answers_ready a size [] [] are within = All-nil (IsReady size)
-answers_ready a size [] (g ∷ gs) are within = absurd are
-answers_ready a size (section ∷ sections) [] are within = absurd are
-answers_ready a size (section ∷ sections) (g ∷ gs) are within =
-    All-cons (IsReady size) g gs
-    (lines_within size g.lines.items
-    (subst {A = List Spot} (All (IsWithin size)) (sym are.0.spots) (All-head (AreWithin size) section sections within)))
-    (answers_ready a size sections gs are.1 (All-tail (AreWithin size) section sections within))

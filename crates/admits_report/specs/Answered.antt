@@ -10,8 +10,7 @@ use Rattle.con_freeness.specs.Rows.{Names}
 use Rattle.code_store.specs.Stored.{IsStoreOf}
 use Rattle.checkin_rows.specs.Rows.{AreRowsOf}
 use Rattle.patch_build.specs.declared.fault.PatchFault.{PatchFault}
-use Rattle.patch_build.specs.declared.fault.PatchFault.TheVariants.{Not, Memory}
-use Rattle.check_in_places.specs.Bodies.{IsWithin}
+use Rattle.patch_build.specs.declared.fault.PatchFault.TheVariants.{Not, UndefinedName, Memory}
 use Rattle.check_in_places.specs.declared.section.Spot.{Spot}
 use Rattle.check_in_places.specs.declared.section.Section.{Section}
 use Rattle.admits_report.specs.declared.admission.Admission.{Admission}
@@ -44,10 +43,6 @@ AreLinesFor a function lines =
     (f : Bytes) → slice_get a.names.now function ≡ Some f
     → All (λ line. AnswersFor a (CheckInOf f 1 line.spot.before) line.answer) lines
 
--- the check-ins of a function are in a text of so many bytes
-abbrev pub AreWithin : ℕ → Section → Type 0
-AreWithin size section = All (IsWithin size) section.spots.items
-
 -- what the rows of a function answer
 pub record AreAnswersOf (a : Admission) (section : Section) (f : FunctionAnswers) : Type 0 where
   pub function : f.function ≡ section.function
@@ -62,7 +57,8 @@ pub record IsSectionsText (a : Admission) (text : Bytes) (sections : List Sectio
   pub printed : let blocks = map (block_of a.names.now) functions in
       output ≡ flat_map (block_text text) blocks ++ end_text blocks
 
--- the text of a fault; out of memory there is none
+-- the text of a fault; there is none for a name that isn't defined, and out of memory
 abbrev pub IsFaultText : PatchFault → Bytes → Bytes → Type 0
 IsFaultText (Not cause) newer output = output ≡ cause_text cause newer
+IsFaultText UndefinedName newer output = ⊥
 IsFaultText Memory newer output = ⊥

@@ -1,12 +1,11 @@
 -- What the parts of a report show: lines and blocks of the text, by a table of names.
-use Rattle.std.specs.Prelude.{ℕ, List, ◌∷◌, All, map, Option}
+use Rattle.std.specs.Prelude.{List, ◌∷◌, map, Option}
 use Rattle.std.specs.Option.{option_map}
 use Rattle.name_sets.specs.Texts.{text_of}
 use Rattle.c_tree.specs.BareExpr.{Bytes}
 use Rattle.con_freeness.specs.declared.refusal.Effect.{Effect as EffectOfIds}
 use Rattle.con_freeness.specs.Verdicts.{Effect, effect_seen}
 use Rattle.skeletons.specs.Meaning.{check_in_of}
-use Rattle.check_in_places.specs.Bodies.{IsWithin}
 use Rattle.admits_report.specs.declared.answers.CheckInAnswer.{CheckInAnswer}
 use Rattle.admits_report.specs.declared.answers.FunctionAnswers.{FunctionAnswers}
 use Rattle.admits_report.specs.AdmitsText.{Line, Block}
@@ -37,11 +36,3 @@ ids_of_line line = line.answer
 
 abbrev pub ids_of : FunctionAnswers → List (Option EffectOfIds)
 ids_of f = f.start ∷ map ids_of_line f.lines.items
-
--- a check-in is in a text of so many bytes
-abbrev pub IsReadyLine : ℕ → CheckInAnswer → Type 0
-IsReadyLine size line = IsWithin size line.spot
-
--- the check-ins of a function are
-abbrev pub IsReady : ℕ → FunctionAnswers → Type 0
-IsReady size f = All (IsReadyLine size) f.lines.items

@@ -1,13 +1,12 @@
 //! The lines of functions.
-ghost use Rattle.std.specs.Prelude.{◌≡◌, ◌++◌, All, OnOk, codes, length, map};
+ghost use Rattle.std.specs.Prelude.{◌≡◌, ◌++◌, OnOk, codes, map};
 ghost use Rattle.std.specs.Fmt.{decimal};
 ghost use Rattle.std.specs.List.{flat_map};
 ghost use Rattle.name_sets.specs.Texts.{text_of};
 ghost use Rattle.skeletons.specs.Meaning.{check_in_of};
-ghost use Rattle.check_in_places.specs.Bodies.{IsWithin};
 ghost use Rattle.check_in_places.specs.CheckIns.{head_text};
 ghost use Rattle.admits_report.specs.AdmitsText.{answer_words, block_text, count_text, line_text, start_text, title_text};
-ghost use Rattle.admits_report.specs.Shown.{answer_shown, block_of, line_of, IsReady, IsReadyLine};
+ghost use Rattle.admits_report.specs.Shown.{answer_shown, block_of, line_of};
 
 use crate::answers::{CheckInAnswer, FunctionAnswers};
 use crate::counts::Counts;
@@ -20,15 +19,14 @@ use std::alloc::AllocError;
 
 /// Adds what the line of a check-in begins with.
 fn add_head(text: &mut Vec<u8>, lines: &Lines<'_>, spot: Spot) -> Result<(), AllocError>
-    requires { IsWithin (length lines.now.text.now) spot }
     ensures { OnOk result (text.new.items
         ≡ text.old.items ++ head_text lines.now.text.now spot.at (check_in_of spot.kind)) }
 {
     let place = lines.place(spot.at);
     let mut line_digits = Buffer::new();
     let mut column_digits = Buffer::new();
-    let line = line_digits.format(place.line).as_bytes();
-    let column = column_digits.format(place.column).as_bytes();
+    let line = line_digits.format(place.0).as_bytes();
+    let column = column_digits.format(place.1).as_bytes();
     add(
         text,
         &[b"  ", line, b":", column, b" ", kind_word(spot.kind)],
@@ -56,7 +54,6 @@ fn add_line(
     names: &Names,
     line: CheckInAnswer,
 ) -> Result<(), AllocError>
-    requires { IsReadyLine (length lines.now.text.now) line }
     ensures { OnOk result (text.new.items
         ≡ text.old.items ++ line_text lines.now.text.now (line_of names.now line)) }
 {
@@ -71,7 +68,6 @@ fn add_lines(
     names: &Names,
     check_ins: &[CheckInAnswer],
 ) -> Result<(), AllocError>
-    requires { All (IsReadyLine (length lines.now.text.now)) check_ins.now }
     ensures { OnOk result (text.new.items ≡ text.old.items
         ++ flat_map (line_text lines.now.text.now) (map (line_of names.now) check_ins.now)) }
 {
@@ -103,7 +99,6 @@ fn add_function(
     names: &Names,
     function: &FunctionAnswers,
 ) -> Result<(), AllocError>
-    requires { IsReady (length lines.now.text.now) function.now }
     ensures { OnOk result (text.new.items
         ≡ text.old.items ++ block_text lines.now.text.now (block_of names.now function.now)) }
 {
@@ -119,7 +114,6 @@ pub(crate) fn add_functions(
     names: &Names,
     functions: &[FunctionAnswers],
 ) -> Result<(), AllocError>
-    requires { All (IsReady (length lines.now.text.now)) functions.now }
     ensures { OnOk result (text.new.items ≡ text.old.items
         ++ flat_map (block_text lines.now.text.now) (map (block_of names.now) functions.now)) }
 {

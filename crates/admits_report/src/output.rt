@@ -1,5 +1,5 @@
 //! The whole text.
-ghost use Rattle.std.specs.Prelude.{◌≡◌, ◌≤◌, [], ◌∷◌, All, length, IfOk, IsErrOf};
+ghost use Rattle.std.specs.Prelude.{◌≡◌, ◌≤◌, [], ◌∷◌, IfOk, IsErrOf};
 ghost use Rattle.c_semantics.specs.SourceTexts.{text_of as text_of_program};
 ghost use Rattle.c_semantics.specs.Store.{store};
 ghost use Rattle.code_store.specs.Stored.{IsStoreOf};
@@ -7,7 +7,7 @@ ghost use Rattle.con_freeness.specs.Rows.{Names as Texts};
 ghost use Rattle.con_freeness.specs.Decisions.{IsListOf};
 ghost use Rattle.dsu_io.specs.Causes.{Rose};
 ghost use Rattle.admits_report.specs.AdmitsText.{IsAdmitsText, IsPatchText};
-ghost use Rattle.admits_report.specs.Answered.{AreWithin, IsSectionsText};
+ghost use Rattle.admits_report.specs.Answered.{IsSectionsText};
 ghost use Rattle.admits_report.specs.Writing.{Writes};
 
 use crate::admission::Admission;
@@ -27,9 +27,9 @@ use std::alloc::{AllocError, Global};
 
 /// Writes where a run of an older typed text could take a newer one. `old_text` and `new_text` have the bytes of the texts.
 ///
-/// `Memory` is also the answer where a text uses a name that it doesn't define, where the older one has more names, check-ins or
-/// tokens than a version may or more check-ins and functions than there are numbers of rows, or where a place isn't in the bytes
-/// of its text or is 2^32 - 1 or more: none of these occurs in a typed text and its bytes, but that isn't proved.
+/// `Memory` is also the answer where a text uses a name that it doesn't define, or where the older one has more check-ins or
+/// tokens than a version may or more check-ins and functions than there are numbers of rows: none of these occurs in a typed
+/// text and its bytes, but that isn't proved.
 pub fn write_admission<S: Sink>(
     alloc: Global,
     old: &Typed,
@@ -86,7 +86,7 @@ fn text_of_patch(
         → IfOk result (λ output. IsPatchText program.now text.now changed interface output.items) }
 {
     let _names = versions.names.len();
-    let bodies = bodies_of(alloc, program, versions.names, text.len())?;
+    let bodies = bodies_of(alloc, program, versions.names)?;
     let admission = admission_of(alloc, versions, patch)?;
     let lines = Lines::of(alloc, text)?;
     text_of_sections(alloc, &admission, &lines, bodies.sections.as_slice())
@@ -99,7 +99,6 @@ fn text_of_sections(
     lines: &Lines<'_>,
     sections: &[Section],
 ) -> Result<Vec<u8>, AllocError>
-    requires { All (AreWithin (length lines.now.text.now)) sections.now }
     ensures { IfOk result (λ output. IsSectionsText admission.now lines.now.text.now sections.now output.items) }
 {
     let functions = answers(alloc, admission, sections)?;

@@ -7,13 +7,13 @@ ghost use Rattle.admits_report.specs.AdmitsText.{cause_text};
 ghost use Rattle.admits_report.specs.Answered.{IsFaultText};
 
 use crate::words::add;
-use dsu_report::{Place, place_of};
+use dsu_report::line_and_column;
 use itoa::Buffer;
 use patch_build::PatchFault;
 use source_model::NotPatch;
 use std::alloc::{AllocError, Global};
 
-/// The text of a fault, for the bytes of the newer text.
+/// The text of a fault, for the bytes of the newer text. There is none for a name that isn't defined, which no accepted text has.
 pub(crate) fn text_of_fault(
     alloc: Global,
     fault: &PatchFault,
@@ -23,12 +23,11 @@ pub(crate) fn text_of_fault(
 {
     match fault {
         PatchFault::Not(cause) => text_of_cause(alloc, cause, source),
-        PatchFault::Memory => Err(AllocError),
+        PatchFault::UndefinedName | PatchFault::Memory => Err(AllocError),
     }
 }
 
-/// The text where there is no patch. `source` has the bytes of the newer text. A place that isn't in it, or is 2^32 - 1 or more,
-/// is answered as lack of memory.
+/// The text where there is no patch. `source` has the bytes of the newer text.
 fn text_of_cause(alloc: Global, cause: &NotPatch, source: &[u8]) -> Result<Vec<u8>, AllocError>
     ensures { IfOk result (λ text. text.items ≡ cause_text cause.now source.now) }
 {
@@ -57,20 +56,18 @@ fn add_fault(text: &mut Vec<u8>, source: &[u8], at: usize) -> Result<(), AllocEr
     ensures { OnOk result (text.new.items ≡ text.old.items
         ++ codes "transform " ++ decimal (line_at source.now at) ++ codes ":" ++ decimal (column_at source.now at)) }
 {
-    if at > source.len() || at >= u32::MAX as usize {
-        return Err(AllocError);
-    }
-    add_place(text, place_of(source, at))
+    let (line, column) = line_and_column(source, at);
+    add_place(text, line, column)
 }
 
-/// Adds the words of a fault at a place.
-fn add_place(text: &mut Vec<u8>, place: Place) -> Result<(), AllocError>
+/// Adds the words of a fault at a line and a column.
+fn add_place(text: &mut Vec<u8>, line: usize, column: u128) -> Result<(), AllocError>
     ensures { OnOk result (text.new.items ≡ text.old.items
-        ++ codes "transform " ++ decimal place.line ++ codes ":" ++ decimal place.column) }
+        ++ codes "transform " ++ decimal line ++ codes ":" ++ decimal column) }
 {
     let mut line_digits = Buffer::new();
     let mut column_digits = Buffer::new();
-    let line = line_digits.format(place.line).as_bytes();
-    let column = column_digits.format(place.column).as_bytes();
-    add(text, &[b"transform ", line, b":", column])
+    let line_text = line_digits.format(line).as_bytes();
+    let column_text = column_digits.format(column).as_bytes();
+    add(text, &[b"transform ", line_text, b":", column_text])
 }

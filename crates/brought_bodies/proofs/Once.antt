@@ -3,7 +3,6 @@ use Rattle.std.proofs.Common.{◌≡◌, ℕ, zero, suc, ◌<◌, Bool, true, fa
 use Rattle.std.specs.Prelude.{IfSome, bytes_eq, is_none, find, filter_map, if◌then◌else◌}
 use Rattle.std.specs.Option.{option_map_or}
 use Rattle.std.specs.List.{cons_option}
-use Rattle.std.proofs.lemmas.Slice.Eq.{bytes_eq-Decides}
 use Rattle.c_tree.specs.BareExpr.{Bytes}
 use Rattle.c_tree.specs.declared.name.Name.{Name}
 use Rattle.c_tree.specs.declared.def.Def.{Def}
@@ -13,32 +12,17 @@ use Rattle.c_tree.specs.declared.def.Program.{Program}
 use Rattle.c_expr_types.specs.declared.fault.Fault.{Fault}
 use Rattle.c_expr_types.specs.declared.fault.TypeKind.TheVariants.{DeclaredTwice}
 use Rattle.c_expr_types.specs.Faults.{unless}
-use Rattle.c_types.specs.Statements.{hiding}
 use Rattle.c_definitions.specs.Lookup.{definition_of, is_named, name_of}
 use Rattle.c_types.specs.Definitions.{Types, all_faults, kind_faults, named_twice}
 use Rattle.c_semantics.specs.SourceTexts.{Tokens, tokens_of_kind}
+use Rattle.typed_uses.proofs.Faultless.{none_before, none_after, none_hidden}
+use Rattle.typed_uses.proofs.Lookups.{itself}
 
 -- each definition of a function has a name that no definition before it declares
 abbrev pub DefinesOnce : List Def → Type 0
 DefinesOnce ds =
     (i : ℕ) (d : Def) → i < length ds → d ≡ get_or ds i d
     → IfSome (tokens_of_kind d.kind) (λ t. definition_of (take i ds) t.function ≡ None)
-
-left_none : {A : Type 0} (xs ys : List A) → xs ++ ys ≡ [] → xs ≡ []
-left_none [] ys e = refl
-left_none (x ∷ xs) ys e = cc
-
-right_none : {A : Type 0} (xs ys : List A) → xs ++ ys ≡ [] → ys ≡ []
-right_none [] ys e = e
-right_none (x ∷ xs) ys e = cc
-
-parts_none : (xs ys : List Fault) → hiding xs ys ≡ [] → xs ≡ []
-parts_none [] ys e = refl
-parts_none (x ∷ xs) ys e = cc
-
-whole_none : (xs ys : List Fault) → hiding xs ys ≡ [] → ys ≡ []
-whole_none [] ys e = e
-whole_none (x ∷ xs) ys e = cc
 
 is_new_name : (o : Option Def) (at : ℕ) → unless (is_none o) DeclaredTwice at ≡ [] → o ≡ None
 is_new_name None at e = refl
@@ -51,7 +35,7 @@ by_kind text before d (kind.Forward name) e = tt
 by_kind text before d (kind.Mutex name) e = tt
 by_kind text before d (kind.Function f) e =
     is_new_name (definition_of before f.name.text) f.name.place
-    (left_none (named_twice before f.name) _ (right_none _ _ (whole_none _ _ e)))
+    (none_before (named_twice before f.name) _ (none_after _ _ (none_hidden _ _ e).1))
 by_kind text before d (kind.Prototype p) e = tt
 by_kind text before d (kind.Global v) e = tt
 by_kind text before d (kind.Array a) e = tt
@@ -65,22 +49,19 @@ once_after text before [] e i d l is = absurd (omega arith)
 once_after text before (a ∷ ds) e zero d l is =
     subst {A = Def} (λ d. IfSome (tokens_of_kind d.kind) (λ t. definition_of (before ++ []) t.function ≡ None)) (sym is)
     (subst {A = List Def} (λ ds. IfSome (tokens_of_kind a.kind) (λ t. definition_of ds t.function ≡ None)) (sym (append-nil before))
-    (by_kind text before a a.kind (left_none _ _ e)))
+    (by_kind text before a a.kind (none_before _ _ e)))
 once_after text before (a ∷ ds) e (suc i) d l is =
     subst {A = List Def} (λ xs. IfSome (tokens_of_kind d.kind) (λ t. definition_of xs t.function ≡ None)) (append_assoc before (a ∷ []) (take i ds))
-    (once_after text (before ++ a ∷ []) ds (right_none _ _ e) i d (omega arith) is)
+    (once_after text (before ++ a ∷ []) ds (none_after _ _ e) i d (omega arith) is)
 
 pub typed_once : (p : Program) → Types p → DefinesOnce p.definitions
-typed_once p types = once_after p.definitions [] p.definitions (parts_none _ _ types)
+typed_once p types = once_after p.definitions [] p.definitions (none_hidden _ _ types).0
 
 -- ---- tokens
 
 -- the number of tokens of a function of some definitions
 abbrev pub count_in : List Def → Bytes → ℕ
 count_in ds name = option_map_or (λ t. t.count) (find (λ t. bytes_eq name t.function) (filter_map (λ d. tokens_of_kind d.kind) ds)) 0
-
-same_text : (z : Bytes) → bytes_eq z z ≡ true
-same_text z = (bytes_eq-Decides z z).1 refl
 
 first_count : (t : Tokens) (ts : List Tokens) (b : Bool) → b ≡ true
     → option_map_or (λ t. t.count) (if b then Some t else find (λ u. bytes_eq t.function u.function) ts) 0 ≡ t.count
@@ -94,7 +75,7 @@ count_of_first k ds = by (tokens_of_kind k)
     by : (o : Option Tokens) → IfSome o
         (λ t. option_map_or (λ t. t.count) (find (λ u. bytes_eq t.function u.function) (cons_option o (filter_map (λ d. tokens_of_kind d.kind) ds))) 0 ≡ t.count)
     by None = tt
-    by (Some t) = first_count t (filter_map (λ d. tokens_of_kind d.kind) ds) (bytes_eq t.function t.function) (same_text t.function)
+    by (Some t) = first_count t (filter_map (λ d. tokens_of_kind d.kind) ds) (bytes_eq t.function t.function) (itself t.function)
 
 -- a definition that doesn't declare a name has no part in its number
 passed : (name : Bytes) (own : Name) (t : Tokens) (d : Def) (ds : List Def) (ts : List Tokens) (b : Bool)

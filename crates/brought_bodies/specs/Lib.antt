@@ -1,3 +1,4 @@
 pub mod Sets
 pub mod Patches
 pub mod Unknown
+pub mod Undefined

@@ -42,31 +42,31 @@ length-flow : (names : List Bytes) (bodies : List Body) (flow : Contents) → Is
 length-flow names bodies flow f = sym (length-map flow.points (spot_of names)) ∙ ap length f.points
 
 -- a section more
-sections_push : (names : List Bytes) (look : Definitions) (size first : ℕ) (fs : List Function) (sections : List Section) (f : Function) (section : Section)
-    → AreSections names look size first fs sections → IsSectionFor names look size (first + total look fs) f section
-    → AreSections names look size first (fs ++ f ∷ []) (sections ++ section ∷ [])
+sections_push : (names : List Bytes) (look : Definitions) (first : ℕ) (fs : List Function) (sections : List Section) (f : Function) (section : Section)
+    → AreSections names look first fs sections → IsSectionFor names look (first + total look fs) f section
+    → AreSections names look first (fs ++ f ∷ []) (sections ++ section ∷ [])
 unfolding total
-sections_push names look size first [] [] f section are is =
+sections_push names look first [] [] f section are is =
     let e : first + 0 ≡ first = omega arith in
-    (subst {A = ℕ} (λ n. IsSectionFor names look size n f section) e is, tt)
-sections_push names look size first [] (s ∷ sections) f section are is = absurd are
-sections_push names look size first (g ∷ fs) [] f section are is = absurd are
-sections_push names look size first (g ∷ fs) (s ∷ sections) f section are is =
+    (subst {A = ℕ} (λ n. IsSectionFor names look n f section) e is, tt)
+sections_push names look first [] (s ∷ sections) f section are is = absurd are
+sections_push names look first (g ∷ fs) [] f section are is = absurd are
+sections_push names look first (g ∷ fs) (s ∷ sections) f section are is =
     let points = length (skeleton_of look (Some (bare_function g))).points in
     let e : first + (points + total look fs) ≡ first + points + total look fs = omega arith in (
       are.0,
-      sections_push names look size (first + points) fs sections f section are.1
-          (subst {A = ℕ} (λ n. IsSectionFor names look size n f section) e is),
+      sections_push names look (first + points) fs sections f section are.1
+          (subst {A = ℕ} (λ n. IsSectionFor names look n f section) e is),
     )
 
-pub function_added : (names : List Bytes) (text : Text) (size : ℕ) (done : List Function) (old new : Contents) (sections : List Section)
+pub function_added : (names : List Bytes) (text : Text) (done : List Function) (old new : Contents) (sections : List Section)
     (f : Function) (outline : Outline) (id : ℕ) (section : Section)
-    → AreBodiesOf names text size done old sections → IsOutline names (definition text.definitions) f outline
+    → AreBodiesOf names text done old sections → IsOutline names (definition text.definitions) f outline
     → slice_get names id ≡ Some f.name.text
-    → IsSectionOf (meant names outline.skeleton) outline.places.items (length old.points) size id section
+    → IsSectionOf (meant names outline.skeleton) outline.places.items (length old.points) id section
     → AddsBody old id 1 outline.skeleton new
-    → AreBodiesOf names text size (done ++ f ∷ []) new (sections ++ section ∷ [])
-function_added names text size done old new sections f outline id section are is named made adds =
+    → AreBodiesOf names text (done ++ f ∷ []) new (sections ++ section ∷ [])
+function_added names text done old new sections f outline id section are is named made adds =
     let look = definition text.definitions in
     let tokens = tokens_of text f.name.text in
     let added : IsFlowOf names (map (body_of text) done ++ flow_body names id 1 outline.skeleton tokens ∷ []) new =
@@ -86,12 +86,12 @@ function_added names text size done old new sections f outline id section are is
     in
     record {
       flow = subst {A = List Body} (λ bodies. IsFlowOf names bodies new) list added;
-      sections = sections_push names look size 0 done sections f section are.sections (record {
+      sections = sections_push names look 0 done sections f section are.sections (record {
         id = id;
         named = named;
-        section = subst {A = ℕ} (λ n. IsSectionOf (skeleton_of look (Some (bare_function f))) (places look f) n size id section) place
-            (subst {A = List ℕ} (λ at. IsSectionOf (skeleton_of look (Some (bare_function f))) at (length old.points) size id section) is.at
-            (subst {A = _} (λ s. IsSectionOf s outline.places.items (length old.points) size id section) is.skeleton made));
+        section = subst {A = ℕ} (λ n. IsSectionOf (skeleton_of look (Some (bare_function f))) (places look f) n id section) place
+            (subst {A = List ℕ} (λ at. IsSectionOf (skeleton_of look (Some (bare_function f))) at (length old.points) id section) is.at
+            (subst {A = _} (λ s. IsSectionOf s outline.places.items (length old.points) id section) is.skeleton made));
       });
     }
 

@@ -2,6 +2,7 @@
 use Rattle.std.proofs.Common.{◌≡◌, ℕ, zero, suc, ◌+◌, ◌-◌, ◌<◌, ◌≤◌, ◌==◌, Bool, true, false, leb, leb-true, leb-false, List, [], ◌∷◌, ◌++◌, length, refl, sym, ap, subst, ◌∙◌, arith, slice_index, if◌then◌else◌, ◌⊎◌, inl, inr, append-nil, append_assoc, length-append, le_refl, add-one}
 use Rattle.std.specs.Prelude.{All}
 use Rattle.std.specs.List.Sorted.{IsNonDecreasing, IsPartitionPoint}
+use Rattle.std.proofs.Math.ListN.{get_or-eq_default}
 use Rattle.std.proofs.Math.Seq.{get_or-append_seam}
 use Rattle.std.proofs.lemmas.Bool.{cases_order}
 use Rattle.std.proofs.lemmas.List.{get_or_append_left, get_or-append_right}
@@ -122,6 +123,57 @@ starts_above text at (suc k) =
     (starts_above text at k)
     (all_when (λ start. at < start) (slice_index text (place_after at k) == 10) (suc (place_after at k)) (omega (arith, same)))
 
+-- ---- no line begins after the end
+
+none_after : (text : List ℕ) (at k : ℕ) → length text ≤ at → starts_after text at k ≡ []
+none_after text at zero past = refl
+none_after text at (suc k) past =
+    let same = place_after_is_sum at k in
+    let none : slice_index text (place_after at k) ≡ 0 = get_or-eq_default text 0 (omega (arith, same, past)) in
+    ap (λ byte. starts_after text at k ++ start_if byte (suc (place_after at k))) none
+    ∙ append-nil (starts_after text at k) ∙ none_after text at k past
+
+-- all lines: those that begin at or before a place, and those that begin after it
+record Parted (text : List ℕ) (at : ℕ) : Type 0 where
+  more : List ℕ
+  all : line_starts text ≡ starts_to text at ++ more
+  above : All (λ start. at < start) more
+
+parted : (text : List ℕ) (at : ℕ) → Parted text at
+parted text at = by (cases_order at (length text))
+  where
+    inside : at ≤ length text → Parted text at
+    inside place =
+        let k = length text - at in
+        let sum = place_after_is_sum at k in
+        let size : length text ≡ place_after at k = omega (arith, place, sum) in
+        record {
+          more = starts_after text at k;
+          all = ap (starts_to text) size ∙ starts_parted text at k;
+          above = starts_above text at k;
+        }
+
+    outside : length text < at → Parted text at
+    outside place =
+        let k = at - length text in
+        let sum = place_after_is_sum (length text) k in
+        let same : at ≡ place_after (length text) k = omega (arith, place, sum) in
+        let none = none_after text (length text) k (le_refl (length text)) in
+        let is : starts_to text at ≡ line_starts text =
+        ap (starts_to text) same ∙ starts_parted text (length text) k ∙ ap (λ more. line_starts text ++ more) none
+        ∙ append-nil (line_starts text)
+        in
+        record {
+          more = [];
+          all = sym is ∙ sym (append-nil (starts_to text at));
+          above = All-nil (λ start. at < start);
+        }
+
+    by : ((at ≡ length text) ⊎ ((at < length text) ⊎ (length text < at))) → Parted text at
+    by (inl e) = inside (omega (arith, e))
+    by (inr (inl less)) = inside (omega (arith, less))
+    by (inr (inr more)) = outside more
+
 -- ---- the place between both
 
 abbrev pub IsPoint : List ℕ → ℕ → ℕ → Type 0
@@ -147,31 +199,27 @@ point_is_length s t at i low high within point = by (cases_order i (length s))
         let above = high (length s - length s) 0 (omega (arith, total, more, within)) in
         absurd (omega (arith, below, same, above))
 
-pub point_is_line : (text starts : List ℕ) (at line : ℕ) → starts ≡ line_starts text → at ≤ length text → line ≤ length starts
+pub point_is_line : (text starts : List ℕ) (at line : ℕ) → starts ≡ line_starts text → line ≤ length starts
     → IsPoint starts at line → IsLineAt text at line
-point_is_line text starts at line are place within point =
-    let k = length text - at in
+point_is_line text starts at line are within point =
     let s = starts_to text at in
-    let t = starts_after text at k in
+    let cut = parted text at in
     let bounds = count_bounds text at in
     let some = bounds.0 in
-    let few = bounds.1 in
-    let sum = place_after_is_sum at k in
-    let size : length text ≡ place_after at k = omega (arith, place, sum) in
-    let all : line_starts text ≡ s ++ t = ap (starts_to text) size ∙ starts_parted text at k in
     let is : line ≡ length s =
-    point_is_length s t at line (starts_below text at) (starts_above text at k)
-    (subst {A = List ℕ} (λ l. line ≤ length l) (are ∙ all) within) (subst {A = List ℕ} (λ l. IsPoint l at line) (are ∙ all) point)
+    point_is_length s cut.more at line (starts_below text at) cut.above
+    (subst {A = List ℕ} (λ l. line ≤ length l) (are ∙ cut.all) within) (subst {A = List ℕ} (λ l. IsPoint l at line) (are ∙ cut.all) point)
     in
     let start : slice_index (line_starts text) (line - 1) ≡ last s =
-    ap (λ l. slice_index l (line - 1)) all ∙ ap (λ n. slice_index (s ++ t) (n - 1)) is
-    ∙ get_or_append_left s t 0 (length s - 1) (omega (arith, some))
+    ap (λ l. slice_index l (line - 1)) cut.all ∙ ap (λ n. slice_index (s ++ cut.more) (n - 1)) is
+    ∙ get_or_append_left s cut.more 0 (length s - 1) (omega (arith, some))
     in
+    let begun : last s ≤ at = starts_below text at (length s - 1) 0 (omega (arith, some)) in
     let column = column_from_last text at in
     record {
       number = is ∙ sym (line_is_count text at);
       some = omega (arith, is, some);
       within = subst {A = List ℕ} (λ l. line ≤ length l) are within;
-      fits = omega (arith, is, few);
+      before = omega (arith, start, begun);
       column = ap (λ n. column_at text at + n) start ∙ column;
     }

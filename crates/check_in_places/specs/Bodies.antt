@@ -1,5 +1,5 @@
 -- The bodies of a text: the flow of all of them, and for each its check-ins.
-use Rattle.std.specs.Prelude.{◌≡◌, ℕ, ◌+◌, ◌-◌, ◌^◌, ◌<◌, ◌≤◌, List, [], ◌∷◌, length, map, take, count_by, All, slice_get, Some, ⊤}
+use Rattle.std.specs.Prelude.{◌≡◌, ℕ, ◌+◌, List, [], ◌∷◌, length, map, take, count_by, All, slice_get, Some, ⊤}
 use Rattle.std.specs.List.Sorted.{IsPermutation, IsNonDecreasingBy}
 use Rattle.run_types.specs.Skeleton.{Skeleton}
 use Rattle.c_tree.specs.BareExpr.{Bytes}
@@ -23,11 +23,6 @@ use Rattle.check_in_places.specs.CheckIns.{CheckIn, check_ins_in}
 abbrev pub shown : Spot → CheckIn
 shown spot = record { point = spot.number; place = spot.at; kind = check_in_of spot.kind }
 
--- a check-in is in a text of so many bytes, and its line and column fit
-pub record IsWithin (size : ℕ) (spot : Spot) : Type 0 where
-  pub within : spot.at ≤ size
-  pub fits : spot.at < 2 ^ 32 - 1
-
 -- how many check-ins of a body come before a point
 abbrev pub check_ins_before : Skeleton → ℕ → ℕ
 check_ins_before skeleton point = count_by (λ p. is_check_in_kind p.kind) (take point skeleton.points)
@@ -36,33 +31,32 @@ check_ins_before skeleton point = count_by (λ p. is_check_in_kind p.kind) (take
 abbrev pub IsCounted : Skeleton → Spot → Type 0
 IsCounted skeleton spot = spot.before ≡ check_ins_before skeleton spot.number
 
--- a check-in of a body whose first point has a place in the flow, in a text of so many bytes
-pub record IsSpotOf (first size : ℕ) (spot : Spot) : Type 0 where
-  pub point : spot.point ≡ first + spot.number
-  pub within : IsWithin size spot
+-- a check-in of a body whose first point has a place in the flow
+abbrev pub IsSpotOf : ℕ → Spot → Type 0
+IsSpotOf first spot = spot.point ≡ first + spot.number
 
 -- a section has the check-ins of a body in the order of their places
-pub record IsSectionOf (skeleton : Skeleton) (at : List ℕ) (first size id : ℕ) (section : Section) : Type 0 where
+pub record IsSectionOf (skeleton : Skeleton) (at : List ℕ) (first id : ℕ) (section : Section) : Type 0 where
   pub function : section.function ≡ id
   pub all : IsPermutation (check_ins_in skeleton at) (map shown section.spots.items)
   pub ascending : IsNonDecreasingBy (λ spot. spot.at) section.spots.items
-  pub spots : All (IsSpotOf first size) section.spots.items
+  pub spots : All (IsSpotOf first) section.spots.items
   pub counted : All (IsCounted skeleton) section.spots.items
 
 -- the section of a function of a text
-pub record IsSectionFor (names : List Bytes) (look : Definitions) (size first : ℕ) (f : Function) (made : Section) : Type 0 where
+pub record IsSectionFor (names : List Bytes) (look : Definitions) (first : ℕ) (f : Function) (made : Section) : Type 0 where
   pub id : ℕ
   pub named : slice_get names id ≡ Some f.name.text
-  pub section : IsSectionOf (skeleton_of look (Some (bare_function f))) (places look f) first size id made
+  pub section : IsSectionOf (skeleton_of look (Some (bare_function f))) (places look f) first id made
 
 -- sections of functions, whose points come one after another in the flow
-abbrev pub AreSections : List Bytes → Definitions → ℕ → ℕ → List Function → List Section → Type 0
-AreSections names look size first [] [] = ⊤
-AreSections names look size first [] (section ∷ sections) = ⊥
-AreSections names look size first (f ∷ fs) [] = ⊥
-AreSections names look size first (f ∷ fs) (section ∷ sections) =
-    IsSectionFor names look size first f section
-    × AreSections names look size (first + length (skeleton_of look (Some (bare_function f))).points) fs sections
+abbrev pub AreSections : List Bytes → Definitions → ℕ → List Function → List Section → Type 0
+AreSections names look first [] [] = ⊤
+AreSections names look first [] (section ∷ sections) = ⊥
+AreSections names look first (f ∷ fs) [] = ⊥
+AreSections names look first (f ∷ fs) (section ∷ sections) =
+    IsSectionFor names look first f section
+    × AreSections names look (first + length (skeleton_of look (Some (bare_function f))).points) fs sections
 
 -- the body of a function of a text that is the first version
 abbrev pub body_of : Text → Function → Body
@@ -74,9 +68,9 @@ body_of text f = record {
 }
 
 -- a flow and sections are those of some functions of a text
-pub record AreBodiesOf (names : List Bytes) (text : Text) (size : ℕ) (fs : List Function) (contents : Contents) (list : List Section) : Type 0 where
+pub record AreBodiesOf (names : List Bytes) (text : Text) (fs : List Function) (contents : Contents) (list : List Section) : Type 0 where
   pub flow : IsFlowOf names (map (body_of text) fs) contents
-  pub sections : AreSections names (definition text.definitions) size 0 fs list
+  pub sections : AreSections names (definition text.definitions) 0 fs list
 
 -- what is known of a function's body: its skeleton, whose names are in the table, and the places of its points
 pub record IsOutline (names : List Bytes) (look : Definitions) (f : Function) (outline : Outline) : Type 0 where

@@ -20,5 +20,5 @@ pub record IsLineAt (text : List ℕ) (at line : ℕ) : Type 0 where
   pub number : line ≡ line_at text at
   pub some : 0 < line
   pub within : line ≤ length (line_starts text)
-  pub fits : line ≤ at + 1
+  pub before : slice_index (line_starts text) (line - 1) ≤ at
   pub column : column_at text at + slice_index (line_starts text) (line - 1) ≡ at + 1

@@ -20,23 +20,18 @@ use resolved_tree::Trees;
 use skeleton_gen::skeleton_of;
 use std::alloc::{AllocError, Global};
 
-/// The bodies of the functions of a program, in the order of its text, for a text of `size` bytes, by a table of its names.
+/// The bodies of the functions of a program, in the order of its text, by a table of its names.
 ///
-/// `AllocError` is also the answer where a function uses a name that the table doesn't have, where a check-in has a place after
-/// the end of the text or after 2^32 - 2 bytes, or where there are too many points to number.
-pub fn bodies_of(
-    alloc: Global,
-    program: &Program,
-    names: &Names,
-    size: usize,
-) -> Result<Bodies, AllocError>
+/// `AllocError` is also the answer where a function uses a name that the table doesn't have, or where there are too many points
+/// to number.
+pub fn bodies_of(alloc: Global, program: &Program, names: &Names) -> Result<Bodies, AllocError>
     requires { IsTable names.now }
-    ensures { IfOk result (λ bodies. AreBodiesOf names.now (text_of program.now) size (functions program.now)
+    ensures { IfOk result (λ bodies. AreBodiesOf names.now (text_of program.now) (functions program.now)
         bodies.flow bodies.sections.items) }
 {
     let definitions = program.definitions.as_slice();
     let known = Known::of(alloc, definitions)?;
-    bodies_among(alloc, &known, names, size, definitions)
+    bodies_among(alloc, &known, names, definitions)
 }
 
 /// The bodies of the functions that some definitions define.
@@ -44,12 +39,11 @@ fn bodies_among(
     alloc: Global,
     known: &Known,
     names: &Names,
-    size: usize,
     definitions: &[Def],
 ) -> Result<Bodies, AllocError>
     requires { IsTable names.now }
     ensures { (text : Text) → known_of known.now ≡ definition text.definitions
-        → IfOk result (λ bodies. AreBodiesOf names.now text size (functions_in definitions.now)
+        → IfOk result (λ bodies. AreBodiesOf names.now text (functions_in definitions.now)
         bodies.flow bodies.sections.items) }
 {
     let mut bodies = Bodies {
@@ -57,7 +51,7 @@ fn bodies_among(
         sections: Vec::new(alloc),
     };
     for one in definitions {
-        add_definition(alloc, known, names, size, one, &mut bodies)?;
+        add_definition(alloc, known, names, one, &mut bodies)?;
     }
     Ok(bodies)
 }
@@ -67,17 +61,16 @@ fn add_definition(
     alloc: Global,
     known: &Known,
     names: &Names,
-    size: usize,
     added: &Def,
     bodies: &mut Bodies,
 ) -> Result<(), AllocError>
     ensures { (text : Text) (done : List FunctionTree) → known_of known.now ≡ definition text.definitions
-        → AreBodiesOf names.now text size done bodies.old.flow bodies.old.sections.items
-        → OnOk result (AreBodiesOf names.now text size (done ++ functions_in (added.now ∷ []))
+        → AreBodiesOf names.now text done bodies.old.flow bodies.old.sections.items
+        → OnOk result (AreBodiesOf names.now text (done ++ functions_in (added.now ∷ []))
         bodies.new.flow bodies.new.sections.items) }
 {
     match function_in(&added.kind) {
-        Some(function) => add_function(alloc, known, names, size, function, bodies),
+        Some(function) => add_function(alloc, known, names, function, bodies),
         None => Ok(()),
     }
 }
@@ -104,17 +97,16 @@ fn add_function(
     alloc: Global,
     known: &Known,
     names: &Names,
-    size: usize,
     function: &Function,
     bodies: &mut Bodies,
 ) -> Result<(), AllocError>
     ensures { (text : Text) (done : List FunctionTree) → known_of known.now ≡ definition text.definitions
-        → AreBodiesOf names.now text size done bodies.old.flow bodies.old.sections.items
-        → OnOk result (AreBodiesOf names.now text size (done ++ function.now ∷ [])
+        → AreBodiesOf names.now text done bodies.old.flow bodies.old.sections.items
+        → OnOk result (AreBodiesOf names.now text (done ++ function.now ∷ [])
         bodies.new.flow bodies.new.sections.items) }
 {
     let outline = outline_of(alloc, known, names, function)?;
-    add_outline(alloc, names, size, function, &outline, bodies)
+    add_outline(alloc, names, function, &outline, bodies)
 }
 
 /// The skeleton and the places of a function. A name that the table doesn't have is answered as lack of memory.
@@ -139,15 +131,14 @@ fn outline_of(
 fn add_outline(
     alloc: Global,
     names: &Names,
-    size: usize,
     function: &Function,
     outline: &Outline,
     bodies: &mut Bodies,
 ) -> Result<(), AllocError>
     ensures { (text : Text) (done : List FunctionTree)
         → IsOutline names.now (definition text.definitions) function.now outline.now
-        → AreBodiesOf names.now text size done bodies.old.flow bodies.old.sections.items
-        → OnOk result (AreBodiesOf names.now text size (done ++ function.now ∷ [])
+        → AreBodiesOf names.now text done bodies.old.flow bodies.old.sections.items
+        → OnOk result (AreBodiesOf names.now text (done ++ function.now ∷ [])
         bodies.new.flow bodies.new.sections.items) }
 {
     let Some(id) = names.find(function.name.text.as_str()) else {
@@ -155,7 +146,7 @@ fn add_outline(
     };
     let first = bodies.flow.points().len();
     let skeleton = &outline.skeleton;
-    let section = section_of(alloc, id, first, size, skeleton, outline.places.as_slice())?;
+    let section = section_of(alloc, id, first, skeleton, outline.places.as_slice())?;
     bodies.sections.push(section)?;
     bodies.flow.add(id, 1, skeleton)
 }

@@ -1,10 +1,9 @@
 //! The lines of a text.
-ghost use Rattle.std.specs.Prelude.{◌≡◌, ◌++◌, ◌<◌, ◌≤◌, ◌-◌, ◌^◌, length, IfOk, OnOk};
+ghost use Rattle.std.specs.Prelude.{◌≡◌, ◌++◌, IfOk, OnOk};
 ghost use Rattle.std.proofs.Props.{props};
 ghost use Rattle.dsu_report.specs.Places.{line_at, column_at};
 ghost use Rattle.check_in_places.specs.LineStarts.{start_if, line_starts, IsLineAt};
 
-use dsu_report::Place;
 use std::alloc::{AllocError, Global};
 
 /// A text, and where its lines begin: a place is found without going over the text again.
@@ -29,27 +28,21 @@ impl<'a> Lines<'a> {
         Ok(Lines { text, starts })
     }
 
-    /// The line of a byte, or of the end of the text: the number of lines that begin at or before it.
+    /// The line of a byte: the number of lines that begin at or before it.
     fn line(&self, at: usize) -> usize
-        requires { at ≤ length self.now.text.now }
         ensures { IsLineAt self.now.text.now at result }
     {
         self.starts.as_slice().partition_point(|start| *start <= at)
     }
 
-    /// The line and the column of a byte, or of the end of the text. Both fit, as the place does.
-    pub fn place(&self, at: usize) -> Place
-        requires within { at ≤ length self.now.text.now }
-        requires fits { at < 2 ^ 32 - 1 }
-        ensures line { result.line ≡ line_at self.now.text.now at }
-        ensures column { result.column ≡ column_at self.now.text.now at }
+    /// The line and the column of a byte, each counted from 1. A place past the end is counted as one in the last line.
+    pub fn place(&self, at: usize) -> (usize, u128)
+        ensures line { result.0 ≡ line_at self.now.text.now at }
+        ensures column { result.1 ≡ column_at self.now.text.now at }
     {
         let line = self.line(at);
-        let column = at - self.starts[line - 1] + 1;
-        Place {
-            line: line as u32,
-            column: column as u32,
-        }
+        let before = at - self.starts[line - 1];
+        (line, before as u128 + 1)
     }
 }
 

@@ -1,5 +1,5 @@
 //! The check-ins of a body.
-ghost use Rattle.std.specs.Prelude.{◌≡◌, ◌+◌, ◌++◌, ◌^◌, ◌<◌, ℕ, List, All, length, map, IfOk, OnOk};
+ghost use Rattle.std.specs.Prelude.{◌≡◌, ◌++◌, ℕ, List, All, length, map, IfOk, OnOk};
 ghost use Rattle.run_types.specs.Skeleton.{check_in_of as check_in_of_kind};
 ghost use Rattle.skeletons.specs.Meaning.{kind_of, meant};
 ghost use Rattle.check_in_places.specs.CheckIns.{check_in_if, check_ins_in};
@@ -11,20 +11,18 @@ use skeletons::{Point, PointKind, Skeleton};
 use std::alloc::{AllocError, Global};
 
 /// The check-ins of a function's body in the order of their places. `first` is the place in the flow of the body's first
-/// point. A text of `size` bytes has no check-in after its end or after 2^32 - 2 bytes; one there is answered as lack of
-/// memory.
+/// point.
 pub(crate) fn section_of(
     alloc: Global,
     function: NameId,
     first: usize,
-    size: usize,
     skeleton: &Skeleton,
     places: &[usize],
 ) -> Result<Section, AllocError>
     ensures { IfOk result (λ section. (names : List (List ℕ))
-        → IsSectionOf (meant names skeleton.now) places.now first size function section) }
+        → IsSectionOf (meant names skeleton.now) places.now first function section) }
 {
-    let mut spots = spots_of(alloc, first, size, skeleton, places)?;
+    let mut spots = spots_of(alloc, first, skeleton, places)?;
     spots.sort_by_key(|spot| spot.at)?;
     Ok(Section { function, spots })
 }
@@ -33,13 +31,12 @@ pub(crate) fn section_of(
 fn spots_of(
     alloc: Global,
     first: usize,
-    size: usize,
     skeleton: &Skeleton,
     places: &[usize],
 ) -> Result<Vec<Spot>, AllocError>
     ensures shown { IfOk result (λ spots. (names : List (List ℕ))
         → map shown spots.items ≡ check_ins_in (meant names skeleton.now) places.now) }
-    ensures spots { IfOk result (λ spots. All (IsSpotOf first size) spots.items) }
+    ensures spots { IfOk result (λ spots. All (IsSpotOf first) spots.items) }
     ensures counted { IfOk result (λ spots. (names : List (List ℕ))
         → All (IsCounted (meant names skeleton.now)) spots.items) }
 {
@@ -48,14 +45,7 @@ fn spots_of(
         let Some(at) = places.get(number) else {
             return Err(AllocError);
         };
-        add_spot(
-            &mut spots,
-            first,
-            size,
-            number,
-            skeleton.points[number],
-            *at,
-        )?;
+        add_spot(&mut spots, first, number, skeleton.points[number], *at)?;
     }
     Ok(spots)
 }
@@ -64,14 +54,13 @@ fn spots_of(
 fn add_spot(
     spots: &mut Vec<Spot>,
     first: usize,
-    size: usize,
     number: usize,
     point: Point,
     at: usize,
 ) -> Result<(), AllocError>
     ensures shown { OnOk result ((names : List (List ℕ)) → map shown spots.new.items
         ≡ map shown spots.old.items ++ check_in_if (check_in_of_kind (kind_of names point.kind)) number at) }
-    ensures spots { All (IsSpotOf first size) spots.old.items → OnOk result (All (IsSpotOf first size) spots.new.items) }
+    ensures spots { All (IsSpotOf first) spots.old.items → OnOk result (All (IsSpotOf first) spots.new.items) }
     ensures counted { (count : ℕ → ℕ) → length spots.old.items ≡ count number
         → All (λ spot. spot.before ≡ count spot.number) spots.old.items
         → OnOk result (All (λ spot. spot.before ≡ count spot.number) spots.new.items) }
@@ -80,9 +69,6 @@ fn add_spot(
         return Ok(());
     };
     let point = first.checked_add(number).ok_or(AllocError)?;
-    if at > size || at >= u32::MAX as usize {
-        return Err(AllocError);
-    }
     let Ok(before) = u32::try_from(spots.len()) else {
         return Err(AllocError);
     };

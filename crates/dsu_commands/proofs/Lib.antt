@@ -1,5 +1,6 @@
 mod Printing
 mod Planned
+mod DefinedUses
 mod NamedWaits
 mod Reporting
 mod Reading

@@ -9,7 +9,7 @@ use Rattle.source_model.specs.Schedules.{is_prompt}
 use Rattle.source_model.specs.ScheduleLaws.{SoloIsPrompt}
 use Rattle.dsu_runs.specs.declared.ran.Ran.{Ran}
 use Rattle.dsu_runs.specs.declared.ran.StopCause.{StopCause}
-use Rattle.dsu_runs.specs.declared.ran.StopCause.TheVariants.{Ended, SinkFailed, CannotHappen, Memory, Misused}
+use Rattle.dsu_runs.specs.declared.ran.StopCause.TheVariants.{Ended, SinkFailed, CannotHappen, Memory, Misused, UndefinedName}
 use Rattle.dsu_runs.specs.Replays.{Replayed, StoppedReplay}
 use Rattle.dsu_runs.specs.Solo.{RanSolo, StoppedSolo}
 use Rattle.dsu_commands.specs.Plans.{BySchedule, ByJournal}
@@ -23,6 +23,7 @@ module _ {T : Type 0} (setup : Setup) (is_at : Guard → T → Type 0) (told : T
   solo_stopped moves ran g (CannotHappen line) s = absurd s
   solo_stopped moves ran g Memory s = s
   solo_stopped moves ran g (Misused line) s = absurd s
+  solo_stopped moves ran g (UndefinedName line) s = absurd s
 
   pub ran_by_schedule : SoloIsPrompt → (moves : ℕ) (ran : Ran T) → RanSolo setup is_at told faults engine moves ran
       → RanBy (BySchedule moves) setup is_at told faults engine ran
@@ -57,9 +58,10 @@ module _ {T : Type 0} (setup : Setup) (is_at : Guard → T → Type 0) (told : T
 
   -- the schedule stops at no event
   pub stops_at_no_event : (moves : ℕ) (ran : Ran T) (line : ℕ) → RanSolo setup is_at told faults engine moves ran
-      → (ran.cause ≡ CannotHappen line) ⊎ (ran.cause ≡ Misused line) → ⊥
+      → (ran.cause ≡ CannotHappen line) ⊎ ((ran.cause ≡ Misused line) ⊎ (ran.cause ≡ UndefinedName line)) → ⊥
   stops_at_no_event moves ran line at (inl is) = solo_stops moves ran (CannotHappen line) is at
-  stops_at_no_event moves ran line at (inr is) = solo_stops moves ran (Misused line) is at
+  stops_at_no_event moves ran line at (inr (inl is)) = solo_stops moves ran (Misused line) is at
+  stops_at_no_event moves ran line at (inr (inr is)) = solo_stops moves ran (UndefinedName line) is at
 
   replay_stopped : (lines : List (ℕ × Event)) (ran : Ran T) (g : Guard) (cause : StopCause)
       → StoppedReplay setup is_at told faults engine lines ran g cause
@@ -70,6 +72,7 @@ module _ {T : Type 0} (setup : Setup) (is_at : Guard → T → Type 0) (told : T
       record { impossible = record { event = s.event; next = s.next; never = s.never }; printed = s.printed }
   replay_stopped lines ran g Memory s = s
   replay_stopped lines ran g (Misused line) s = s.misused
+  replay_stopped lines ran g (UndefinedName line) s = s.undefined
 
   pub ran_by_journal : (lines : List (ℕ × Event)) (ran : Ran T) → Replayed setup is_at told faults engine lines ran
       → RanBy (ByJournal lines) setup is_at told faults engine ran

@@ -18,7 +18,7 @@ use Rattle.dsu_report.specs.Statuses.{status_of_ending}
 use Rattle.dsu_runs.specs.Rows.{RulesExist}
 use Rattle.dsu_runs.specs.declared.ran.Ran.{Ran}
 use Rattle.dsu_runs.specs.declared.ran.StopCause.{StopCause}
-use Rattle.dsu_runs.specs.declared.ran.StopCause.TheVariants.{Ended, SinkFailed, CannotHappen, Memory, Misused}
+use Rattle.dsu_runs.specs.declared.ran.StopCause.TheVariants.{Ended, SinkFailed, CannotHappen, Memory, Misused, UndefinedName}
 use Rattle.dsu_commands.specs.declared.finish.Finish.{Finish}
 use Rattle.dsu_commands.specs.declared.outcome.InForce.{InForce}
 use Rattle.dsu_commands.specs.Calls.{Call, NoEnd, Output, Shows, ShowsPrefix, Writes, output_of, run_call}
@@ -26,6 +26,7 @@ use Rattle.dsu_commands.specs.Plans.{Plan}
 use Rattle.dsu_commands.specs.Reports.{run_text}
 use Rattle.dsu_commands.specs.Runs.{Came, HandsBack, Made, ran, print_failed, report_failed, refused, short}
 use Rattle.dsu_commands.specs.Schedules.{EndedBy, Hands, IsReported, RanBy, StoppedBy}
+use Rattle.dsu_commands.proofs.DefinedUses.{accepted_offers_have_none}
 use Rattle.dsu_commands.proofs.NamedWaits.{each_named}
 
 -- the report of a fault
@@ -58,6 +59,10 @@ module _ {T : Type 0} (plan : Plan) (setup : Setup) (is_at : Guard → T → Typ
   pub never_misused : (line : ℕ) → r.cause ≡ Misused line → ⊥
   never_misused line is =
       false≢true (sym (whole exist.0 setup r.history.items by.guard exist.1 accepted (by.legal exist.0 exist.1)).unmisused ∙ stopped (Misused line) is)
+
+  -- nor does an offer's text use a name that it doesn't define
+  pub never_undefined : (line : ℕ) → r.cause ≡ UndefinedName line → ⊥
+  never_undefined line is = accepted_offers_have_none setup accepted (stopped (UndefinedName line) is)
 
   -- the ending is that of the guard, with main's number as it is
   pub ends_as : (end : Ending) → EndedBy plan setup is_at told by.guard end engine r → end ≡ ending_of by.guard

@@ -8,9 +8,10 @@ use Rattle.source_model.specs.Endings.{ending, int_ending}
 use Rattle.dsu_report.specs.Statuses.{status_of_ending}
 use Rattle.effects.specs.Rows.{AreRows}
 use Rattle.dsu_runs.specs.Ran.{FailedAt, Printed}
+use Rattle.dsu_runs.specs.UndefinedNames.{HasUndefinedOffer}
 use Rattle.dsu_runs.specs.declared.ran.Ran.{Ran}
 use Rattle.dsu_runs.specs.declared.ran.StopCause.{StopCause}
-use Rattle.dsu_runs.specs.declared.ran.StopCause.TheVariants.{Ended, SinkFailed, CannotHappen, Memory, Misused}
+use Rattle.dsu_runs.specs.declared.ran.StopCause.TheVariants.{Ended, SinkFailed, CannotHappen, Memory, Misused, UndefinedName}
 use Rattle.dsu_commands.specs.declared.finish.Finish.{Finish}
 use Rattle.dsu_commands.specs.declared.outcome.InForce.{InForce}
 use Rattle.dsu_commands.specs.Calls.{Output, Shows, ShowsPrefix}
@@ -31,7 +32,8 @@ pub record RefusedBy {T : Type 0} (plan : Plan) (setup : Setup) (told : T → Op
   pub impossible : Impossible plan setup ran.history.items g line
   pub printed : Printed (told engine) (told ran.engine) g
 
--- by why no further event was made; that a definition was misused comes of no run of accepted texts
+-- by why no further event was made; that a definition was misused, or that an offer's text uses a name that it doesn't define,
+-- comes of no run of accepted texts
 abbrev pub StoppedBy : {T : Type 0} (plan : Plan) (setup : Setup) (is_at : Guard → T → Type 0) (told : T → Option (List ℕ))
     (faults : T → ℕ) → T → Ran T → Guard → StopCause → Type 0
 StoppedBy plan setup is_at told faults engine ran g (Ended end) = EndedBy plan setup is_at told g end engine ran
@@ -40,6 +42,7 @@ StoppedBy plan setup is_at told faults engine ran g SinkFailed =
 StoppedBy plan setup is_at told faults engine ran g (CannotHappen line) = RefusedBy plan setup told g line engine ran
 StoppedBy plan setup is_at told faults engine ran g Memory = Printed (told engine) (told ran.engine) g
 StoppedBy plan setup is_at told faults engine ran g (Misused line) = g.world.misused ≡ true
+StoppedBy plan setup is_at told faults engine ran g (UndefinedName line) = HasUndefinedOffer setup
 
 -- the events of a plan were made by an engine, up to why no further one was
 pub record RanBy {T : Type 0} (plan : Plan) (setup : Setup) (is_at : Guard → T → Type 0) (told : T → Option (List ℕ))

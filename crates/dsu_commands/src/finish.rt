@@ -63,6 +63,10 @@ pub(crate) fn report_run<T: Engine, E: Sink>(
         StopCause::Misused(line) => {
             fail(FaultLine::Line(line, LineWord::CannotHappen), file, err)
         }
+        // No accepted text uses a name that it doesn't define.
+        StopCause::UndefinedName(line) => {
+            fail(FaultLine::Line(line, LineWord::CannotHappen), file, err)
+        }
     }
 }
 

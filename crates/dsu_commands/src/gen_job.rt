@@ -7,6 +7,7 @@ ghost use Rattle.source_model.specs.Journals.{answers};
 ghost use Rattle.accepted_runs.specs.AcceptedRuns.{TextsAreAccepted};
 ghost use Rattle.dsu_cli.specs.declared.job.Job.TheVariants.{Gen};
 ghost use Rattle.dsu_report.specs.declared.fault.FaultLine.{FaultLine as Line};
+ghost use Rattle.run_machine.specs.Sources.{source_shown};
 ghost use Rattle.plain_engine.specs.Plain.{IsAt};
 ghost use Rattle.program_gen.specs.Generated.{offer_text};
 ghost use Rattle.dsu_commands.specs.Answers.{Answers, IsDone, IsExcused};
@@ -31,6 +32,7 @@ use frame_bodies::texts_of_programs_are_accepted;
 use plain_engine::PlainEngine;
 use run_types::Ending;
 use source_model::{journal_is_a_run, seats_fit_their_slots, solo_schedule_is_prompt};
+use source_runner::SourceRun;
 use std::alloc::Global;
 use typed_journals::{deadlocked_threads_wait, mains_result_is_an_int};
 
@@ -101,12 +103,12 @@ fn run_engine<O: Sink, E: Sink>(
     alloc: Global,
     seed: u64,
     size: u32,
-    engine: PlainEngine<NullSink>,
+    engine: PlainEngine<SourceRun, NullSink>,
     texts: &[List<u8>],
     out: O,
     err: &mut E,
 ) -> Outcome<O>
-    ensures { (setup : Setup) → TextsAreAccepted setup → IsAt setup (first_guard setup) engine.state engine.printed engine.written
+    ensures { (setup : Setup) → TextsAreAccepted setup → IsAt source_shown setup (first_guard setup) engine.state engine.printed engine.written
         → texts.now ≡ offer_text seed size ∷ [] → Summed seed size setup
         (call_of result (output_of O.told O.faults out result.out) (output_of E.told E.faults err.old err.new))
         ⊎ SummaryFailed seed size setup
@@ -127,10 +129,11 @@ fn run_engine<O: Sink, E: Sink>(
         // The sink takes all bytes.
         StopCause::SinkFailed => stop(alloc, FaultLine::Write, "", out, err),
         // The schedule has no event that can't happen, and withdraws an offer that isn't decided.
-        StopCause::CannotHappen(line) | StopCause::Misused(line) => {
-            let fault = FaultLine::Line(line, LineWord::CannotHappen);
-            stop(alloc, fault, "", out, err)
-        }
+        StopCause::CannotHappen(line) | StopCause::Misused(line) | StopCause::UndefinedName(line) =>
+            {
+                let fault = FaultLine::Line(line, LineWord::CannotHappen);
+                stop(alloc, fault, "", out, err)
+            }
     }
 }
 
@@ -139,16 +142,16 @@ fn summarize<O: Sink, E: Sink>(
     alloc: Global,
     seed: u64,
     size: u32,
-    ran: Ran<PlainEngine<NullSink>>,
+    ran: Ran<PlainEngine<SourceRun, NullSink>>,
     ending: Ending,
     texts: &[List<u8>],
     out: O,
     err: &mut E,
 ) -> Outcome<O>
-    ensures { (setup : Setup) (g : Guard) → IsAt setup g ran.engine.state ran.engine.printed ran.engine.written
+    ensures { (setup : Setup) (g : Guard) → IsAt source_shown setup g ran.engine.state ran.engine.printed ran.engine.written
         → length g.seats ≡ length g.world.slots
         → let summary = summary_text seed size (lines_in g.world.output) (run_text false [] (answers setup g) texts.now ending g.world) in
-        Printed setup (λ x. IsAt setup x ran.engine.state ran.engine.printed ran.engine.written) ran.history.items ending summary
+        Printed setup (λ x. IsAt source_shown setup x ran.engine.state ran.engine.printed ran.engine.written) ran.history.items ending summary
         (call_of result (output_of O.told O.faults out result.out) (output_of E.told E.faults err.old err.new))
         ⊎ Unprinted summary
         (call_of result (output_of O.told O.faults out result.out) (output_of E.told E.faults err.old err.new))
@@ -164,14 +167,14 @@ fn summarize<O: Sink, E: Sink>(
 /// Prints a summary, and hands back the run.
 fn print_summary<O: Sink, E: Sink>(
     alloc: Global,
-    ran: Ran<PlainEngine<NullSink>>,
+    ran: Ran<PlainEngine<SourceRun, NullSink>>,
     ending: Ending,
     summary: &[u8],
     out: O,
     err: &mut E,
 ) -> Outcome<O>
     ensures { (setup : Setup)
-        → Printed setup (λ x. IsAt setup x ran.engine.state ran.engine.printed ran.engine.written) ran.history.items ending summary.now
+        → Printed setup (λ x. IsAt source_shown setup x ran.engine.state ran.engine.printed ran.engine.written) ran.history.items ending summary.now
         (call_of result (output_of O.told O.faults out result.out) (output_of E.told E.faults err.old err.new))
         ⊎ Unprinted summary.now
         (call_of result (output_of O.told O.faults out result.out) (output_of E.told E.faults err.old err.new)) }

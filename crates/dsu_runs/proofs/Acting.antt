@@ -11,7 +11,7 @@ use Rattle.source_model.specs.Guards.{Guard, Setup, seat_of}
 use Rattle.source_model.specs.Schedules.{act_of, makes_move}
 use Rattle.dsu_runs.specs.declared.running.Running.{Running}
 use Rattle.dsu_runs.specs.declared.running.Step.{Step}
-use Rattle.dsu_runs.specs.declared.running.Step.TheVariants.{Done, CannotHappen, SinkFailed, Memory, Misused}
+use Rattle.dsu_runs.specs.declared.running.Step.TheVariants.{Done, CannotHappen, SinkFailed, Memory, Misused, UndefinedName}
 use Rattle.dsu_runs.specs.declared.solo_run.SoloRun.{SoloRun}
 use Rattle.dsu_runs.specs.Turns.{GoesAt, Keeps, Steps, Turned, Waits, history_after}
 use Rattle.dsu_runs.proofs.Happening.{MoveMade, any_are_rows, any_rules, move_made, no_move, refused}
@@ -80,6 +80,10 @@ module _ {E : Type 0} (is_at : Guard → E → Type 0) (told : E → Option (Lis
       × (new.history.items ≡ history_after e old.running.history.items step)
       × (step ≡ SinkFailed → makes_move e ≡ true)
 
+  -- a check-in decides no offer
+  passes_no_offer : (slot k : ℕ) → CheckIn slot ≡ Decide k → ⊥
+  passes_no_offer slot k e = cc
+
   -- a check-in that isn't made: only out of memory
   pub no_check_in : (old : SoloRun E) (new : Running E) (slot : ℕ) (step : Step) → GoesAt is_at g old.running.engine
       → (seat_of g slot).at_check_in ≡ true → (step ≡ Done → ⊥) → Tried old new (CheckIn slot) step
@@ -89,10 +93,8 @@ module _ {E : Type 0} (is_at : Guard → E → Type 0) (told : E → Option (Lis
       absurd (refused any_rules setup slot g goes.going at goes.none_open (tried.0.never any_rules any_are_rows))
   no_check_in old new slot SinkFailed goes at other tried = absurd (false≢true (tried.2 refl))
   no_check_in old new slot Memory goes at other tried = record { silent = tried.0; history = tried.1 }
-  no_check_in old new slot Misused goes at other tried = absurd (no_decision tried.0.decides.0 tried.0.decides.1)
-    where
-      no_decision : (k : ℕ) → CheckIn slot ≡ Decide k → ⊥
-      no_decision k e = cc
+  no_check_in old new slot Misused goes at other tried = absurd (passes_no_offer slot tried.0.decides.0 tried.0.decides.1)
+  no_check_in old new slot UndefinedName goes at other tried = absurd (passes_no_offer slot tried.0.decides.0 tried.0.decides.1)
 
   -- a move decides no offer
   no_decision : (slot k : ℕ) → Move slot ≡ Decide k → ⊥
@@ -126,6 +128,7 @@ module _ {E : Type 0} (is_at : Guard → E → Type 0) (told : E → Option (Lis
   moves_on old new slot CannotHappen some other memory tried = absurd (other refl)
   moves_on old new slot Memory some other memory tried = absurd (memory refl)
   moves_on old new slot Misused some other memory tried = absurd (no_decision slot tried.0.decides.0 tried.0.decides.1)
+  moves_on old new slot UndefinedName some other memory tried = absurd (no_decision slot tried.0.decides.0 tried.0.decides.1)
 
   -- a move that isn't made
   pub stays_there : (old : SoloRun E) (new : Running E) (slot : ℕ) (step : Step) → GoesAt is_at g old.running.engine
@@ -140,22 +143,26 @@ module _ {E : Type 0} (is_at : Guard → E → Type 0) (told : E → Option (Lis
   }
   stays_there old new slot Memory goes at other failed tried = record { silent = tried.0; history = tried.1 }
   stays_there old new slot Misused goes at other failed tried = absurd (no_decision slot tried.0.decides.0 tried.0.decides.1)
+  stays_there old new slot UndefinedName goes at other failed tried = absurd (no_decision slot tried.0.decides.0 tried.0.decides.1)
 
 -- which step it was
-pub not_done : (s : Step) → (s ≡ CannotHappen) ⊎ ((s ≡ SinkFailed) ⊎ ((s ≡ Memory) ⊎ (s ≡ Misused))) → s ≡ Done → ⊥
+pub not_done : (s : Step) → (s ≡ CannotHappen) ⊎ ((s ≡ SinkFailed) ⊎ ((s ≡ Memory) ⊎ ((s ≡ Misused) ⊎ (s ≡ UndefinedName)))) → s ≡ Done → ⊥
 not_done s (inl a) is = cc (a, is)
 not_done s (inr (inl a)) is = cc (a, is)
 not_done s (inr (inr (inl a))) is = cc (a, is)
-not_done s (inr (inr (inr a))) is = cc (a, is)
+not_done s (inr (inr (inr (inl a)))) is = cc (a, is)
+not_done s (inr (inr (inr (inr a)))) is = cc (a, is)
 
-pub was_made : (s other : Step) → (s ≡ Done) ⊎ (s ≡ SinkFailed) → (other ≡ CannotHappen) ⊎ ((other ≡ Memory) ⊎ (other ≡ Misused))
+pub was_made : (s other : Step) → (s ≡ Done) ⊎ (s ≡ SinkFailed) → (other ≡ CannotHappen) ⊎ ((other ≡ Memory) ⊎ ((other ≡ Misused) ⊎ (other ≡ UndefinedName)))
     → s ≡ other → ⊥
 was_made s other (inl a) (inl b) is = cc (a, b, is)
 was_made s other (inl a) (inr (inl b)) is = cc (a, b, is)
-was_made s other (inl a) (inr (inr b)) is = cc (a, b, is)
+was_made s other (inl a) (inr (inr (inl b))) is = cc (a, b, is)
+was_made s other (inl a) (inr (inr (inr b))) is = cc (a, b, is)
 was_made s other (inr a) (inl b) is = cc (a, b, is)
 was_made s other (inr a) (inr (inl b)) is = cc (a, b, is)
-was_made s other (inr a) (inr (inr b)) is = cc (a, b, is)
+was_made s other (inr a) (inr (inr (inl b))) is = cc (a, b, is)
+was_made s other (inr a) (inr (inr (inr b))) is = cc (a, b, is)
 
 module _ {E : Type 0} (setup : Setup) (is_at : Guard → E → Type 0) (told : E → Option (List ℕ)) (faults : E → ℕ) (g : Guard) where
   -- a run that goes on does so after a turn in which nothing was next

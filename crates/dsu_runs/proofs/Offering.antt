@@ -10,7 +10,7 @@ use Rattle.source_model.specs.Guards.{Guard, Setup, has_ended}
 use Rattle.source_model.specs.Schedules.{due, first_act, slots_after}
 use Rattle.dsu_runs.specs.declared.running.Running.{Running}
 use Rattle.dsu_runs.specs.declared.running.Step.{Step}
-use Rattle.dsu_runs.specs.declared.running.Step.TheVariants.{Done, CannotHappen, SinkFailed, Memory, Misused}
+use Rattle.dsu_runs.specs.declared.running.Step.TheVariants.{Done, CannotHappen, SinkFailed, Memory, Misused, UndefinedName}
 use Rattle.dsu_runs.specs.declared.solo_run.SoloRun.{SoloRun}
 use Rattle.dsu_runs.specs.Turns.{GoesAt, Keeps, Turned, history_after}
 use Rattle.dsu_runs.proofs.Acting.{Tried, keeps_then, kept}
@@ -38,6 +38,13 @@ none_made : (n : ℕ) → n + 0 ≡ n
 none_made n = omega arith
 
 module _ {E : Type 0} (is_at : Guard → E → Type 0) (told : E → Option (List ℕ)) (setup : Setup) (g : Guard) where
+  -- what opens an offer, or withdraws it, decides none
+  opens_only : (k offer : ℕ) → Offer k ≡ Decide offer → ⊥
+  opens_only k offer e = cc
+
+  withdraws_only : (k offer : ℕ) → Withdraw k ≡ Decide offer → ⊥
+  withdraws_only k offer e = cc
+
   -- an offer that is due is opened
   pub opened : (old : SoloRun E) (new : Running E) (k : ℕ) (step : Step) → GoesAt is_at g old.running.engine → due setup g ≡ Some k
       → Tried is_at told setup g old new (Offer k) step → Turned is_at told setup g (Some (Offer k)) old (with_running old new) step
@@ -58,15 +65,13 @@ module _ {E : Type 0} (is_at : Guard → E → Type 0) (told : E → Option (Lis
       never a none some = cc
   opened old new k SinkFailed goes is tried = absurd (false≢true (tried.2 refl))
   opened old new k Memory goes is tried = record { silent = tried.0; history = tried.1 }
-  opened old new k Misused goes is tried = absurd (other tried.0.decides.0 tried.0.decides.1)
-    where
-      other : (offer : ℕ) → Offer k ≡ Decide offer → ⊥
-      other offer e = cc
+  opened old new k Misused goes is tried = absurd (opens_only k tried.0.decides.0 tried.0.decides.1)
+  opened old new k UndefinedName goes is tried = absurd (opens_only k tried.0.decides.0 tried.0.decides.1)
 
   -- a decision that was made
   pub decided : (old : SoloRun E) (new : Running E) (k : ℕ) (step : Step) → (step ≡ CannotHappen → ⊥) → (step ≡ Memory → ⊥)
-      → (step ≡ Misused → ⊥) → Tried is_at told setup g old new (Decide k) step → Turned is_at told setup g (Some (Decide k)) old (with_running old new) step
-  decided old new k Done can room used tried = record {
+      → (step ≡ Misused → ⊥) → (step ≡ UndefinedName → ⊥) → Tried is_at told setup g old new (Decide k) step → Turned is_at told setup g (Some (Decide k)) old (with_running old new) step
+  decided old new k Done can room used has tried = record {
     wanted = Decide k;
     event = Decide k;
     due = refl;
@@ -76,10 +81,11 @@ module _ {E : Type 0} (is_at : Guard → E → Type 0) (told : E → Option (Lis
     first = λ last first. first;
     left = none_made old.left;
   }
-  decided old new k CannotHappen can room used tried = absurd (can refl)
-  decided old new k SinkFailed can room used tried = absurd (false≢true (tried.2 refl))
-  decided old new k Memory can room used tried = absurd (room refl)
-  decided old new k Misused can room used tried = absurd (used refl)
+  decided old new k CannotHappen can room used has tried = absurd (can refl)
+  decided old new k SinkFailed can room used has tried = absurd (false≢true (tried.2 refl))
+  decided old new k Memory can room used has tried = absurd (room refl)
+  decided old new k Misused can room used has tried = absurd (used refl)
+  decided old new k UndefinedName can room used has tried = absurd (has refl)
 
   -- one that wasn't leaves the run as it was
   pub record Still (old : SoloRun E) (mid : Running E) : Type 0 where
@@ -87,7 +93,8 @@ module _ {E : Type 0} (is_at : Guard → E → Type 0) (told : E → Option (Lis
     pub silent : told mid.engine ≡ told old.running.engine
     pub history : mid.history.items ≡ old.running.history.items
 
-  pub undecided : (old : SoloRun E) (mid : Running E) (k : ℕ) (step : Step) → (step ≡ CannotHappen) ⊎ ((step ≡ Memory) ⊎ (step ≡ Misused))
+  pub undecided : (old : SoloRun E) (mid : Running E) (k : ℕ) (step : Step)
+      → (step ≡ CannotHappen) ⊎ ((step ≡ Memory) ⊎ ((step ≡ Misused) ⊎ (step ≡ UndefinedName)))
       → Tried is_at told setup g old mid (Decide k) step → (step ≡ Memory → is_at g mid.engine) → Still old mid
   undecided old mid k Done (inl why) tried stays = absurd (made why)
     where
@@ -97,14 +104,19 @@ module _ {E : Type 0} (is_at : Guard → E → Type 0) (told : E → Option (Lis
     where
       made : Done ≡ Memory → ⊥
       made e = cc
-  undecided old mid k Done (inr (inr why)) tried stays = absurd (made why)
+  undecided old mid k Done (inr (inr (inl why))) tried stays = absurd (made why)
     where
       made : Done ≡ Misused → ⊥
+      made e = cc
+  undecided old mid k Done (inr (inr (inr why))) tried stays = absurd (made why)
+    where
+      made : Done ≡ UndefinedName → ⊥
       made e = cc
   undecided old mid k SinkFailed why tried stays = absurd (false≢true (tried.2 refl))
   undecided old mid k CannotHappen why tried stays = record { there = tried.0.stays; silent = tried.0.silent; history = tried.1 }
   undecided old mid k Memory why tried stays = record { there = stays refl; silent = tried.0; history = tried.1 }
   undecided old mid k Misused why tried stays = record { there = tried.0.stays; silent = tried.0.silent; history = tried.1 }
+  undecided old mid k UndefinedName why tried stays = record { there = tried.0.stays; silent = tried.0.silent; history = tried.1 }
 
   -- and then the offer is withdrawn
   pub withdrawn : (old : SoloRun E) (mid new : Running E) (k : ℕ) (step : Step) → Still old mid → has_ended g ≡ false
@@ -133,10 +145,8 @@ module _ {E : Type 0} (is_at : Guard → E → Type 0) (told : E → Option (Lis
   withdrawn old mid new k SinkFailed still going is tried = absurd (false≢true (tried.2 refl))
   withdrawn old mid new k Memory still going is tried =
       record { silent = tried.0 ∙ still.silent; history = tried.1 ∙ still.history }
-  withdrawn old mid new k Misused still going is tried = absurd (other tried.0.decides.0 tried.0.decides.1)
-    where
-      other : (offer : ℕ) → Withdraw k ≡ Decide offer → ⊥
-      other offer e = cc
+  withdrawn old mid new k Misused still going is tried = absurd (withdraws_only k tried.0.decides.0 tried.0.decides.1)
+  withdrawn old mid new k UndefinedName still going is tried = absurd (withdraws_only k tried.0.decides.0 tried.0.decides.1)
 
 module _ {E : Type 0} (faults : E → ℕ) where
   -- an event tried where none was made before

@@ -12,7 +12,7 @@ use Rattle.source_model.specs.Endings.{ending, int_ending}
 use Rattle.dsu_runs.specs.declared.running.Running.{Running}
 use Rattle.dsu_runs.specs.declared.running.Step.{Step}
 use Rattle.dsu_runs.specs.declared.running.Step.TheVariants as steps
-use Rattle.dsu_runs.specs.declared.ran.StopCause.TheVariants.{Ended, SinkFailed, CannotHappen, Memory, Misused}
+use Rattle.dsu_runs.specs.declared.ran.StopCause.TheVariants.{Ended, SinkFailed, CannotHappen, Memory, Misused, UndefinedName}
 use Rattle.dsu_runs.specs.Turns.{Steps, history_after, ran_of}
 use Rattle.dsu_runs.specs.Replays.{Replayed, events_of}
 use Rattle.dsu_runs.proofs.Acting.{rose_since}
@@ -188,7 +188,28 @@ module _ {E : Type 0} (setup : Setup) (is_at : Guard → E → Type 0) (told : E
             next =
                 ap (λ (es : List Event). slice_get lines (length es)) history ∙ ap (slice_get lines) (count n now at) ∙ there
                 ∙ ap (λ e. Some (line.0, e)) m.decides.1;
-            misused = m.misused;
+            misused = m.because;
+            there = m.stays;
+            printed =
+                printed_still setup (told engine) (told now.engine) (told next.engine) now.history.items at.guard m.silent at.came;
+          };
+        }
+
+    pub undefined : step ≡ steps.UndefinedName → Replayed setup is_at told faults engine lines (ran_of next (UndefinedName line.0))
+    undefined is =
+        let m = made_is steps.UndefinedName is in
+        let history = history_is steps.UndefinedName is in
+        record {
+          guard = at.guard;
+          legal = λ rules rows. ap (guard_after rules setup) history ∙ at.came.legal rules rows;
+          made = still history;
+          later = later;
+          stopped = record {
+            offer = m.decides.0;
+            next =
+                ap (λ (es : List Event). slice_get lines (length es)) history ∙ ap (slice_get lines) (count n now at) ∙ there
+                ∙ ap (λ e. Some (line.0, e)) m.decides.1;
+            undefined = m.because;
             there = m.stays;
             printed =
                 printed_still setup (told engine) (told now.engine) (told next.engine) now.history.items at.guard m.silent at.came;

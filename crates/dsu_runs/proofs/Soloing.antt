@@ -293,9 +293,10 @@ module _ {E : Type 0} (setup : Setup) (is_at : Guard → E → Type 0) (told : E
         }
 
     -- a turn comes to nothing only where no event was next
-    pub came_to_nothing : (step ≡ steps.CannotHappen) ⊎ (step ≡ steps.Misused) → step ≡ steps.CannotHappen
+    pub came_to_nothing : (step ≡ steps.CannotHappen) ⊎ ((step ≡ steps.Misused) ⊎ (step ≡ steps.UndefinedName)) → step ≡ steps.CannotHappen
     came_to_nothing (inl is) = is
-    came_to_nothing (inr is) = absurd (came_of steps.Misused is)
+    came_to_nothing (inr (inl is)) = absurd (came_of steps.Misused is)
+    came_to_nothing (inr (inr is)) = absurd (came_of steps.UndefinedName is)
 
     -- nothing was next, and the run is as it was
     pub waits : (is : step ≡ steps.CannotHappen) → (now : Going new) × (next_within setup now.guard now.last new.left ≡ None)

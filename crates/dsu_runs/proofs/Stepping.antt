@@ -12,6 +12,7 @@ use Rattle.dsu_runs.specs.declared.engine.Undecided.TheVariants as why
 use Rattle.dsu_runs.specs.declared.running.Step.TheVariants as steps
 use Rattle.dsu_runs.specs.Engines.{MakesAt}
 use Rattle.dsu_runs.specs.Turns.{Steps, step_by}
+use Rattle.dsu_runs.specs.UndefinedNames.{HasUndefinedOffer}
 
 module _ (at : Guard → Type 0) (setup : Setup) (e : Event) (g : Guard) (told now : Option (List ℕ)) where
   -- no move is a decision
@@ -21,16 +22,25 @@ module _ (at : Guard → Type 0) (setup : Setup) (e : Event) (g : Guard) (told n
   pub stepped : (r : Result Made Undecided) (P : Type 0) → (P → makes_move e ≡ false → at g)
       → IfOk r (MakesAt at setup e g told now) → OnErr r (now ≡ told) → OnErr r P
       → (r ≡ Err why.Misused → (k : ℕ) × (e ≡ Decide k)) → (r ≡ Err why.Misused → g.world.misused ≡ true)
+      → (r ≡ Err why.UndefinedName → (k : ℕ) × (e ≡ Decide k)) → (r ≡ Err why.UndefinedName → HasUndefinedOffer setup)
       → Steps at setup e g told now (step_by r)
-  stepped (Ok made.Done) P there makes silent stays decides misused = makes
-  stepped (Ok made.CannotHappen) P there makes silent stays decides misused = makes
-  stepped (Ok made.SinkFailed) P there makes silent stays decides misused = makes
-  stepped (Err why.Memory) P there makes silent stays decides misused = silent
-  stepped (Err why.Misused) P there makes silent stays decides misused =
+  stepped (Ok made.Done) P there makes silent stays decides misused offers undefined = makes
+  stepped (Ok made.CannotHappen) P there makes silent stays decides misused offers undefined = makes
+  stepped (Ok made.SinkFailed) P there makes silent stays decides misused offers undefined = makes
+  stepped (Err why.Memory) P there makes silent stays decides misused offers undefined = silent
+  stepped (Err why.Misused) P there makes silent stays decides misused offers undefined =
       let decision = decides refl in
       record {
         decides = decision;
-        misused = misused refl;
+        because = misused refl;
+        stays = there stays (no_move decision.0 decision.1);
+        silent = silent;
+      }
+  stepped (Err why.UndefinedName) P there makes silent stays decides misused offers undefined =
+      let decision = offers refl in
+      record {
+        decides = decision;
+        because = undefined refl;
         stays = there stays (no_move decision.0 decision.1);
         silent = silent;
       }
@@ -42,3 +52,4 @@ still_there (Ok made.CannotHappen) P stays is = cc
 still_there (Ok made.SinkFailed) P stays is = cc
 still_there (Err why.Memory) P stays is = stays
 still_there (Err why.Misused) P stays is = stays
+still_there (Err why.UndefinedName) P stays is = stays

@@ -6,7 +6,7 @@ use Rattle.run_types.specs.declared.run.Event.{Event}
 use Rattle.source_model.specs.Guards.{Guard, Setup}
 use Rattle.source_model.specs.Schedules.{act_of, first_act, slots_after}
 use Rattle.dsu_runs.specs.declared.running.Step.{Step}
-use Rattle.dsu_runs.specs.declared.running.Step.TheVariants.{Done, CannotHappen, SinkFailed, Memory, Misused}
+use Rattle.dsu_runs.specs.declared.running.Step.TheVariants.{Done, CannotHappen, SinkFailed, Memory, Misused, UndefinedName}
 use Rattle.dsu_runs.specs.declared.solo_run.SoloRun.{SoloRun}
 use Rattle.dsu_runs.specs.Turns.{SameBut, Turned, Waits, first_after}
 
@@ -90,6 +90,7 @@ module _ {E : Type 0} (is_at : Guard → E → Type 0) (told : E → Option (Lis
   }
   by_first a b old new Memory done acts = acts
   by_first a b old new Misused done acts = absurd acts
+  by_first a b old new UndefinedName done acts = absurd acts
 
   -- the first of two could do nothing, so the second had its turn
   pub by_second : (a b : Option Event) (old mid new : SoloRun E) (step : Step) → Waits is_at told g a old mid → SameBut old mid
@@ -132,3 +133,4 @@ module _ {E : Type 0} (is_at : Guard → E → Type 0) (told : E → Option (Lis
     history = lacks.history ∙ same.history;
   }
   by_second a b old mid new Misused waits same never = absurd never
+  by_second a b old mid new UndefinedName waits same never = absurd never

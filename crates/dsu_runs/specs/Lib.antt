@@ -1,3 +1,4 @@
+pub mod UndefinedNames
 pub mod Setups
 pub mod Rows
 pub mod Engines

@@ -8,9 +8,10 @@ use Rattle.source_model.specs.Journals.{guard_after, happens}
 use Rattle.source_model.specs.Endings.{ending, int_ending}
 use Rattle.effects.specs.Rows.{AreRows}
 use Rattle.dsu_runs.specs.Ran.{FailedAt, Printed}
+use Rattle.dsu_runs.specs.UndefinedNames.{HasUndefinedOffer}
 use Rattle.dsu_runs.specs.declared.ran.Ran.{Ran}
 use Rattle.dsu_runs.specs.declared.ran.StopCause.{StopCause}
-use Rattle.dsu_runs.specs.declared.ran.StopCause.TheVariants.{Ended, SinkFailed, CannotHappen, Memory, Misused}
+use Rattle.dsu_runs.specs.declared.ran.StopCause.TheVariants.{Ended, SinkFailed, CannotHappen, Memory, Misused, UndefinedName}
 
 -- a journal's events, each without its line
 abbrev pub events_of : List (ℕ × Event) → List Event
@@ -42,6 +43,15 @@ pub record MisusedReplay {E : Type 0} (is_at : Guard → E → Type 0) (told : E
   pub there : is_at g ran.engine
   pub printed : Printed (told engine) (told ran.engine) g
 
+-- the decision of a line isn't made, since the text of an offer uses a name that it doesn't define
+pub record UndefinedReplay {E : Type 0} (setup : Setup) (is_at : Guard → E → Type 0) (told : E → Option (List ℕ))
+    (lines : List (ℕ × Event)) (g : Guard) (line : ℕ) (engine : E) (ran : Ran E) : Type 0 where
+  pub offer : ℕ
+  pub next : slice_get lines (length ran.history.items) ≡ Some (line, Decide offer)
+  pub undefined : HasUndefinedOffer setup
+  pub there : is_at g ran.engine
+  pub printed : Printed (told engine) (told ran.engine) g
+
 -- by why no further event was made
 abbrev pub StoppedReplay : {E : Type 0} (setup : Setup) (is_at : Guard → E → Type 0) (told : E → Option (List ℕ)) (faults : E → ℕ)
     → E → List (ℕ × Event) → Ran E → Guard → StopCause → Type 0
@@ -52,6 +62,8 @@ StoppedReplay setup is_at told faults engine lines ran g (CannotHappen line) =
     Refused setup is_at told lines g line engine ran
 StoppedReplay setup is_at told faults engine lines ran g Memory = Printed (told engine) (told ran.engine) g
 StoppedReplay setup is_at told faults engine lines ran g (Misused line) = MisusedReplay is_at told lines g line engine ran
+StoppedReplay setup is_at told faults engine lines ran g (UndefinedName line) =
+    UndefinedReplay setup is_at told lines g line engine ran
 
 -- the replay of a journal by an engine: a prefix of its events was made
 pub record Replayed {E : Type 0} (setup : Setup) (is_at : Guard → E → Type 0) (told : E → Option (List ℕ)) (faults : E → ℕ)

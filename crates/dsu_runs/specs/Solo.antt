@@ -10,7 +10,7 @@ use Rattle.effects.specs.Rows.{AreRows}
 use Rattle.dsu_runs.specs.Ran.{FailedAt, Printed}
 use Rattle.dsu_runs.specs.declared.ran.Ran.{Ran}
 use Rattle.dsu_runs.specs.declared.ran.StopCause.{StopCause}
-use Rattle.dsu_runs.specs.declared.ran.StopCause.TheVariants.{Ended, SinkFailed, CannotHappen, Memory, Misused}
+use Rattle.dsu_runs.specs.declared.ran.StopCause.TheVariants.{Ended, SinkFailed, CannotHappen, Memory, Misused, UndefinedName}
 
 -- each event was made where the run, which may make so many moves, hadn't ended
 abbrev pub EachBeforeTheEnd : Setup → ℕ → List Event → Type 0
@@ -37,6 +37,7 @@ StoppedSolo setup is_at told faults engine moves ran g SinkFailed =
 StoppedSolo setup is_at told faults engine moves ran g (CannotHappen line) = ⊥
 StoppedSolo setup is_at told faults engine moves ran g Memory = Printed (told engine) (told ran.engine) g
 StoppedSolo setup is_at told faults engine moves ran g (Misused line) = ⊥
+StoppedSolo setup is_at told faults engine moves ran g (UndefinedName line) = ⊥
 
 -- the run of an engine by the solo schedule, with so many moves at most
 pub record RanSolo {E : Type 0} (setup : Setup) (is_at : Guard → E → Type 0) (told : E → Option (List ℕ)) (faults : E → ℕ)

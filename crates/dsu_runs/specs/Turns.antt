@@ -17,8 +17,9 @@ use Rattle.dsu_runs.specs.declared.ran.Ran.{Ran}
 use Rattle.dsu_runs.specs.declared.ran.StopCause.{StopCause}
 use Rattle.dsu_runs.specs.declared.running.Running.{Running}
 use Rattle.dsu_runs.specs.declared.running.Step.{Step}
-use Rattle.dsu_runs.specs.declared.running.Step.TheVariants.{Done, CannotHappen, SinkFailed, Memory, Misused}
+use Rattle.dsu_runs.specs.declared.running.Step.TheVariants.{Done, CannotHappen, SinkFailed, Memory, Misused, UndefinedName}
 use Rattle.dsu_runs.specs.declared.solo_run.SoloRun.{SoloRun}
+use Rattle.dsu_runs.specs.UndefinedNames.{HasUndefinedOffer}
 
 -- what a schedule hands back of a run that it stops
 abbrev pub ran_of : {E : Type 0} → Running E → StopCause → Ran E
@@ -31,6 +32,7 @@ step_by (Ok made.CannotHappen) = CannotHappen
 step_by (Ok made.SinkFailed) = SinkFailed
 step_by (Err why.Memory) = Memory
 step_by (Err why.Misused) = Misused
+step_by (Err why.UndefinedName) = UndefinedName
 
 -- the events so far, with one that was made
 abbrev pub history_after : Event → List Event → Step → List Event
@@ -39,21 +41,24 @@ history_after e es CannotHappen = es
 history_after e es SinkFailed = es ++ e ∷ []
 history_after e es Memory = es
 history_after e es Misused = es
+history_after e es UndefinedName = es
 
--- an offer isn't decided, since a definition was misused in what the run came to: nothing changed
-pub record Misuses (at : Guard → Type 0) (e : Event) (g : Guard) (told now : Option (List ℕ)) : Type 0 where
+-- an offer isn't decided, for a reason: nothing changed
+pub record Withholds (at : Guard → Type 0) (e : Event) (g : Guard) (reason : Type 0) (told now : Option (List ℕ)) : Type 0 where
   pub decides : (k : ℕ) × (e ≡ Decide k)
-  pub misused : g.world.misused ≡ true
+  pub because : reason
   pub stays : at g
   pub silent : now ≡ told
 
--- what came of an event at a guard; out of memory nothing was printed
+-- what came of an event at a guard; out of memory nothing was printed. An offer isn't decided where a definition was misused in
+-- what the run came to, or where the text of an offer uses a name that it doesn't define
 abbrev pub Steps : (at : Guard → Type 0) → Setup → Event → Guard → Option (List ℕ) → Option (List ℕ) → Step → Type 0
 Steps at setup e g told now Done = Makes at setup e g told now
 Steps at setup e g told now CannotHappen = Refuses at setup e g told now
 Steps at setup e g told now SinkFailed = Fails setup e g told now
 Steps at setup e g told now Memory = now ≡ told
-Steps at setup e g told now Misused = Misuses at e g told now
+Steps at setup e g told now Misused = Withholds at e g (g.world.misused ≡ true) told now
+Steps at setup e g told now UndefinedName = Withholds at e g (HasUndefinedOffer setup) told now
 
 -- the slot that comes first after the one that acted last
 abbrev pub first_after : Option ℕ → ℕ
@@ -112,7 +117,7 @@ pub record Lacks {E : Type 0} (told : E → Option (List ℕ)) (old new : SoloRu
   pub silent : told new.running.engine ≡ told old.running.engine
   pub history : new.running.history.items ≡ old.running.history.items
 
--- what came of a turn in which an event is next, or none; an offer is withdrawn where its decision is kept back by a misuse
+-- what came of a turn in which an event is next, or none; an offer is withdrawn where its decision is kept back
 abbrev pub Turned : {E : Type 0} (is_at : Guard → E → Type 0) (told : E → Option (List ℕ)) → Setup → Guard → Option Event
     → SoloRun E → SoloRun E → Step → Type 0
 Turned is_at told setup g next old new Done = Acts is_at told setup g next old new
@@ -120,6 +125,7 @@ Turned is_at told setup g next old new CannotHappen = Waits is_at told g next ol
 Turned is_at told setup g next old new SinkFailed = Breaks told setup g next old new
 Turned is_at told setup g next old new Memory = Lacks told old new
 Turned is_at told setup g next old new Misused = ⊥
+Turned is_at told setup g next old new UndefinedName = ⊥
 
 -- nothing but the engine changed
 pub record SameBut {E : Type 0} (old new : SoloRun E) : Type 0 where

@@ -7,6 +7,7 @@ ghost use Rattle.source_model.specs.Guards.{Guard, Setup, can_open, has_ended};
 ghost use Rattle.source_model.specs.Journals.{answers};
 ghost use Rattle.source_model.specs.Schedules.{due};
 ghost use Rattle.dsu_runs.specs.Engines.{MakesAt, finish_of, standing_of, waiting_of, waits_in};
+ghost use Rattle.dsu_runs.specs.UndefinedNames.{HasUndefinedOffer};
 
 use name_sets::Names;
 use run_types::Ending;
@@ -31,6 +32,8 @@ pub enum Undecided {
     Memory,
     /// A definition was misused, so no thread moves any more. No run of accepted texts comes there.
     Misused,
+    /// The text of the offer uses a name that it doesn't define. No accepted text does.
+    UndefinedName,
 }
 
 impl From<AllocError> for Undecided {
@@ -144,7 +147,9 @@ pub trait Engine {
         ensures later { faults self.old ≤ faults self.new }
         ensures written { result ≢ Ok Made.SinkFailed }
         ensures misused { result ≡ Err Undecided.Misused → (setup : Setup) (g : Guard) → is_at setup g self.old
-            → g.world.misused ≡ true };
+            → g.world.misused ≡ true }
+        ensures undefined { result ≡ Err Undecided.UndefinedName → (setup : Setup) (g : Guard) → is_at setup g self.old
+            → HasUndefinedOffer setup };
 
     /// Closes the open offer with nothing changed. Nothing is printed.
     fn withdraw(&mut self, k: u8) -> Made

@@ -14,6 +14,9 @@ pub enum StopCause {
     /// The decision of that line of the journal isn't made, since a definition was misused. No run of accepted texts comes
     /// there.
     Misused(u32),
+    /// The decision of that line of the journal isn't made, since the text of the offer uses a name that it doesn't define. No
+    /// accepted text does.
+    UndefinedName(u32),
 }
 
 /// What a schedule hands back.

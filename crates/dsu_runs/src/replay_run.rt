@@ -28,6 +28,7 @@ pub fn replay<E: Engine>(alloc: Global, engine: E, events: &[(u32, Event)]) -> R
             Step::SinkFailed => return running.stop(StopCause::SinkFailed),
             Step::Memory => return running.stop(StopCause::Memory),
             Step::Misused => return running.stop(StopCause::Misused(*line)),
+            Step::UndefinedName => return running.stop(StopCause::UndefinedName(*line)),
         }
     }
     running.end()

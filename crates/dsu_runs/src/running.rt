@@ -7,6 +7,7 @@ ghost use Rattle.source_model.specs.Schedules.{makes_move};
 ghost use Rattle.source_model.specs.Endings.{ending as ending_of, int_ending};
 ghost use Rattle.dsu_runs.specs.Engines.{MakesAt};
 ghost use Rattle.dsu_runs.specs.Turns.{Steps, history_after, ran_of, step_by};
+ghost use Rattle.dsu_runs.specs.UndefinedNames.{HasUndefinedOffer};
 
 use crate::ending::ending;
 use crate::{Engine, Made, Ran, StopCause, Undecided};
@@ -21,6 +22,8 @@ pub(crate) enum Step {
     Memory,
     /// An offer isn't decided, since a definition was misused.
     Misused,
+    /// An offer isn't decided, since its text uses a name that it doesn't define.
+    UndefinedName,
 }
 
 /// A run on its way.
@@ -49,7 +52,7 @@ impl<E: Engine> Running<E> {
         let step = step_of(make(&mut self.engine, event));
         match step {
             Step::Done | Step::SinkFailed => keep(&mut self.history, event),
-            Step::CannotHappen | Step::Memory | Step::Misused => {}
+            Step::CannotHappen | Step::Memory | Step::Misused | Step::UndefinedName => {}
         }
         step
     }
@@ -86,6 +89,7 @@ fn step_of(made: Result<Made, Undecided>) -> Step
         Ok(Made::SinkFailed) => Step::SinkFailed,
         Err(Undecided::Memory) => Step::Memory,
         Err(Undecided::Misused) => Step::Misused,
+        Err(Undecided::UndefinedName) => Step::UndefinedName,
     }
 }
 
@@ -97,6 +101,7 @@ fn act<E: Engine>(engine: &mut E, slot: u8) -> Result<Made, Undecided>
     ensures later { E.faults engine.old ≤ E.faults engine.new }
     ensures cause { result ≡ Ok Made.SinkFailed → Rose (E.faults engine.old) (E.faults engine.new) }
     ensures memory { result ≢ Err Undecided.Misused }
+    ensures defined { result ≢ Err Undecided.UndefinedName }
 {
     match engine.act(slot) {
         Ok(made) => Ok(made),
@@ -117,6 +122,9 @@ fn make<E: Engine>(engine: &mut E, event: Event) -> Result<Made, Undecided>
     ensures decides { result ≡ Err Undecided.Misused → (k : ℕ) × (event ≡ Decide k) }
     ensures misused { result ≡ Err Undecided.Misused → (setup : Setup) (g : Guard) → E.is_at setup g engine.old
         → g.world.misused ≡ true }
+    ensures offers { result ≡ Err Undecided.UndefinedName → (k : ℕ) × (event ≡ Decide k) }
+    ensures undefined { result ≡ Err Undecided.UndefinedName → (setup : Setup) (g : Guard) → E.is_at setup g engine.old
+        → HasUndefinedOffer setup }
 {
     match event {
         Event::Move(slot) => act(engine, slot),

@@ -51,7 +51,7 @@ pub fn solo<E: Engine>(alloc: Global, engine: E, moves: u32) -> Ran<E>
         match solo.act() {
             Step::Done => {}
             // An offer is withdrawn where its decision isn't made, so a turn comes to nothing only where no event is next.
-            Step::CannotHappen | Step::Misused => return solo.running.end(),
+            Step::CannotHappen | Step::Misused | Step::UndefinedName => return solo.running.end(),
             Step::SinkFailed => return solo.running.stop(StopCause::SinkFailed),
             Step::Memory => return solo.running.stop(StopCause::Memory),
         }
@@ -100,7 +100,7 @@ impl<E: Engine> SoloRun<E> {
         ensures kept { Keeps E.faults self.old self.new result }
     {
         match self.running.make(Event::Decide(k)) {
-            Step::CannotHappen | Step::Memory | Step::Misused => {
+            Step::CannotHappen | Step::Memory | Step::Misused | Step::UndefinedName => {
                 self.running.make(Event::Withdraw(k))
             }
             step => step,
@@ -190,7 +190,11 @@ impl<E: Engine> SoloRun<E> {
         let step = self.running.make(Event::CheckIn(slot));
         match step {
             Step::Done => self.first = slot + 1,
-            Step::CannotHappen | Step::SinkFailed | Step::Memory | Step::Misused => {}
+            Step::CannotHappen
+            | Step::SinkFailed
+            | Step::Memory
+            | Step::Misused
+            | Step::UndefinedName => {}
         }
         step
     }
@@ -211,7 +215,7 @@ impl<E: Engine> SoloRun<E> {
                 self.first = slot + 1;
                 self.left -= 1;
             }
-            Step::CannotHappen | Step::Memory | Step::Misused => {}
+            Step::CannotHappen | Step::Memory | Step::Misused | Step::UndefinedName => {}
         }
         step
     }

@@ -3,7 +3,7 @@ use Rattle.std.proofs.Common.{◌≡◌, ℕ, zero, suc, ◌+◌, List, [], ◌�
 use Rattle.std.specs.Prelude.{All, slice_index}
 use Rattle.std.specs.List.{AllZip}
 use Rattle.std.specs.Option.{option_map, option_and_then}
-use Rattle.std.proofs.lemmas.List.Elements.{All-nil, All-cons, All-head, All-tail, All-weaker}
+use Rattle.std.proofs.lemmas.List.Elements.{All-nil, All-cons, All-head, All-tail}
 use Rattle.std.proofs.lemmas.List.Sorted.{All-permutation}
 use Rattle.std.proofs.lemmas.Option.{none-some, same_Some, slice_get-map, slice_get_within, get_or_from_slice_get}
 use Rattle.run_types.specs.CheckIns.{CheckInKind}
@@ -27,7 +27,7 @@ use Rattle.contextual_effects.specs.Effects.{Sets, AreEffectsOf}
 use Rattle.check_in_places.specs.declared.section.Spot.{Spot}
 use Rattle.check_in_places.specs.declared.section.Section.{Section}
 use Rattle.check_in_places.specs.CheckIns.{check_ins_in, functions}
-use Rattle.check_in_places.specs.Bodies.{shown, IsSpotOf, IsWithin, IsSectionFor, AreSections, AreBodiesOf, body_of}
+use Rattle.check_in_places.specs.Bodies.{shown, IsSpotOf, IsSectionFor, AreSections, AreBodiesOf, body_of}
 use Rattle.check_in_places.proofs.CheckIns.{are_check_ins, ascending_shown}
 use Rattle.check_in_places.proofs.OneText.{store_of}
 use Rattle.effects_report.specs.EffectsText.{IsLineOf, IsBlockOf, AreBlocksFrom}
@@ -72,16 +72,16 @@ pub record IsSolved (names : List Bytes) (bodies : List Body) (flow : Contents) 
   pub flowing : IsFlowOf names bodies flow
   pub effects : AreEffectsOf names bodies sets
 
-line_is : (names : List Bytes) (bodies : List Body) (flow : Contents) (sets : Sets) (k first size : ℕ) (b : Body) (spot : Spot)
+line_is : (names : List Bytes) (bodies : List Body) (flow : Contents) (sets : Sets) (k first : ℕ) (b : Body) (spot : Spot)
     → IsSolved names bodies flow sets → slice_get bodies k ≡ Some b → first ≡ points_before bodies k
-    → IsSpotOf first size spot → check_in_at b.skeleton spot.number ≡ Some (shown spot).kind
+    → IsSpotOf first spot → check_in_at b.skeleton spot.number ≡ Some (shown spot).kind
     → IsLineOf bodies k (shown spot) (line_of names sets spot)
-line_is names bodies flow sets k first size b spot solved stored begin is check_in =
+line_is names bodies flow sets k first b spot solved stored begin is check_in =
     let p : Site = record { body = k; point = spot.number } in
     let point = point_of_check_in (point_at b.skeleton spot.number) (shown spot).kind check_in in
     let place : place_of bodies p ≡ Some spot.point =
     place_at bodies k spot.number b point.0 stored point.1
-    ∙ ap Some (ap (λ n. n + spot.number) (sym begin) ∙ sym is.point)
+    ∙ ap Some (ap (λ n. n + spot.number) (sym begin) ∙ sym is)
     in
     record {
       place = refl;
@@ -91,23 +91,23 @@ line_is names bodies flow sets k first size b spot solved stored begin is check_
       concrete = set_is names (slice_index sets.concrete spot.point) (Concrete bodies p) solved.ordered (solved.effects.concrete p spot.point place);
     }
 
-lines_are : (names : List Bytes) (bodies : List Body) (flow : Contents) (sets : Sets) (k first size : ℕ) (b : Body) (spots : List Spot)
+lines_are : (names : List Bytes) (bodies : List Body) (flow : Contents) (sets : Sets) (k first : ℕ) (b : Body) (spots : List Spot)
     → IsSolved names bodies flow sets → slice_get bodies k ≡ Some b → first ≡ points_before bodies k
-    → All (IsSpotOf first size) spots → All (λ c. check_in_at b.skeleton c.point ≡ Some c.kind) (map shown spots)
+    → All (IsSpotOf first) spots → All (λ c. check_in_at b.skeleton c.point ≡ Some c.kind) (map shown spots)
     → AllZip (IsLineOf bodies k) (map shown spots) (map (line_of names sets) spots)
-lines_are names bodies flow sets k first size b [] solved stored begin are check_ins = tt
-lines_are names bodies flow sets k first size b (spot ∷ spots) solved stored begin are check_ins = (
-  line_is names bodies flow sets k first size b spot solved stored begin (All-head (IsSpotOf first size) spot spots are)
+lines_are names bodies flow sets k first b [] solved stored begin are check_ins = tt
+lines_are names bodies flow sets k first b (spot ∷ spots) solved stored begin are check_ins = (
+  line_is names bodies flow sets k first b spot solved stored begin (All-head (IsSpotOf first) spot spots are)
       (All-head (λ c. check_in_at b.skeleton c.point ≡ Some c.kind) (shown spot) (map shown spots) check_ins),
-  lines_are names bodies flow sets k first size b spots solved stored begin (All-tail (IsSpotOf first size) spot spots are)
+  lines_are names bodies flow sets k first b spots solved stored begin (All-tail (IsSpotOf first) spot spots are)
       (All-tail (λ c. check_in_at b.skeleton c.point ≡ Some c.kind) (shown spot) (map shown spots) check_ins),
 )
 
-block_is : (names : List Bytes) (bodies : List Body) (flow : Contents) (sets : Sets) (q : Text) (k first size : ℕ) (f : Function) (section : Section)
+block_is : (names : List Bytes) (bodies : List Body) (flow : Contents) (sets : Sets) (q : Text) (k first : ℕ) (f : Function) (section : Section)
     → IsSolved names bodies flow sets → slice_get bodies k ≡ Some (body_of q f) → first ≡ points_before bodies k
-    → IsSectionFor names (definition q.definitions) size first f section
+    → IsSectionFor names (definition q.definitions) first f section
     → IsBlockOf bodies (definition q.definitions) k f (block_of names sets section)
-block_is names bodies flow sets q k first size f section solved stored begin is =
+block_is names bodies flow sets q k first f section solved stored begin is =
     let look = definition q.definitions in
     let skeleton = skeleton_of look (Some (bare_function f)) in
     let spots = section.spots.items in
@@ -120,30 +120,30 @@ block_is names bodies flow sets q k first size f section solved stored begin is 
         order = map shown spots;
         all = is.section.all;
         ascending = ascending_shown spots is.section.ascending;
-        lines = lines_are names bodies flow sets k first size (body_of q f) spots solved stored begin is.section.spots
+        lines = lines_are names bodies flow sets k first (body_of q f) spots solved stored begin is.section.spots
             (All-permutation (λ c. check_in_at skeleton c.point ≡ Some c.kind) (check_ins_in skeleton (places look f)) (map shown spots) is.section.all
             (are_check_ins skeleton (places look f) (length skeleton.points)));
       };
     }
 
-blocks_are : (names : List Bytes) (bodies : List Body) (flow : Contents) (sets : Sets) (q : Text) (size k first : ℕ) (fs : List Function) (sections : List Section)
+blocks_are : (names : List Bytes) (bodies : List Body) (flow : Contents) (sets : Sets) (q : Text) (k first : ℕ) (fs : List Function) (sections : List Section)
     → IsSolved names bodies flow sets
     → ((i : ℕ) (f : Function) → slice_get fs i ≡ Some f → slice_get bodies (k + i) ≡ Some (body_of q f))
     → first ≡ points_before bodies k
-    → AreSections names (definition q.definitions) size first fs sections
+    → AreSections names (definition q.definitions) first fs sections
     → AreBlocksFrom bodies (definition q.definitions) k fs (map (block_of names sets) sections)
-blocks_are names bodies flow sets q size k first [] [] solved from begin are = tt
-blocks_are names bodies flow sets q size k first [] (section ∷ sections) solved from begin are = absurd are
-blocks_are names bodies flow sets q size k first (f ∷ fs) [] solved from begin are = absurd are
-blocks_are names bodies flow sets q size k first (f ∷ fs) (section ∷ sections) solved from begin are =
+blocks_are names bodies flow sets q k first [] [] solved from begin are = tt
+blocks_are names bodies flow sets q k first [] (section ∷ sections) solved from begin are = absurd are
+blocks_are names bodies flow sets q k first (f ∷ fs) [] solved from begin are = absurd are
+blocks_are names bodies flow sets q k first (f ∷ fs) (section ∷ sections) solved from begin are =
     let here : k + 0 ≡ k = omega arith in
     let stored : slice_get bodies k ≡ Some (body_of q f) = subst {A = ℕ} (λ n. slice_get bodies n ≡ Some (body_of q f)) here (from 0 f refl) in
     let points = length (skeleton_of (definition q.definitions) (Some (bare_function f))).points in
     let after : first + points ≡ points_before bodies (suc k) =
     ap (λ n. n + points) begin ∙ sym (points_before_more bodies k (body_of q f) stored)
     in (
-      block_is names bodies flow sets q k first size f section solved stored begin are.0,
-      blocks_are names bodies flow sets q size (suc k) (first + points) fs sections solved
+      block_is names bodies flow sets q k first f section solved stored begin are.0,
+      blocks_are names bodies flow sets q (suc k) (first + points) fs sections solved
           (λ i g e.
           let next : k + suc i ≡ suc k + i = omega arith in
           subst {A = ℕ} (λ n. slice_get bodies n ≡ Some (body_of q g)) next (from (suc i) g e))
@@ -151,15 +151,15 @@ blocks_are names bodies flow sets q size k first (f ∷ fs) (section ∷ section
     )
 
 -- the report of a program
-pub report_is : (p : Program) (names : List Bytes) (size : ℕ) (flow : Contents) (sections : List Section) (sets : Sets)
-    → IsOrdered names → AreBodiesOf names (text_of p) size (functions p) flow sections
+pub report_is : (p : Program) (names : List Bytes) (flow : Contents) (sections : List Section) (sets : Sets)
+    → IsOrdered names → AreBodiesOf names (text_of p) (functions p) flow sections
     → ((all : List Bytes) (bodies : List Body) → IsFlowOf all bodies flow → AreEffectsOf all bodies sets)
     → AreBlocksFrom (store (text_of p ∷ [])) (definition (text_of p).definitions) 0 (functions p) (map (block_of names sets) sections)
-report_is p names size flow sections sets ordered are effects =
+report_is p names flow sections sets ordered are effects =
     let q = text_of p in
     let bodies = map (body_of q) (functions p) in
     subst {A = List Body} (λ bs. AreBlocksFrom bs (definition q.definitions) 0 (functions p) (map (block_of names sets) sections)) (sym (store_of p))
-    (blocks_are names bodies flow sets q size 0 0 (functions p) sections
+    (blocks_are names bodies flow sets q 0 0 (functions p) sections
     (record { ordered = ordered; flowing = are.flow; effects = effects names bodies are.flow })
     (λ i f e.
     let at : 0 + i ≡ i = omega arith in
@@ -167,15 +167,14 @@ report_is p names size flow sections sets ordered are effects =
     (sym (points_before_none bodies)) are.sections)
 
 -- and it can be written
-pub report_ready : (names : List Bytes) (look : Definitions) (size : ℕ) (fs : List Function) (sections : List Section) (first : ℕ)
-    → AreSections names look size first fs sections → All (IsReady names size) sections
-report_ready names look size [] [] first are = All-nil (IsReady names size)
-report_ready names look size [] (section ∷ sections) first are = absurd are
-report_ready names look size (f ∷ fs) [] first are = absurd are
-report_ready names look size (f ∷ fs) (section ∷ sections) first are =
-    All-cons (IsReady names size) section sections
+pub report_ready : (names : List Bytes) (look : Definitions) (fs : List Function) (sections : List Section) (first : ℕ)
+    → AreSections names look first fs sections → All (IsReady names) sections
+report_ready names look [] [] first are = All-nil (IsReady names)
+report_ready names look [] (section ∷ sections) first are = absurd are
+report_ready names look (f ∷ fs) [] first are = absurd are
+report_ready names look (f ∷ fs) (section ∷ sections) first are =
+    All-cons (IsReady names) section sections
     (record {
       named = slice_get_within names section.function f.name.text (ap (slice_get names) are.0.section.function ∙ are.0.named);
-      within = All-weaker (IsSpotOf first size) (IsWithin size) (λ spot is. is.within) section.spots.items are.0.section.spots;
     })
-    (report_ready names look size fs sections (first + length (skeleton_of look (Some (bare_function f))).points) are.1)
+    (report_ready names look fs sections (first + length (skeleton_of look (Some (bare_function f))).points) are.1)

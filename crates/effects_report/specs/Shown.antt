@@ -1,5 +1,5 @@
 -- What the parts of a report show: the names of a set by a table, and the lines and blocks of the text.
-use Rattle.std.specs.Prelude.{ℕ, zero, suc, ◌<◌, ◌==◌, List, [], ◌∷◌, ◌++◌, length, map, All, slice_index, if◌then◌else◌}
+use Rattle.std.specs.Prelude.{ℕ, zero, suc, ◌<◌, ◌==◌, List, [], ◌∷◌, ◌++◌, length, map, slice_index, if◌then◌else◌}
 use Rattle.std.specs.Int.{bit_at}
 use Rattle.name_sets.specs.Texts.{text_of}
 use Rattle.con_freeness.specs.Rows.{Names, Row}
@@ -8,7 +8,6 @@ use Rattle.skeletons.specs.Meaning.{check_in_of}
 use Rattle.contextual_effects.specs.Effects.{Sets}
 use Rattle.check_in_places.specs.declared.section.Spot.{Spot}
 use Rattle.check_in_places.specs.declared.section.Section.{Section}
-use Rattle.check_in_places.specs.Bodies.{IsWithin}
 use Rattle.effects_report.specs.EffectsText.{Line, Block}
 
 -- a name, if its id is in a set
@@ -44,7 +43,6 @@ block_of names sets section = record {
   lines = map (line_of names sets) section.spots.items;
 }
 
--- a function can be written: its name is in the table, and its check-ins are in the text
-pub record IsReady (names : List Bytes) (size : ℕ) (section : Section) : Type 0 where
+-- a function can be written: its name is in the table
+pub record IsReady (names : List Bytes) (section : Section) : Type 0 where
   pub named : section.function < length names
-  pub within : All (IsWithin size) section.spots.items

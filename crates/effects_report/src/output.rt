@@ -23,8 +23,8 @@ use std::alloc::{AllocError, Global};
 
 /// Writes the effects of a typed text. `text` has the bytes of the text.
 ///
-/// `Memory` is also the answer where the text uses a name that it doesn't define, or has a place that isn't in `text` or is
-/// 2^32 - 1 or more: none of these occurs in a typed text and its bytes, but that isn't proved.
+/// `Memory` is also the answer where the text uses a name that it doesn't define. No text that was read from bytes does, but
+/// no clause says so.
 pub fn write_effects<S: Sink>(
     alloc: Global,
     typed: &Typed,
@@ -58,11 +58,11 @@ fn report_of<'a>(alloc: Global, program: &Program, text: &'a [u8]) -> Result<Rep
     ensures blocks { let read = text_of program.now in
         IfOk result (λ report. AreBlocksFrom (store (read ∷ [])) (definition read.definitions) 0
         (functions program.now) (map (block_of report.names report.effects) report.sections.items)) }
-    ensures ready { IfOk result (λ report. All (IsReady report.names (length text.now)) report.sections.items) }
+    ensures ready { IfOk result (λ report. All (IsReady report.names) report.sections.items) }
     ensures text { IfOk result (λ report. report.lines.text.now ≡ text.now) }
 {
     let names = names_of(alloc, program.definitions.as_slice())?;
-    let bodies = bodies_of(alloc, program, &names, text.len())?;
+    let bodies = bodies_of(alloc, program, &names)?;
     let effects = solve(alloc, &bodies.flow)?;
     let lines = Lines::of(alloc, text)?;
     let Bodies { flow: _, sections } = bodies;

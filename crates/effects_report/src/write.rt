@@ -5,7 +5,6 @@ ghost use Rattle.dsu_io.specs.Causes.{HasCause};
 ghost use Rattle.dsu_io.specs.Sinks.{PutAppends};
 ghost use Rattle.name_sets.specs.Texts.{text_of};
 ghost use Rattle.skeletons.specs.Meaning.{check_in_of};
-ghost use Rattle.check_in_places.specs.Bodies.{IsWithin};
 ghost use Rattle.check_in_places.specs.CheckIns.{head_text};
 ghost use Rattle.effects_report.specs.EffectsText.{row_text, line_text, title_text, block_text, blocks_text};
 ghost use Rattle.effects_report.specs.Shown.{IsReady, names_in, row_at, line_of, block_of};
@@ -20,7 +19,6 @@ use name_sets::{NameId, Names};
 
 /// Writes the line, the column and the kind of a check-in.
 fn put_head<S: Sink>(lines: &Lines, spot: Spot, sink: &mut S) -> Result<(), Failed>
-    requires { IsWithin (length lines.now.text.now) spot }
     ensures bytes { PutAppends (S.told sink.old) (S.told sink.new) result
         (head_text lines.now.text.now spot.at (check_in_of spot.kind)) }
     ensures cause { HasCause (S.faults sink.old) (S.faults sink.new) result }
@@ -28,8 +26,8 @@ fn put_head<S: Sink>(lines: &Lines, spot: Spot, sink: &mut S) -> Result<(), Fail
     let place = lines.place(spot.at);
     let mut line_digits = Buffer::new();
     let mut column_digits = Buffer::new();
-    let line = line_digits.format(place.line).as_bytes();
-    let column = column_digits.format(place.column).as_bytes();
+    let line = line_digits.format(place.0).as_bytes();
+    let column = column_digits.format(place.1).as_bytes();
     put_all(
         sink,
         &[b"  ", line, b":", column, b" ", kind_word(spot.kind)],
@@ -56,7 +54,6 @@ fn put_line<S: Sink>(
     spot: Spot,
     sink: &mut S,
 ) -> Result<(), Failed>
-    requires { IsWithin (length lines.now.text.now) spot }
     ensures bytes { PutAppends (S.told sink.old) (S.told sink.new) result
         (line_text lines.now.text.now (line_of names.now effects.now spot)) }
     ensures cause { HasCause (S.faults sink.old) (S.faults sink.new) result }
@@ -73,7 +70,6 @@ fn put_lines<S: Sink>(
     spots: &[Spot],
     sink: &mut S,
 ) -> Result<(), Failed>
-    requires { All (IsWithin (length lines.now.text.now)) spots.now }
     ensures bytes { PutAppends (S.told sink.old) (S.told sink.new) result
         (flat_map (line_text lines.now.text.now) (map (line_of names.now effects.now) spots.now)) }
     ensures cause { HasCause (S.faults sink.old) (S.faults sink.new) result }
@@ -122,7 +118,7 @@ fn put_section<S: Sink>(
     section: &Section,
     sink: &mut S,
 ) -> Result<(), Failed>
-    requires { IsReady names.now (length lines.now.text.now) section.now }
+    requires { IsReady names.now section.now }
     ensures bytes { PutAppends (S.told sink.old) (S.told sink.new) result
         (block_text lines.now.text.now (block_of names.now effects.now section.now)) }
     ensures cause { HasCause (S.faults sink.old) (S.faults sink.new) result }
@@ -139,7 +135,7 @@ pub(crate) fn put_sections<S: Sink>(
     sections: &[Section],
     sink: &mut S,
 ) -> Result<(), Failed>
-    requires { All (IsReady names.now (length lines.now.text.now)) sections.now }
+    requires { All (IsReady names.now) sections.now }
     ensures bytes { PutAppends (S.told sink.old) (S.told sink.new) result
         (blocks_text lines.now.text.now (map (block_of names.now effects.now) sections.now)) }
     ensures cause { HasCause (S.faults sink.old) (S.faults sink.new) result }

@@ -1,9 +1,10 @@
 //! The versions of a run so far.
-ghost use Rattle.std.specs.Prelude.{◌≡◌, ℕ, ◌<◌, List, [], ◌∷◌, ◌++◌, false, length, map, string_bytes, IfOk, OnOk, OnErr};
+ghost use Rattle.std.specs.Prelude.{◌≡◌, ℕ, ◌<◌, ◌≤◌, List, [], ◌∷◌, ◌++◌, false, length, map, string_bytes, IfOk, OnOk, OnErr};
 ghost use Rattle.c_semantics.specs.SourceTexts.{Text, text_of};
 ghost use Rattle.c_semantics.specs.Store.{store};
 ghost use Rattle.c_tree.specs.BareExpr.{Bytes};
 ghost use Rattle.code_store.specs.Limits.{are_too_many};
+ghost use Rattle.name_sets.specs.Limit.{most_names};
 ghost use Rattle.name_sets.specs.Texts.{IsTable};
 ghost use Rattle.code_store.specs.Stored.{meant_body, IsStoreOf};
 ghost use Rattle.patch_build.specs.Tables.{with_texts};
@@ -14,7 +15,7 @@ ghost use Rattle.installed_versions.specs.Installed.{IsInstalled, IsSeenAs, Repl
 use brought_bodies::first_bodies;
 use c_types::Typed;
 use code_store::{Store, StoredBody};
-use name_sets::Names;
+use name_sets::{Names, NamesFault};
 use patch_build::Versions;
 use sorted_names::names_in_order;
 use std::alloc::{AllocError, Global};
@@ -42,8 +43,8 @@ pub struct Replaced {
 
 impl Installed {
     /// The first version. `AllocError` is also the answer where a function of the text uses a name that the
-    /// text doesn't define, or where the text has more names, check-ins or tokens than a version may; no
-    /// accepted text does.
+    /// text doesn't define, or where the text has more check-ins or tokens than a version may; no accepted
+    /// text does.
     pub fn first(alloc: Global, text: &Typed) -> Result<Installed, AllocError>
         ensures { IfOk result (λ i. IsInstalled (text_of text.now ∷ []) i.count i.names i.store) }
     {
@@ -126,7 +127,7 @@ impl Installed {
     }
 }
 
-/// The table of the names of a text, in the order of their bytes.
+/// The table of the names of a text, in the order of their bytes. It has room for them.
 fn names_of(alloc: Global, text: &Typed) -> Result<Names, AllocError>
     ensures { IfOk result (λ names. IsTableOf (all_names (text_of text.now ∷ [])) names) }
 {
@@ -136,14 +137,17 @@ fn names_of(alloc: Global, text: &Typed) -> Result<Names, AllocError>
     Ok(names)
 }
 
-/// Adds texts to a table in their order.
+/// Adds texts to a table in their order. It has room for all, so only memory can be wanting.
 fn add_all(names: &mut Names, texts: &[String]) -> Result<(), AllocError>
+    requires { length (with_texts names.old (map string_bytes texts.now)) ≤ most_names }
     ensures { OnOk result (names.new ≡ with_texts names.old (map string_bytes texts.now)) }
 {
     for text in texts {
-        let Ok(_) = names.add(text.as_str()) else {
-            return Err(AllocError);
-        };
+        match names.add(text.as_str()) {
+            Ok(_) => {}
+            Err(NamesFault::Memory) => return Err(AllocError),
+            Err(NamesFault::Full) => unreachable!(),
+        }
     }
     Ok(())
 }

@@ -4,3 +4,4 @@ pub mod Patches
 pub mod Decided
 pub mod Laws
 pub mod Steps
+pub mod Faults

@@ -5,11 +5,12 @@
 //! Its contract (`specs/Decided.antt`) says of whatever texts the versions are texts of: a text is answered to be no patch with
 //! the first cause that the definitions have; a refusal is that of the definitions' verdict over the rows in force before the
 //! install; and where the verdict admits the patch, what the install needs is given, with the pins that the definitions set. The
-//! rows are those of the definitions of effects. Besides what a patch and the rows take it needs no memory.
+//! rows are those of the definitions of effects. Besides what a patch and the rows take it needs no memory. That a name isn't
+//! defined is answered only for a text with such a name, so for no accepted one.
 //!
 //! Read in this order:
 //! - [`seat`]: a slot as a decision sees it
-//! - [`answer`]: what is decided
+//! - [`answer`]: what is decided, or why nothing is
 //! - [`in_force`]: the rows in force of the slots
 //! - [`pins`]: the pins before an install and after it
 //! - [`verdict`]: the test of the rows
@@ -25,7 +26,7 @@ mod pins;
 mod seat;
 mod verdict;
 
-pub use answer::Decision;
+pub use answer::{Decision, DecisionFault};
 pub use laws::{decisions_are_decided, refusals_stay};
 pub use offer::decision;
 pub use seat::Seat;

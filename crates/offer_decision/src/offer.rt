@@ -1,9 +1,11 @@
 //! The whole.
-ghost use Rattle.std.specs.Prelude.{IfOk};
+ghost use Rattle.std.specs.Prelude.{◌≡◌, map, IfOk, IsErrOf};
+ghost use Rattle.c_tree.specs.Bare.{bare_def};
+ghost use Rattle.brought_bodies.specs.Undefined.{HasUndefinedUse};
 ghost use Rattle.offer_decision.specs.Decided.{ForOffer, IsDecision};
 ghost use Rattle.offer_decision.specs.Steps.{IsTestedOver, IsAnswer, IsOfFault};
 
-use crate::answer::{Decision, Tested};
+use crate::answer::{Decision, DecisionFault, Tested};
 use crate::in_force::rows_of_seats;
 use crate::seat::Seat;
 use crate::verdict::tested;
@@ -34,8 +36,9 @@ fn answer(
     versions: Versions<'_>,
     patch: Patch,
     seats: &[Seat; 16],
-) -> Result<Decision, AllocError>
-    ensures { IfOk result (IsAnswer versions.entry patch seats.now) }
+) -> Result<Decision, DecisionFault>
+    ensures answer { IfOk result (IsAnswer versions.entry patch seats.now) }
+    ensures defined { ¬ IsErrOf result DecisionFault.UndefinedName }
 {
     match tested_over(alloc, versions, &patch.changed, &patch.interface, seats)? {
         Tested::Admitted(pins) => Ok(Decision::Admitted(patch, pins)),
@@ -44,28 +47,31 @@ fn answer(
 }
 
 /// The decision where there is no patch.
-fn without_patch(fault: PatchFault) -> Result<Decision, AllocError>
-    ensures { IfOk result (IsOfFault fault) }
+fn without_patch(fault: PatchFault) -> Result<Decision, DecisionFault>
+    ensures answer { IfOk result (IsOfFault fault) }
+    ensures undefined { IsErrOf result DecisionFault.UndefinedName → fault ≡ PatchFault.UndefinedName }
 {
     match fault {
         PatchFault::Not(cause) => Ok(Decision::NotPatch(cause)),
-        PatchFault::Memory => Err(AllocError),
+        PatchFault::UndefinedName => Err(DecisionFault::UndefinedName),
+        PatchFault::Memory => Err(DecisionFault::Memory),
     }
 }
 
 /// The decision on an offer of a text, over the versions so far and the slots.
 ///
-/// `AllocError` comes where there is no memory for the patch or the rows. It is also the answer where a function of the text
-/// uses a name that the text doesn't define, as [`prepare`] says, and where there are too many points or check-ins to number, as
-/// [`rows`] says.
+/// `Memory` comes where there is no memory for the patch or the rows, and where there are too many points or check-ins to number,
+/// as [`rows`] says. `UndefinedName` comes only where a function of the text uses a name that the text doesn't define, as
+/// [`prepare`] says.
 pub fn decision(
     alloc: Global,
     versions: Versions<'_>,
     new: &Typed,
     seats: &[Seat; 16],
-) -> Result<Decision, AllocError>
-    ensures { IfOk result (λ decision. ForOffer versions.entry seats.now (λ rules texts slots.
+) -> Result<Decision, DecisionFault>
+    ensures decided { IfOk result (λ decision. ForOffer versions.entry seats.now (λ rules texts slots.
         IsDecision rules texts slots versions.entry new.now seats.now decision)) }
+    ensures undefined { IsErrOf result DecisionFault.UndefinedName → HasUndefinedUse (map bare_def new.now.definitions) }
 {
     match prepare(alloc, versions, new) {
         Ok(patch) => answer(alloc, versions, patch, seats),

@@ -64,6 +64,7 @@ enum Answer {
     /// The place of the fault.
     Transform(usize),
     StoreFull,
+    UndefinedName,
     Memory,
 }
 
@@ -135,6 +136,7 @@ fn answer_of(answer: &Result<Patch, PatchFault>) -> Answer {
     match answer {
         Ok(_) => Answer::Patch,
         Err(PatchFault::Memory) => Answer::Memory,
+        Err(PatchFault::UndefinedName) => Answer::UndefinedName,
         Err(PatchFault::Not(cause)) => match cause {
             NotPatch::Versions => Answer::Versions,
             NotPatch::Names => Answer::Names,

@@ -129,7 +129,9 @@ fn answer_to(alloc: Global, versions: Versions<'_>, case: &Case) -> Result<Answe
     let (point, pinned, text, _) = *case;
     let main = versions.names.find("main").ok_or("an id")?;
     let new = read(alloc, text)?;
-    let decision = decision(alloc, versions, new.get(), &seats(main, point, pinned))?;
+    let Ok(decision) = decision(alloc, versions, new.get(), &seats(main, point, pinned)) else {
+        return Err(Fail::new("nothing is decided"));
+    };
     let answer = answer_of(versions.names, &decision);
     drop(decision);
     Ok(answer)

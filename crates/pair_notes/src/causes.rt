@@ -48,6 +48,8 @@ pub(crate) fn cause_of_admission(
     match prepare(alloc, installed.versions(old), new) {
         Ok(_) => Ok(None),
         Err(PatchFault::Not(cause)) => Ok(Some(cause)),
+        // No accepted text uses such a name.
+        Err(PatchFault::UndefinedName) => Ok(None),
         Err(PatchFault::Memory) => Err(AllocError),
     }
 }

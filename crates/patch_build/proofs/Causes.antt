@@ -23,9 +23,11 @@ use Rattle.patch_compare.specs.declared.answer.CompareFault.{CompareFault}
 use Rattle.patch_compare.specs.declared.answer.CompareFault.TheVariants as compared
 use Rattle.patch_compare.specs.Faults.{IsFault}
 use Rattle.patch_build.specs.declared.fault.PatchFault.{PatchFault}
-use Rattle.patch_build.specs.declared.fault.PatchFault.TheVariants.{Not, Memory}
+use Rattle.brought_bodies.specs.declared.fault.BodyFault.{BodyFault}
+use Rattle.brought_bodies.specs.declared.fault.BodyFault.TheVariants as bodies
+use Rattle.patch_build.specs.declared.fault.PatchFault.TheVariants.{Not, UndefinedName, Memory}
 use Rattle.patch_build.specs.declared.patch.Versions.{Versions}
-use Rattle.patch_build.specs.Faults.{IsCause, fault_of_comparison, fault_of_transformer}
+use Rattle.patch_build.specs.Faults.{IsCause, fault_of_bodies, fault_of_comparison, fault_of_transformer}
 use Rattle.patch_build.specs.Tables.{with_texts, IsNamesFault}
 use Rattle.patch_build.specs.Versions.{AreVersions}
 use Rattle.patch_build.proofs.Stores.{last_definitions_are, last_tree_is}
@@ -97,6 +99,32 @@ pub false_where_not : (b : Bool) → not b ≡ true → b ≡ false
 false_where_not true e = cc
 false_where_not false e = refl
 
+-- ---- which part finds that a name isn't defined
+
+-- the table doesn't
+pub named_by_table : (texts : List Bytes) → IsNamesFault texts UndefinedName → ⊥
+named_by_table texts never = never
+
+-- nor the comparison, nor the transformers
+pub defined_where_compared : (fault : CompareFault) → fault_of_comparison fault ≡ UndefinedName → ⊥
+defined_where_compared (compared.Kind name) e = cc
+defined_where_compared compared.Memory e = cc
+
+pub defined_where_transformed : (fault : TransformFault) → fault_of_transformer fault ≡ UndefinedName → ⊥
+defined_where_transformed (transformer.NotChanged place) e = cc
+defined_where_transformed (transformer.OldField place) e = cc
+defined_where_transformed (transformer.Wrong place) e = cc
+defined_where_transformed transformer.Memory e = cc
+
+-- the bodies do
+pub unknown_in_bodies : (fault : BodyFault) → fault_of_bodies fault ≡ UndefinedName → fault ≡ bodies.Unknown
+unknown_in_bodies bodies.Unknown e = refl
+unknown_in_bodies bodies.Memory e = cc
+
+pub bodies_cause : (first : Option NotPatch) (fault : BodyFault) → IsCause first (fault_of_bodies fault)
+bodies_cause first bodies.Unknown = tt
+bodies_cause first bodies.Memory = tt
+
 -- ---- each cause, where none before it holds
 
 module _ (texts : List Text) (v : Versions) (new : Program) (are : AreVersions texts v) where
@@ -136,6 +164,7 @@ module _ (texts : List Text) (v : Versions) (new : Program) (are : AreVersions t
   names_cause l (Not (Kind name)) never = absurd never
   names_cause l (Not (Transform place)) never = absurd never
   names_cause l (Not StoreFull) never = absurd never
+  names_cause l UndefinedName never = absurd never
   names_cause l Memory none = tt
 
   after_names : v.count < 64 → length (all_of v new) ≤ most_names → first ≡ first_cause false false kind transform full

@@ -20,7 +20,7 @@ use Rattle.code_store.proofs.StoredBodies.{store_with_names}
 use Rattle.brought_bodies.specs.Sets.{IsSetOf}
 use Rattle.patch_build.specs.declared.patch.Versions.{Versions}
 use Rattle.patch_build.specs.Versions.{AreVersions, IsTableOf, Extends}
-use Rattle.patch_build.proofs.Tables.{found, among_all, extends_with_texts, table_of_all}
+use Rattle.patch_build.proofs.Tables.{among, among_with_texts, found, among_all, extends_with_texts, table_of_all}
 use Rattle.patch_build.proofs.Stores.{bodies_are_new, store_with_bodies}
 use Rattle.patch_build.proofs.Causes.{last_is, all_of}
 
@@ -41,6 +41,17 @@ or_right false b e = e
 pub keeps_ids : (v : Versions) (new : Program) (table : List Bytes) → table ≡ all_of v new → Extends v.names.now table
 keeps_ids v new table is =
     subst (Extends v.names.now) (sym is) (extends_with_texts v.names.now (name_set (names (map bare_def new.definitions))))
+
+-- the table has the names of the text
+pub has_own : (v : Versions) (new : Program) (table : List Bytes) → table ≡ all_of v new
+    → (name : Bytes) → Contains (names (map bare_def new.definitions)) name → Contains table name
+has_own v new table is name there =
+    let own = names (map bare_def new.definitions) in
+    let in_own : is_among (name_set own) name ≡ true = among_set name own ∙ among own name there in
+    let in_all : is_among (all_of v new) name ≡ true =
+    among_with_texts v.names.now (name_set own) name ∙ or_right (is_among v.names.now name) (is_among (name_set own) name) in_own
+    in
+    subst (λ ns. Contains ns name) (sym is) (found (all_of v new) name in_all)
 
 module _ (texts : List Text) (v : Versions) (new : Program) (are : AreVersions texts v) where
   abbrev P : List BareDef

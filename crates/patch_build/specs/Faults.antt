@@ -9,11 +9,14 @@ use Rattle.patch_compare.specs.declared.answer.CompareFault.TheVariants as compa
 use Rattle.patch_faults.specs.declared.fault.TransformFault.{TransformFault}
 use Rattle.patch_faults.specs.declared.fault.TransformFault.TheVariants as transformer
 use Rattle.patch_build.specs.declared.fault.PatchFault.{PatchFault}
-use Rattle.patch_build.specs.declared.fault.PatchFault.TheVariants.{Not, Memory}
+use Rattle.brought_bodies.specs.declared.fault.BodyFault.{BodyFault}
+use Rattle.brought_bodies.specs.declared.fault.BodyFault.TheVariants as bodies
+use Rattle.patch_build.specs.declared.fault.PatchFault.TheVariants.{Not, UndefinedName, Memory}
 
--- a fault names the first cause, or is lack of memory
+-- a fault names the first cause, or it is no such cause: a name that the text doesn't define, or lack of memory
 abbrev pub IsCause : Option NotPatch → PatchFault → Type 0
 IsCause first (Not cause) = first ≡ Some cause
+IsCause first UndefinedName = Unit {0}
 IsCause first Memory = Unit {0}
 
 -- a table of names that is full
@@ -32,3 +35,8 @@ fault_of_transformer (transformer.NotChanged place) = Not (Transform place)
 fault_of_transformer (transformer.OldField place) = Not (Transform place)
 fault_of_transformer (transformer.Wrong place) = Not (Transform place)
 fault_of_transformer transformer.Memory = Memory
+
+-- bodies that aren't given: the table has the names of the text, so one that a function uses isn't defined
+abbrev pub fault_of_bodies : BodyFault → PatchFault
+fault_of_bodies bodies.Unknown = UndefinedName
+fault_of_bodies bodies.Memory = Memory

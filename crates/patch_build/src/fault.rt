@@ -11,6 +11,8 @@ use std::alloc::AllocError;
 pub enum PatchFault {
     /// The text isn't a patch, for this first cause.
     Not(NotPatch),
+    /// A function of the text uses a name that the text doesn't define.
+    UndefinedName,
     /// There was no memory.
     Memory,
 }
@@ -72,11 +74,14 @@ impl From<TransformFault> for PatchFault {
 
 impl From<BodyFault> for PatchFault {
     ghost use Rattle.std.specs.Prelude.{◌≡◌};
-    ghost use Rattle.patch_build.specs.declared.fault.PatchFault.TheVariants.{Memory};
+    ghost use Rattle.patch_build.specs.Faults.{fault_of_bodies};
 
-    ghost from_gives = { λ _ fault. fault ≡ Memory };
+    ghost from_gives = { λ bodies fault. fault ≡ fault_of_bodies bodies };
 
-    fn from(_: BodyFault) -> PatchFault {
-        PatchFault::Memory
+    fn from(fault: BodyFault) -> PatchFault {
+        match fault {
+            BodyFault::Unknown => PatchFault::UndefinedName,
+            BodyFault::Memory => PatchFault::Memory,
+        }
     }
 }

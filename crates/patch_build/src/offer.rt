@@ -1,5 +1,5 @@
 //! The whole.
-ghost use Rattle.std.specs.Prelude.{◌≡◌, suc, false, None, List, [], ◌∷◌, ◌++◌, map, All, IfOk, IfErr};
+ghost use Rattle.std.specs.Prelude.{◌≡◌, suc, false, None, List, [], ◌∷◌, ◌++◌, map, All, IfOk, IfErr, IsErrOf};
 ghost use Rattle.c_tree.specs.BareExpr.{Bytes};
 ghost use Rattle.c_tree.specs.Bare.{bare_def};
 ghost use Rattle.c_semantics.specs.Changes.{changed, interface};
@@ -7,6 +7,7 @@ ghost use Rattle.c_semantics.specs.SourceTexts.{text_of};
 ghost use Rattle.c_semantics.specs.Store.{brought_bodies, store};
 ghost use Rattle.source_model.specs.Patches.{all_names, last_definitions, not_patch};
 ghost use Rattle.brought_bodies.specs.Sets.{IsSetOf};
+ghost use Rattle.brought_bodies.specs.Undefined.{HasUndefinedUse};
 ghost use Rattle.code_store.specs.Limits.{are_too_many};
 ghost use Rattle.code_store.specs.Stored.{meant_body, IsNewTo, IsStoreOf};
 ghost use Rattle.type_transformers.specs.Changes.{changing, name_of, IsChange};
@@ -26,11 +27,12 @@ use type_transformers::transforms;
 
 /// What is needed to install a text after the versions so far, or the first cause for which it isn't a patch.
 ///
-/// `Memory` is also the answer where a function of the text uses a name that the text doesn't define. No text that was read
-/// from bytes has one (the law `each_use_is_defined` of `typed_uses`).
+/// `UndefinedName` comes only where a function of the text uses a name that the text doesn't define. No accepted text has such a
+/// function (the law `each_use_is_defined` of `typed_uses`).
 pub fn prepare(alloc: Global, versions: Versions<'_>, new: &Typed) -> Result<Patch, PatchFault>
     ensures fault { IfErr result (λ fault. ForVersions versions.entry (λ texts.
         IsCause (not_patch (store texts) texts (text_of new.now)) fault)) }
+    ensures undefined { IsErrOf result PatchFault.UndefinedName → HasUndefinedUse (map bare_def new.now.definitions) }
     ensures patch { IfOk result (λ patch. ForVersions versions.entry (λ texts.
         not_patch (store texts) texts (text_of new.now) ≡ None)) }
     ensures names { IfOk result (λ patch. ForVersions versions.entry (λ texts.

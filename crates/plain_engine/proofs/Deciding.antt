@@ -22,8 +22,7 @@ use Rattle.source_model.specs.Guards as guard
 use Rattle.source_model.specs.JournalLaws.{texts_of}
 use Rattle.source_model.specs.Patches.{last_definitions}
 use Rattle.source_model.specs.Worlds.{World, is_over}
-use Rattle.source_runner.specs.declared.run.SourceRun.{SourceRun}
-use Rattle.source_runner.specs.SourceRuns.{trees_of, words_of}
+use Rattle.run_machine.specs.Machines.{Shown}
 use Rattle.offer_decision.specs.declared.answer.Decision.{Decision}
 use Rattle.offer_decision.specs.declared.answer.Decision.TheVariants as decision
 use Rattle.offer_decision.specs.declared.seat.Seat.{Seat as Seen}
@@ -39,9 +38,8 @@ use Rattle.effects.specs.Rows.{AreRows}
 use Rattle.dsu_runs.proofs.Happening.{any_are_rows, any_rules}
 use Rattle.source_model.specs.declared.answer.OfferAnswer.TheVariants as ids
 use Rattle.plain_engine.specs.declared.seat.Seat.{Seat}
-use Rattle.plain_engine.specs.declared.state.State.{State}
 use Rattle.plain_engine.specs.Kept.{IsOfVersion}
-use Rattle.plain_engine.specs.Plain.{AreSeats, IsRunAt, IsStateAt}
+use Rattle.plain_engine.specs.Plain.{AreSeats, IsRunAt, IsStateAt, ShownState}
 use Rattle.plain_engine.specs.Seen.{AreSeen, AreWithin, mark_among}
 use Rattle.plain_engine.specs.Steps.{Happened, IsDecided, Stayed}
 use Rattle.plain_engine.proofs.KnownMarks.{AreNamed, pins_same, seat_among, stored_named, verdict_same}
@@ -58,7 +56,7 @@ decides_none false true o h = h refl refl
 pub decides_one : (a b : Bool) (o : Option Guard) → a ≡ false → b ≡ true → (if not a && b then o else None) ≡ o
 decides_one a b o going offered = ap (λ x. if not x && b then o else None) going ∙ ap (λ x. if x then o else None) offered
 
-pub never_decides : (setup : Setup) (g : Guard) (k : ℕ) (s : State) → IsStateAt setup g s
+pub never_decides : (setup : Setup) (g : Guard) (k : ℕ) (s : ShownState) → IsStateAt setup g s
     → (has_ended g ≡ false → is_open g k ≡ true → (rules : Rules) → AreRows rules.row → decide rules g k (offer_at setup k) ≡ None)
     → Stayed setup (Decide k) g s
 never_decides setup g k s at none = record {
@@ -81,12 +79,12 @@ get_mapped f [] n x e = absurd (none-some x e)
 get_mapped f (y ∷ xs) zero x e = ap (λ z. Some (f z)) (same_Some y x e)
 get_mapped f (y ∷ xs) (suc n) x e = get_mapped f xs n x e
 
-pub offer_is : (setup : Setup) (g : Guard) (r : SourceRun) (k : ℕ) (next : Program) → IsRunAt setup g r → 0 < k
-    → slice_get (trees_of r) k ≡ Some next → (lines : ℕ) × (offer_at setup k ≡ Some (record { text = text_of next; lines = lines }))
+pub offer_is : (setup : Setup) (g : Guard) (r : Shown) (k : ℕ) (next : Program) → IsRunAt setup g r → 0 < k
+    → slice_get r.trees k ≡ Some next → (lines : ℕ) × (offer_at setup k ≡ Some (record { text = text_of next; lines = lines }))
 offer_is setup g r zero next at some e = absurd (omega (arith, some))
 offer_is setup g r (suc j) next at some e =
     text_there setup.offers j (text_of next)
-    (ap (λ ts. slice_get ts (suc j)) (sym at.trees) ∙ get_mapped text_of (trees_of r) (suc j) next e)
+    (ap (λ ts. slice_get ts (suc j)) (sym at.trees) ∙ get_mapped text_of r.trees (suc j) next e)
 
 -- an offer without a text isn't there
 no_text_there : (os : List Offer) (j : ℕ) → slice_get (map (λ (o : Offer). o.text) os) j ≡ None → slice_get os j ≡ None
@@ -99,15 +97,15 @@ none_mapped f [] n e = refl
 none_mapped f (x ∷ xs) zero e = absurd (none-some x (sym e))
 none_mapped f (x ∷ xs) (suc n) e = none_mapped f xs n e
 
-pub no_offer : (setup : Setup) (g : Guard) (r : SourceRun) (k : ℕ) → IsRunAt setup g r → 0 < k
-    → slice_get (trees_of r) k ≡ None → offer_at setup k ≡ None
+pub no_offer : (setup : Setup) (g : Guard) (r : Shown) (k : ℕ) → IsRunAt setup g r → 0 < k
+    → slice_get r.trees k ≡ None → offer_at setup k ≡ None
 no_offer setup g r zero at some e = absurd (omega (arith, some))
 no_offer setup g r (suc j) at some e =
     no_text_there setup.offers j
-    (ap (λ ts. slice_get ts (suc j)) (sym at.trees) ∙ none_mapped text_of (trees_of r) (suc j) e)
+    (ap (λ ts. slice_get ts (suc j)) (sym at.trees) ∙ none_mapped text_of r.trees (suc j) e)
 
 -- the text in force is there
-pub no_last : {A : Type 0} (setup : Setup) (g : Guard) (s : State) → IsStateAt setup g s → slice_get (trees_of s.run) s.last ≡ None → A
+pub no_last : {A : Type 0} (setup : Setup) (g : Guard) (s : ShownState) → IsStateAt setup g s → slice_get s.run.trees s.last ≡ None → A
 no_last setup g s at e = absurd (none-some at.versions.tree (sym e ∙ at.versions.numbered))
 
 -- its definitions among the texts of the run
@@ -122,16 +120,16 @@ texts_are first os = ap (λ ts. first.definitions ∷ ts) (each os)
     each [] = refl
     each (o ∷ os) = ap (λ ts. o.text.definitions ∷ ts) (each os)
 
-pub text_is : (setup : Setup) (g : Guard) (r : SourceRun) (k : ℕ) (next : Program) → IsRunAt setup g r
-    → slice_get (trees_of r) k ≡ Some next → slice_get (texts_of setup) k ≡ Some (text_of next).definitions
+pub text_is : (setup : Setup) (g : Guard) (r : Shown) (k : ℕ) (next : Program) → IsRunAt setup g r
+    → slice_get r.trees k ≡ Some next → slice_get (texts_of setup) k ≡ Some (text_of next).definitions
 text_is setup g r k next at e =
     ap (λ ts. slice_get ts k) (sym (texts_are setup.first setup.offers) ∙ ap (map (λ (t : Text). t.definitions)) (sym at.trees))
-    ∙ get_mapped (λ (t : Text). t.definitions) (map text_of (trees_of r)) k (text_of next) (get_mapped text_of (trees_of r) k next e)
+    ∙ get_mapped (λ (t : Text). t.definitions) (map text_of r.trees) k (text_of next) (get_mapped text_of r.trees k next e)
 
 -- ---- the slots
 
-pub seats_for : (g : Guard) (r : SourceRun) (seats : List Seat) (names : List Bytes) (count : ℕ) (all : List Seen) → AreSeats g r seats
-    → length g.versions ≡ count → has_ended g ≡ false → is_over g.world ≡ false → AreSeen (words_of r) names count seats all
+pub seats_for : (g : Guard) (r : Shown) (seats : List Seat) (names : List Bytes) (count : ℕ) (all : List Seen) → AreSeats g r seats
+    → length g.versions ≡ count → has_ended g ≡ false → is_over g.world ≡ false → AreSeen r.words names count seats all
     → AreSeatsSeen names (store g.versions) all (map (seat_among names) g.seats)
 seats_for g r seats names count all are many going on seen = record {
   many = length-map g.seats (seat_among names) ∙ are.many;
@@ -200,7 +198,7 @@ same_decision rules rows names texts slots v next seats (decision.Admitted patch
 pub not_over : (g : Guard) → has_ended g ≡ false → g.world.misused ≡ false → is_over g.world ≡ false
 not_over g going right = ap (λ b. b || has_ended g) right ∙ going
 
-module _ (setup : Setup) (g : Guard) (k : ℕ) (s : State) (at : IsStateAt setup g s) (going : has_ended g ≡ false)
+module _ (setup : Setup) (g : Guard) (k : ℕ) (s : ShownState) (at : IsStateAt setup g s) (going : has_ended g ≡ false)
     (right : g.world.misused ≡ false) (offered : is_open g k ≡ true) (some : 0 < k) where
   module _ (d : Decision) (is : IsDecided s k d) where
     last_is : g.versions ≡ at.versions.before ++ text_of is.last ∷ []
@@ -213,7 +211,7 @@ module _ (setup : Setup) (g : Guard) (k : ℕ) (s : State) (at : IsStateAt setup
     says rules rows =
         let names = is.versions.names.now in
         let are = is.are g.versions at.versions.before at.versions.installed last_is in
-        let seen = subst (λ ns. AreSeen (words_of s.run) ns s.installed.count s.seats is.seats) (sym is.same.names_are) is.seen in
+        let seen = subst (λ ns. AreSeen s.run.words ns s.installed.count s.seats is.seats) (sym is.same.names_are) is.seen in
         same_decision rules rows names g.versions g.seats is.versions is.next is.seats d refl are
         (is.says rules g.versions (map (seat_among names) g.seats) rows are
         (seats_for g s.run s.seats names s.installed.count is.seats at.seats at.versions.installed.count_is going (not_over g going right) seen))
@@ -267,12 +265,12 @@ module _ (setup : Setup) (g : Guard) (k : ℕ) (s : State) (at : IsStateAt setup
       (subst (λ names. AreKnown names r.effect) is.same.names_are (says (decision.Refused r) is any_rules any_are_rows).1.known))
 
 -- what the decision of a state says
-pub decided_as : (s : State) (k : ℕ) (versions : Versions) (last next : Program) (seats : List Seen) (d : Decision)
-    → slice_get (trees_of s.run) s.last ≡ Some last → slice_get (trees_of s.run) k ≡ Some next
+pub decided_as : (s : ShownState) (k : ℕ) (versions : Versions) (last next : Program) (seats : List Seen) (d : Decision)
+    → slice_get s.run.trees s.last ≡ Some last → slice_get s.run.trees k ≡ Some next
     → IsSeenAs versions s.installed.count s.installed.names s.installed.store
     → ((texts before : List Text) → IsInstalled texts s.installed.count s.installed.names s.installed.store
     → texts ≡ before ++ text_of last ∷ [] → AreVersions texts versions)
-    → AreSeen (words_of s.run) versions.names.now versions.count s.seats seats
+    → AreSeen s.run.words versions.names.now versions.count s.seats seats
     → ((setup : Setup) (g : Guard) → IsRunAt setup g s.run → AreWithin g.world seats)
     → ForOffer versions seats (λ rules texts slots. IsDecision rules texts slots versions next seats d)
     → IsDecided s k d
@@ -286,8 +284,8 @@ decided_as s k versions last next seats d last_at next_at same are seen within s
   same = same;
   are = are;
   seen =
-      subst (λ ns. AreSeen (words_of s.run) ns s.installed.count s.seats seats) same.names_are
-      (subst (λ n. AreSeen (words_of s.run) versions.names.now n s.seats seats) same.count_is seen);
+      subst (λ ns. AreSeen s.run.words ns s.installed.count s.seats seats) same.names_are
+      (subst (λ n. AreSeen s.run.words versions.names.now n s.seats seats) same.count_is seen);
   within = within;
   says = says;
 }

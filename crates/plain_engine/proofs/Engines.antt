@@ -7,30 +7,35 @@ use Rattle.source_model.specs.Guards.{Guard, Setup, lines_written}
 use Rattle.dsu_runs.specs.Engines.{Makes, MakesAt, Refuses}
 use Rattle.dsu_runs.specs.declared.engine.Made.{Made}
 use Rattle.dsu_runs.specs.declared.engine.Made.TheVariants.{Done, CannotHappen, SinkFailed}
-use Rattle.plain_engine.specs.declared.state.State.{State}
-use Rattle.plain_engine.specs.Plain.{IsAt, IsStateAt, Wrote, lines_among}
+use Rattle.plain_engine.specs.Plain.{IsEngineAt, IsStateAt, ShownState, Wrote, lines_among}
 use Rattle.plain_engine.specs.Steps.{ComesTo, Happened, Stayed}
 use Rattle.plain_engine.proofs.Printing.{grew_all, grew_partly, some_printed}
 
 -- an event that can't happen
-pub refuses : (setup : Setup) (e : Event) (g : Guard) (old new : State) (printed written : ℕ) (told : Option (List ℕ))
-    → IsAt setup g old printed written → Stayed setup e g new
-    → Refuses (λ x. IsAt setup x new printed written) setup e g told told
-refuses setup e g old new printed written told at h = record {
+pub refuses : (setup : Setup) (e : Event) (g : Guard) (old new : ShownState) (printed written : ℕ) (told : Option (List ℕ))
+    → IsEngineAt setup g old printed written → Stayed setup e g new → new.run.kept ≡ old.run.kept
+    → Refuses (λ x. IsEngineAt setup x new printed written) setup e g told told
+refuses setup e g old new printed written told at h kept = record {
   never = h.never;
-  stays = record { state = h.stays; printed = at.printed; written = at.written };
+  stays = record {
+    state = h.stays;
+    kept = subst (λ n. n ≤ printed) (sym kept) at.kept;
+    printed = at.printed;
+    written = at.written;
+  };
   silent = refl;
 }
 
 -- one that prints nothing
-quietly : (setup : Setup) (e : Event) (g : Guard) (old new : State) (printed written : ℕ) (told : Option (List ℕ))
-    → IsAt setup g old printed written → Happened setup e g new []
-    → Makes (λ x. IsAt setup x new printed written) setup e g told told
-quietly setup e g old new printed written told at h = record {
+quietly : (setup : Setup) (e : Event) (g : Guard) (old new : ShownState) (printed written : ℕ) (told : Option (List ℕ))
+    → IsEngineAt setup g old printed written → Happened setup e g new [] → new.run.kept ≡ old.run.kept
+    → Makes (λ x. IsEngineAt setup x new printed written) setup e g told told
+quietly setup e g old new printed written told at h kept = record {
   after = h.after;
   happens = h.happens;
   there = record {
     state = h.there;
+    kept = subst (λ n. n ≤ printed) (sym kept) at.kept;
     printed = at.printed ∙ ap length (sym same);
     written = at.written ∙ ap lines_among (sym same);
   };
@@ -40,36 +45,36 @@ quietly setup e g old new printed written told at h = record {
     same : h.after.world.output ≡ g.world.output
     same = h.grew ∙ append-nil g.world.output
 
-pub comes : (setup : Setup) (e : Event) (g : Guard) (old new : State) (printed written : ℕ) (told : Option (List ℕ)) (done : Bool)
-    → IsAt setup g old printed written → ComesTo setup e g new done
-    → MakesAt (λ x. IsAt setup x new printed written) setup e g told told (if done then Done else CannotHappen)
-comes setup e g old new printed written told true at h = quietly setup e g old new printed written told at h
-comes setup e g old new printed written told false at h = refuses setup e g old new printed written told at h
+pub comes : (setup : Setup) (e : Event) (g : Guard) (old new : ShownState) (printed written : ℕ) (told : Option (List ℕ)) (done : Bool)
+    → IsEngineAt setup g old printed written → ComesTo setup e g new done → new.run.kept ≡ old.run.kept
+    → MakesAt (λ x. IsEngineAt setup x new printed written) setup e g told told (if done then Done else CannotHappen)
+comes setup e g old new printed written told true at h kept = quietly setup e g old new printed written told at h kept
+comes setup e g old new printed written told false at h kept = refuses setup e g old new printed written told at h kept
 
 -- a move, whose print was handed to the sink
-pub moves : (setup : Setup) (e : Event) (g : Guard) (old mid new : State) (printed written printed2 written2 : ℕ)
+pub moves : (setup : Setup) (e : Event) (g : Guard) (old mid new : ShownState) (printed written printed2 written2 : ℕ)
     (told now : Option (List ℕ)) (more : List ℕ) (answer : Made)
-    → IsAt setup g old printed written → (h : Happened setup e g mid more) → new ≡ mid
-    → Wrote h.after.world.output printed told now printed2 answer
+    → IsEngineAt setup g old printed written → (h : Happened setup e g mid more) → IsStateAt setup h.after new
+    → (answer ≡ Done → new.run.kept ≤ printed2) → Wrote h.after.world.output printed told now printed2 answer
     → (answer ≡ Done → written2 ≡ lines_written h.after.world)
-    → MakesAt (λ x. IsAt setup x new printed2 written2) setup e g told now answer
-moves setup e g old mid new printed written printed2 written2 told now more Done at h same wrote lines = record {
+    → MakesAt (λ x. IsEngineAt setup x new printed2 written2) setup e g told now answer
+moves setup e g old mid new printed written printed2 written2 told now more Done at h there kept wrote lines = record {
   after = h.after;
   happens = h.happens;
-  there = record { state = subst (IsStateAt setup h.after) (sym same) h.there; printed = wrote.0; written = lines refl };
+  there = record { state = there; kept = kept refl; printed = wrote.0; written = lines refl };
   grew = grew_all told now g.world.output more h.after.world.output printed h.grew at.printed wrote.1;
 }
-moves setup e g old mid new printed written printed2 written2 told now more SinkFailed at h same wrote lines = record {
+moves setup e g old mid new printed written printed2 written2 told now more SinkFailed at h there kept wrote lines = record {
   after = h.after;
   happens = h.happens;
   longer = some_printed g.world.output more h.after.world.output printed wrote.0 h.grew at.printed wrote.1;
   grew = grew_partly told now g.world.output more h.after.world.output printed wrote.0 h.grew at.printed wrote.1 wrote.2;
 }
-moves setup e g old mid new printed written printed2 written2 told now more CannotHappen at h same wrote lines = absurd wrote
+moves setup e g old mid new printed written printed2 written2 told now more CannotHappen at h there kept wrote lines = absurd wrote
 
 -- what was printed is where the sink's bytes end, or after it
-pub within : (setup : Setup) (e : Event) (g : Guard) (old mid : State) (printed written : ℕ) (more : List ℕ)
-    → IsAt setup g old printed written → (h : Happened setup e g mid more) → printed ≤ length h.after.world.output
+pub within : (setup : Setup) (e : Event) (g : Guard) (old mid : ShownState) (printed written : ℕ) (more : List ℕ)
+    → IsEngineAt setup g old printed written → (h : Happened setup e g mid more) → printed ≤ length h.after.world.output
 within setup e g old mid printed written more at h =
     let long = ap length h.grew ∙ length-append g.world.output more in let from = at.printed in omega (arith, from, long)
 

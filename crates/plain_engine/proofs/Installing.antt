@@ -36,8 +36,8 @@ use Rattle.code_store.specs.Limits.{are_too_many}
 use Rattle.code_store.specs.Stored.{IsStoreOf, meant_body}
 use Rattle.c_tree.specs.BareExpr.{Bytes}
 use Rattle.patch_build.specs.declared.patch.Patch.{Patch}
-use Rattle.source_runner.specs.declared.run.SourceRun.{SourceRun}
-use Rattle.source_runner.specs.SourceRuns.{IsRun, KeepsTexts, words_of, world_after}
+use Rattle.run_machine.specs.Machines.{KeepsTexts, Shown}
+use Rattle.source_runner.specs.SourceRuns.{world_after}
 use Rattle.source_runner.proofs.AfterMoves.{installed_versions, then_install}
 use Rattle.type_transformers.specs.Changes.{IsChange, changing, name_of}
 use Rattle.installed_versions.specs.Installed.{IsInstalled}
@@ -53,9 +53,8 @@ use Rattle.dsu_runs.proofs.Happening.{any_are_rows, any_rules}
 use Rattle.plain_engine.specs.declared.seat.Kept.{Kept}
 use Rattle.plain_engine.specs.declared.seat.Kept.TheVariants.{Empty, Started, Passed}
 use Rattle.plain_engine.specs.declared.seat.Seat.{Seat}
-use Rattle.plain_engine.specs.declared.state.State.{State}
 use Rattle.plain_engine.specs.Kept.{ArePinned, IsOfVersion, is_there, mark_of}
-use Rattle.plain_engine.specs.Plain.{AreSeats, IsStateAt}
+use Rattle.plain_engine.specs.Plain.{AreSeats, IsStateAt, ShownState}
 use Rattle.plain_engine.specs.Steps.{Happened, IsDecided, IsFollowed, Stayed}
 use Rattle.plain_engine.proofs.Moving.{unmoved}
 use Rattle.plain_engine.proofs.SlotsAfter.{alive_is, from_zero}
@@ -181,7 +180,7 @@ few_versions : (n : ℕ) (rest : Option NotPatch) (b : Bool) → nat_le 64 n ≡
 few_versions n rest true e none = absurd (none-some Limit (sym none))
 few_versions n rest false e none = grind (arith, nat_tests, e)
 
-module _ (setup : Setup) (g : Guard) (k : ℕ) (s : State) (at : IsStateAt setup g s) (going : has_ended g ≡ false)
+module _ (setup : Setup) (g : Guard) (k : ℕ) (s : ShownState) (at : IsStateAt setup g s) (going : has_ended g ≡ false)
     (right : g.world.misused ≡ false) (offered : is_open g k ≡ true) (some : 0 < k) (patch : Patch) (pins : List Bool)
     (is : IsDecided s k (decision.Admitted patch pins)) where
   on : is_over g.world ≡ false
@@ -261,7 +260,7 @@ module _ (setup : Setup) (g : Guard) (k : ℕ) (s : State) (at : IsStateAt setup
       ∙ e
 
   -- where the machine can't take it
-  pub cannot : (new : SourceRun) → KeepsTexts s.run new → IsRun (texts_of setup) setup.limits at.run.moves new
+  pub cannot : (new : Shown) → KeepsTexts s.run new → new.is_run (texts_of setup) setup.limits at.run.moves
       → world_after (texts_of setup) setup.limits (at.run.moves ++ source.Install k ∷ []) ≡ None
       → Stayed setup (Decide k) g (record s { run = new })
   cannot new keeps r none = record {
@@ -273,21 +272,22 @@ module _ (setup : Setup) (g : Guard) (k : ℕ) (s : State) (at : IsStateAt setup
     stays = unmoved setup g s at new keeps r;
   }
 
-  module _ (new : SourceRun) (i : Versions) (keeps : KeepsTexts s.run new)
-      (r : IsRun (texts_of setup) setup.limits (at.run.moves ++ source.Install k ∷ []) new)
+  module _ (new : Shown) (i : Versions) (keeps : KeepsTexts s.run new)
+      (r : new.is_run (texts_of setup) setup.limits (at.run.moves ++ source.Install k ∷ [])) (w : World)
+      (ran : world_after (texts_of setup) setup.limits (at.run.moves ++ source.Install k ∷ []) ≡ Some w)
       (brought : IsInstalled (g.versions ++ text_of is.next ∷ []) i.count i.names i.store) (named : i.names ≡ patch.names) where
     abbrev pub after : Guard
     after = answered k (Installed (suc (length g.versions))) (record g {
-      world = r.world;
+      world = w;
       seats = with_pins pins g.seats;
       versions = g.versions ++ text_of is.next ∷ [];
     })
 
-    took : install g.world (Some (text_of is.next).definitions) ≡ Some r.world
-    took = came (Some r.world) r.ran
+    took : install g.world (Some (text_of is.next).definitions) ≡ Some w
+    took = came (Some w) ran
 
-    world_is : installed (text_of is.next).definitions g.world ≡ r.world
-    world_is = installs g.world r.world (text_of is.next).definitions on took
+    world_is : installed (text_of is.next).definitions g.world ≡ w
+    world_is = installs g.world w (text_of is.next).definitions on took
 
     pins_set : (rules : Rules) → AreRows rules.row
         → pinned_from rules (bodies_of g) (changed (last_definitions g.versions) (text_of is.next).definitions) g.world 0 g.seats
@@ -302,15 +302,15 @@ module _ (setup : Setup) (g : Guard) (k : ℕ) (s : State) (at : IsStateAt setup
         ∙ decided rules rows
         ∙ ap (option_map (installed_over rules g k (text_of is.next) (changed (last_definitions g.versions) (text_of is.next).definitions))) took
         ∙ ap (λ ss. Some (answered k (Installed (suc (length g.versions))) (record g {
-          world = r.world;
+          world = w;
           seats = ss;
           versions = g.versions ++ text_of is.next ∷ [];
         }))) (pins_set rules rows)
 
-    slots_stay : (n : ℕ) → in_slot r.world n ≡ in_slot g.world n
+    slots_stay : (n : ℕ) → in_slot w n ≡ in_slot g.world n
     slots_stay n = ap (λ w. in_slot w n) (sym world_is)
 
-    over_stays : is_over r.world ≡ is_over g.world
+    over_stays : is_over w ≡ is_over g.world
     over_stays = ap is_over (sym world_is)
 
     seats_are : (later : List Seat) → ArePinned pins s.seats later → AreSeats after new later
@@ -339,8 +339,8 @@ module _ (setup : Setup) (g : Guard) (k : ℕ) (s : State) (at : IsStateAt setup
                 (ap (λ (x : guard.Seat). x.pinned) (same_Some from.0 old.0 (sym from.1 ∙ old.1)) ∙ base.pinned ∙ base.idle there_not);
             mark = λ _.
                 old.2 ∙ base.mark on
-                ∙ sym (marks_of_more (words_of s.run) g.versions (text_of is.next) was.0.kept (base.version on))
-                ∙ ap (mark_of (words_of s.run) (store (g.versions ++ text_of is.next ∷ []))) (sym was.2)
+                ∙ sym (marks_of_more s.run.words g.versions (text_of is.next) was.0.kept (base.version on))
+                ∙ ap (mark_of s.run.words (store (g.versions ++ text_of is.next ∷ []))) (sym was.2)
                 ∙ ap (λ t. mark_of t (store (g.versions ++ text_of is.next ∷ [])) kept.kept) (sym keeps.1);
             version = λ _.
                 subst (λ n. IsOfVersion n kept.kept) (sym (length-append g.versions (text_of is.next ∷ []) ∙ one (length g.versions)))
@@ -361,7 +361,7 @@ module _ (setup : Setup) (g : Guard) (k : ℕ) (s : State) (at : IsStateAt setup
       run = record {
         moves = at.run.moves ++ source.Install k ∷ [];
         run = r;
-        world = r.ran;
+        world = ran;
         trees = ap (map text_of) keeps.0 ∙ at.run.trees;
         versions =
             installed_versions (texts_of setup) at.run.moves k
@@ -386,7 +386,7 @@ module _ (setup : Setup) (g : Guard) (k : ℕ) (s : State) (at : IsStateAt setup
         one : (n : ℕ) → n + 1 ≡ suc n
         one n = omega arith
 
-    pub installs_so : (there : State) → IsStateAt setup after there → Happened setup (Decide k) g there []
+    pub installs_so : (there : ShownState) → IsStateAt setup after there → Happened setup (Decide k) g there []
     installs_so there is_there = record {
       after = after;
       happens = happens_so;

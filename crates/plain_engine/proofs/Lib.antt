@@ -5,6 +5,7 @@ mod Moving
 mod QuietEvents
 mod KnownMarks
 mod Deciding
+mod Withholding
 mod Installing
 mod Engines
 mod Starting

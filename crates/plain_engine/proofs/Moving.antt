@@ -13,16 +13,15 @@ use Rattle.source_model.specs.Runs as source
 use Rattle.source_model.specs.Guards.{Guard, Setup, bodies_of, has_ended, move_leads, moved, seat_of}
 use Rattle.source_model.specs.JournalLaws.{texts_of}
 use Rattle.source_model.proofs.Moved.{Keeps, move_keeps, of_outcome}
-use Rattle.source_runner.specs.declared.run.SourceRun.{SourceRun}
+use Rattle.run_machine.specs.Machines.{CameBy, KeepsTexts, Shown}
 use Rattle.source_runner.specs.declared.run.SourceMove.{SourceMove as Code}
 use Rattle.source_runner.specs.declared.run.Stepped.{Stepped}
-use Rattle.source_runner.specs.SourceRuns.{CameBy, IsRun, KeepsTexts, Steps, move_of, words_of, world_after}
+use Rattle.source_runner.specs.SourceRuns.{move_of, world_after}
 use Rattle.source_runner.proofs.AfterMoves.{moved_versions, then_move}
 use Rattle.dsu_runs.proofs.Books.{same_offers}
 use Rattle.plain_engine.specs.declared.seat.Seat.{Seat}
-use Rattle.plain_engine.specs.declared.state.State.{State}
 use Rattle.plain_engine.specs.Kept.{AreAfter, IsSeat, NoneNew}
-use Rattle.plain_engine.specs.Plain.{AreSeats, IsRunAt, IsStateAt}
+use Rattle.plain_engine.specs.Plain.{AreSeats, IsRunAt, IsStateAt, ShownState}
 use Rattle.plain_engine.specs.Steps.{MovesTo, Stayed}
 use Rattle.plain_engine.proofs.SlotsAfter.{goes_on, mover, none_new, slots_after}
 use Rattle.plain_engine.proofs.Standing.{Gives, gives}
@@ -46,13 +45,14 @@ no_move true o g slot none = refl
 no_move false o g slot none = ap (option_map (moved g slot)) none
 
 -- what a step came to
-pub stepped : (texts : List (List BareDef)) (limits : Limits) (moves : List SourceMove) (m : Code) (new : SourceRun)
-    (r : Outcome Stepped AllocError) (s : Stepped) → r ≡ Ok s → Steps texts limits moves m new r → CameBy texts limits moves (move_of m) new s
-stepped texts limits moves m new r s is steps = subst (λ x. IfOk x (CameBy texts limits moves (move_of m) new)) is steps.came
+pub stepped : (texts : List (List BareDef)) (limits : Limits) (moves : List SourceMove) (m : Code) (new : Shown)
+    (r : Outcome Stepped AllocError) (s : Stepped) → r ≡ Ok s → IfOk r (CameBy texts limits moves (move_of m) new)
+    → CameBy texts limits moves (move_of m) new s
+stepped texts limits moves m new r s is steps = subst (λ x. IfOk x (CameBy texts limits moves (move_of m) new)) is steps
 
 -- ---- a run that has the same texts
 
-pub same_seats : (g : Guard) (old new : SourceRun) (seats : List Seat) → words_of new ≡ words_of old → AreSeats g old seats
+pub same_seats : (g : Guard) (old new : Shown) (seats : List Seat) → new.words ≡ old.words → AreSeats g old seats
     → AreSeats g new seats
 same_seats g old new seats words are = record {
   many = are.many;
@@ -61,7 +61,7 @@ same_seats g old new seats words are = record {
       (are.each going n kept own at_kept at_own);
 }
 
-pub same_state : (setup : Setup) (g : Guard) (s : State) (new : SourceRun) → IsStateAt setup g s → KeepsTexts s.run new
+pub same_state : (setup : Setup) (g : Guard) (s : ShownState) (new : Shown) → IsStateAt setup g s → KeepsTexts s.run new
     → IsRunAt setup g new → IsStateAt setup g (record s { run = new })
 same_state setup g s new at keeps run = record {
   run = run;
@@ -77,8 +77,8 @@ same_state setup g s new at keeps run = record {
 }
 
 -- a run that made no move
-pub unmoved : (setup : Setup) (g : Guard) (s : State) (at : IsStateAt setup g s) (new : SourceRun) → KeepsTexts s.run new
-    → IsRun (texts_of setup) setup.limits at.run.moves new → IsStateAt setup g (record s { run = new })
+pub unmoved : (setup : Setup) (g : Guard) (s : ShownState) (at : IsStateAt setup g s) (new : Shown) → KeepsTexts s.run new
+    → new.is_run (texts_of setup) setup.limits at.run.moves → IsStateAt setup g (record s { run = new })
 unmoved setup g s at new keeps r = same_state setup g s new at keeps (record {
   moves = at.run.moves;
   run = r;
@@ -87,7 +87,7 @@ unmoved setup g s at new keeps r = same_state setup g s new at keeps (record {
   versions = at.run.versions;
 })
 
-module _ (setup : Setup) (g : Guard) (s : State) (at : IsStateAt setup g s) where
+module _ (setup : Setup) (g : Guard) (s : ShownState) (at : IsStateAt setup g s) where
   -- nothing happens where the thread is at a check-in
   pub refused_at : (slot : ℕ) → (has_ended g ≡ false → (seat_of g slot).at_check_in ≡ true) → Stayed setup (Move slot) g s
   refused_at slot e = record {
@@ -96,7 +96,7 @@ module _ (setup : Setup) (g : Guard) (s : State) (at : IsStateAt setup g s) wher
   }
 
   -- or where it can't move
-  pub refused : (new : SourceRun) (slot : ℕ) → KeepsTexts s.run new → IsRun (texts_of setup) setup.limits at.run.moves new
+  pub refused : (new : Shown) (slot : ℕ) → KeepsTexts s.run new → new.is_run (texts_of setup) setup.limits at.run.moves
       → world_after (texts_of setup) setup.limits (at.run.moves ++ source.Move slot ∷ []) ≡ None
       → Stayed setup (Move slot) g (record s { run = new })
   refused new slot keeps r none = record {
@@ -106,44 +106,45 @@ module _ (setup : Setup) (g : Guard) (s : State) (at : IsStateAt setup g s) wher
     stays = unmoved setup g s at new keeps r;
   }
 
-  module _ (new : SourceRun) (slot : ℕ) (leads : Bool) (keeps_texts : KeepsTexts s.run new)
+  module _ (new : Shown) (slot : ℕ) (leads : Bool) (keeps_texts : KeepsTexts s.run new)
       (none_at : has_ended g ≡ false → (seat_of g slot).at_check_in ≡ false)
-      (r : IsRun (texts_of setup) setup.limits (at.run.moves ++ source.Move slot ∷ []) new)
+      (r : new.is_run (texts_of setup) setup.limits (at.run.moves ++ source.Move slot ∷ [])) (w : World)
+      (ran : world_after (texts_of setup) setup.limits (at.run.moves ++ source.Move slot ∷ []) ≡ Some w)
       (led : Gives (λ x. is_over x.world) setup at.run.moves false
       → Gives (λ x. move_leads (in_slot x.world slot)) setup at.run.moves leads) where
-    to : move g.world slot ≡ Some r.world
-    to = sym (then_move (texts_of setup) setup.limits at.run.moves slot g.world at.run.world) ∙ r.ran
+    to : move g.world slot ≡ Some w
+    to = sym (then_move (texts_of setup) setup.limits at.run.moves slot g.world at.run.world) ∙ ran
 
     mine : (is_over g.world ≡ false) × (source.is_live (in_slot g.world slot) ≡ true)
-    mine = mover g.world r.world slot to
+    mine = mover g.world w slot to
 
     going : has_ended g ≡ false
     going = goes_on g.world mine.0
 
-    keeps : Keeps slot g.world r.world
-    keeps = of_outcome (Keeps slot g.world) (move g.world slot) r.world to (move_keeps g.world slot)
+    keeps : Keeps slot g.world w
+    keeps = of_outcome (Keeps slot g.world) (move g.world slot) w to (move_keeps g.world slot)
 
     leads_is : move_leads (in_slot g.world slot) ≡ leads
     leads_is =
         gives (λ x. move_leads (in_slot x.world slot)) setup at.run.moves g.world leads at.run.world
         (led (ap (λ o. option_map (λ x. is_over x.world) (option_map source.result o)) at.run.world ∙ ap Some mine.0))
 
-    pub made : (later : List Seat) → AreAfter (words_of new) r.world slot leads s.seats later
+    pub made : (later : List Seat) → AreAfter new.words w slot leads s.seats later
         → MovesTo setup (Move slot) g (record s { run = new; seats = later }) true
     made later after = (
       keeps.grows.0,
       record {
-        after = moved g slot r.world;
-        happens = λ rules rows. goes (has_ended g) (seat_of g slot).at_check_in g slot (move g.world slot) r.world going (none_at going) to;
+        after = moved g slot w;
+        happens = λ rules rows. goes (has_ended g) (seat_of g slot).at_check_in g slot (move g.world slot) w going (none_at going) to;
         there = record {
           run = record {
             moves = at.run.moves ++ source.Move slot ∷ [];
             run = r;
-            world = r.ran;
+            world = ran;
             trees = ap (map text_of) keeps_texts.0 ∙ at.run.trees;
             versions = moved_versions (texts_of setup) at.run.moves slot ∙ at.run.versions;
           };
-          seats = slots_after g slot r.world s.run new s.seats later leads at.seats to leads_is keeps_texts.1 after;
+          seats = slots_after g slot w s.run new s.seats later leads at.seats to leads_is keeps_texts.1 after;
           versions = record {
             installed = at.versions.installed;
             before = at.versions.before;
@@ -151,7 +152,7 @@ module _ (setup : Setup) (g : Guard) (s : State) (at : IsStateAt setup g s) wher
             numbered = ap (λ ts. slice_get ts s.last) keeps_texts.0 ∙ at.versions.numbered;
             last_is = at.versions.last_is;
           };
-          book = same_offers setup g (moved g slot r.world) s.installed.names s.book refl refl refl refl at.book;
+          book = same_offers setup g (moved g slot w) s.installed.names s.book refl refl refl refl at.book;
         };
         grew = keeps.grows.1;
       },
@@ -160,10 +161,10 @@ module _ (setup : Setup) (g : Guard) (s : State) (at : IsStateAt setup g s) wher
     -- the same of a move that started no thread, by how many were started before and after it
     pub made_alone : (threads : ℕ) → length s.seats ≡ 16 → Gives (λ x. x.world.threads) setup at.run.moves threads
         → Gives (λ x. x.world.threads) setup (at.run.moves ++ source.Move slot ∷ []) threads → (later : List Seat)
-        → (NoneNew r.world slot s.seats → AreAfter (words_of new) r.world slot leads s.seats later)
+        → (NoneNew w slot s.seats → AreAfter new.words w slot leads s.seats later)
         → MovesTo setup (Move slot) g (record s { run = new; seats = later }) true
     made_alone threads many before after later follows =
         made later
-        (follows (none_new g slot r.world s.run s.seats at.seats many to
-        (gives (λ x. x.world.threads) setup (at.run.moves ++ source.Move slot ∷ []) r.world threads r.ran after
+        (follows (none_new g slot w s.run s.seats at.seats many to
+        (gives (λ x. x.world.threads) setup (at.run.moves ++ source.Move slot ∷ []) w threads ran after
         ∙ sym (gives (λ x. x.world.threads) setup at.run.moves g.world threads at.run.world before))))

@@ -1,11 +1,10 @@
 -- What a sink shows after the rest of an output was handed to it.
-use Rattle.std.proofs.Common.{◌≡◌, ℕ, ◌+◌, ◌-◌, ◌<◌, ◌≤◌, List, ◌++◌, take, Option, Some, None, sym, ◌∙◌, ap, subst, arith, append_assoc, length-append}
+use Rattle.std.proofs.Common.{◌≡◌, ℕ, ◌+◌, ◌-◌, ◌<◌, ◌≤◌, List, ◌++◌, take, Option, Some, None, sym, ◌∙◌, ap, subst, arith, append_assoc, length-append, length-drop}
 use Rattle.std.specs.Prelude.{◌==◌, ◌^◌, cond, length, drop}
 use Rattle.std.proofs.lemmas.List.Sums.{count_by-le-length, sum_by-append}
 use Rattle.std.specs.Io.KnownBytes.{Appends}
 use Rattle.std.proofs.Transfers.{drop-appended}
 use Rattle.std.proofs.Math.Seq.{take-append-add}
-use Rattle.std.proofs.lemmas.List.{take_rest}
 use Rattle.std.proofs.lemmas.Option.{none-some, same_Some}
 use Rattle.dsu_io.specs.Sinks.{AppendsFront}
 use Rattle.dsu_runs.specs.declared.engine.Made.TheVariants.{Done, SinkFailed}
@@ -61,50 +60,47 @@ grew_partly told now out more all printed n whole from fewer grew before is = (
       ∙ ap (take (length out + n)) (sym whole)),
 )
 
--- what came of handing the rest of an output to a sink
-pub wrote_all : (told now : Option (List ℕ)) (seen output : List ℕ) (printed : ℕ) → seen ≡ output
-    → Appends told now (take (length seen - printed) (drop printed seen)) → Wrote output printed told now (length seen) Done
-wrote_all told now seen output printed is grew = (
-  ap length is,
-  subst (λ bytes. Appends told now (drop printed bytes)) is (subst (Appends told now) (take_rest seen printed) grew),
-)
+-- what came of handing the rest of an output to a sink, with how many bytes it had before
+pub all_printed : (piece output : List ℕ) (printed new : ℕ) → piece ≡ drop printed output → printed ≤ length output
+    → (printed + length piece < 2 ^ 64 → new ≡ printed + length piece) → length output < 2 ^ 64 → new ≡ length output
+all_printed piece output printed new is within sums small = sums (subst (λ n. n < 2 ^ 64) (sym whole) small) ∙ whole
+  where
+    whole : printed + length piece ≡ length output
+    whole = let left = ap length is ∙ length-drop printed output in omega (arith, left, within)
 
-pub wrote_partly : (told now : Option (List ℕ)) (seen output : List ℕ) (printed new : ℕ) → seen ≡ output
-    → AppendsFront told now (take (length seen - printed) (drop printed seen)) → Wrote output printed told now new SinkFailed
-wrote_partly told now seen output printed new is part = (
+pub wrote_all : (told now : Option (List ℕ)) (piece output : List ℕ) (printed new : ℕ) → piece ≡ drop printed output → new ≡ length output
+    → Appends told now piece → Wrote output printed told now new Done
+wrote_all told now piece output printed new is all grew = (all, subst (Appends told now) is grew)
+
+pub wrote_partly : (told now : Option (List ℕ)) (piece output : List ℕ) (printed new : ℕ) → piece ≡ drop printed output
+    → AppendsFront told now piece → Wrote output printed told now new SinkFailed
+wrote_partly told now piece output printed new is part = (
   part.0,
-  subst (λ bytes. part.0 < length bytes) (take_rest seen printed ∙ ap (drop printed) is) part.1,
-  subst (λ bytes. Appends told now (take part.0 (drop printed bytes))) is
-      (subst (λ bytes. Appends told now (take part.0 bytes)) (take_rest seen printed) part.2),
+  subst (λ bytes. part.0 < length bytes) is part.1,
+  subst (λ bytes. Appends told now (take part.0 bytes)) is part.2,
 )
-
-pub none_missing : (seen output : List ℕ) (printed : ℕ) → seen ≡ output → printed ≤ length output → length seen < printed → ⊥
-none_missing seen output printed is within fewer = let same = ap length is in omega (arith, same, within, fewer)
 
 -- the lines of a whole output
 lines_appended : (before more : List ℕ) → lines_among (before ++ more) ≡ lines_among before + lines_among more
 lines_appended before more = sum_by-append (λ c. cond (c == 10) 1 0) before more
 
-pub lines_after : (before more seen output : List ℕ) (printed written lines new : ℕ) → seen ≡ output → output ≡ before ++ more
-    → printed ≡ length before → written ≡ lines_among before → lines ≡ lines_among (take (length seen - printed) (drop printed seen))
-    → (written + lines < 2 ^ 64 → new ≡ written + lines) → length seen < 2 ^ 64 → new ≡ lines_among output
-lines_after before more seen output printed written lines new same whole from had is sums small = sums fits ∙ all
+pub lines_after : (before more piece output : List ℕ) (printed written lines new : ℕ) → piece ≡ drop printed output
+    → output ≡ before ++ more → printed ≡ length before → written ≡ lines_among before → lines ≡ lines_among piece
+    → (written + lines < 2 ^ 64 → new ≡ written + lines) → length output < 2 ^ 64 → new ≡ lines_among output
+lines_after before more piece output printed written lines new rest whole from had is sums small = sums fits ∙ all
   where
-    piece : take (length seen - printed) (drop printed seen) ≡ more
-    piece =
-        take_rest seen printed ∙ ap (drop printed) same ∙ ap (λ n. drop n output) from ∙ drop-appended before output more whole
-
     all : written + lines ≡ lines_among output
     all =
-        ap (λ n. n + lines) had ∙ ap (λ n. lines_among before + n) (is ∙ ap lines_among piece) ∙ sym (lines_appended before more)
+        ap (λ n. n + lines) had
+        ∙ ap (λ n. lines_among before + n) (is ∙ ap lines_among (rest ∙ left_is before more output printed whole from))
+        ∙ sym (lines_appended before more)
         ∙ ap lines_among (sym whole)
 
     fits : written + lines < 2 ^ 64
     fits =
         let few = count_by-le-length (λ c. c == 10) output in
-        let long = ap length same in
         let total = all in
-        omega (arith, few, long, total, small)
+        omega (arith, few, total, small)
 
 pub long_enough : (before more output : List ℕ) (printed : ℕ) → output ≡ before ++ more → printed ≡ length before → printed ≤ length output
 long_enough before more output printed whole from =

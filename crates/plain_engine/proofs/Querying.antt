@@ -9,8 +9,7 @@ use Rattle.source_model.specs.Worlds.{in_slot, is_over}
 use Rattle.source_model.specs.Guards.{Guard, Setup, bodies_of, empty_seat, has_ended, seat_of}
 use Rattle.source_model.specs.Guards as guard
 use Rattle.resolved_tree.specs.Nodes.{Table}
-use Rattle.source_runner.specs.declared.run.SourceRun.{SourceRun}
-use Rattle.source_runner.specs.SourceRuns.{trees_of, words_of}
+use Rattle.run_machine.specs.Machines.{Shown}
 use Rattle.installed_versions.specs.declared.installed.Installed.{Installed}
 use Rattle.plain_engine.specs.declared.asked.RowOf.{RowOf}
 use Rattle.plain_engine.specs.declared.seat.Seat.{Seat}
@@ -20,13 +19,13 @@ use Rattle.plain_engine.specs.Asked.{IsHeld, IsInForce, IsRowAt, all_texts}
 use Rattle.plain_engine.proofs.Standing.{outside, seat_at}
 
 -- the texts of a run are those of its setup
-pub text_at : (setup : Setup) (g : Guard) (run : SourceRun) (number : ℕ) → IsRunAt setup g run
-    → option_map text_of (slice_get (trees_of run) number) ≡ slice_get (all_texts setup) number
+pub text_at : (setup : Setup) (g : Guard) (run : Shown) (number : ℕ) → IsRunAt setup g run
+    → option_map text_of (slice_get run.trees number) ≡ slice_get (all_texts setup) number
 text_at setup g run number at =
-    sym (slice_get-map text_of (trees_of run) number) ∙ ap (λ ts. slice_get ts number) at.trees
+    sym (slice_get-map text_of run.trees number) ∙ ap (λ ts. slice_get ts number) at.trees
 
 -- the text in force
-pub in_force : (setup : Setup) (g : Guard) (run : SourceRun) (i : Installed) (last : ℕ) → IsRunAt setup g run → AreInstalled g run i last
+pub in_force : (setup : Setup) (g : Guard) (run : Shown) (i : Installed) (last : ℕ) → IsRunAt setup g run → AreInstalled g run i last
     → IsInForce setup g last
 in_force setup g run i last at are = record {
   before = are.before;
@@ -35,22 +34,22 @@ in_force setup g run i last at are = record {
   last = are.last_is;
 }
 
-pub last_is : (g : Guard) (run : SourceRun) (i : Installed) (last : ℕ) (tree : Program) → (are : AreInstalled g run i last)
-    → Some tree ≡ slice_get (trees_of run) last → g.versions ≡ are.before ++ text_of tree ∷ []
+pub last_is : (g : Guard) (run : Shown) (i : Installed) (last : ℕ) (tree : Program) → (are : AreInstalled g run i last)
+    → Some tree ≡ slice_get run.trees last → g.versions ≡ are.before ++ text_of tree ∷ []
 last_is g run i last tree are e =
     are.last_is ∙ ap (λ t. are.before ++ text_of t ∷ []) (sym (same_Some tree are.tree (e ∙ are.numbered)))
 
 -- a slot, and one that isn't there
-pub held_inside : (g : Guard) (run : SourceRun) (seats : List Seat) (n : ℕ) (kept : Seat) → AreSeats g run seats → has_ended g ≡ false
+pub held_inside : (g : Guard) (run : Shown) (seats : List Seat) (n : ℕ) (kept : Seat) → AreSeats g run seats → has_ended g ≡ false
     → n < 16 → slice_get seats n ≡ Some kept
-    → IsHeld (words_of run) (bodies_of g) (is_over g.world) kept (seat_of g n)
+    → IsHeld run.words (bodies_of g) (is_over g.world) kept (seat_of g n)
 held_inside g run seats n kept are going below at =
     let is = are.each going n kept (seat_of g n) at (seat_at g n are.many below) in record { pinned = sym is.pinned; mark = is.mark }
 
-pub held_outside : (g : Guard) (run : SourceRun) (seats : List Seat) (n : ℕ) → AreSeats g run seats → 16 ≤ n
-    → IsHeld (words_of run) (bodies_of g) (is_over g.world) empty (seat_of g n)
+pub held_outside : (g : Guard) (run : Shown) (seats : List Seat) (n : ℕ) → AreSeats g run seats → 16 ≤ n
+    → IsHeld run.words (bodies_of g) (is_over g.world) empty (seat_of g n)
 held_outside g run seats n are past =
-    subst (IsHeld (words_of run) (bodies_of g) (is_over g.world) empty) (sym (outside g.seats n (subst (λ m. m ≤ n) (sym are.many) past)))
+    subst (IsHeld run.words (bodies_of g) (is_over g.world) empty) (sym (outside g.seats n (subst (λ m. m ≤ n) (sym are.many) past)))
     (record { pinned = refl; mark = λ on. refl })
 
 -- a run that isn't over hasn't ended

@@ -20,18 +20,16 @@ use Rattle.source_model.specs.Guards.{Answered, Guard, Setup, answered, bodies_o
 use Rattle.source_model.specs.Guards as guard
 use Rattle.source_model.specs.Journals.{guard_if}
 use Rattle.source_runner.specs.declared.queries.FrameAt.{FrameAt}
-use Rattle.source_runner.specs.declared.run.SourceRun.{SourceRun}
+use Rattle.run_machine.specs.Machines.{Shown}
 use Rattle.source_runner.specs.Queries.{Place, innermost, innermost_in, place_at, place_of}
-use Rattle.source_runner.specs.SourceRuns.{words_of}
 use Rattle.resolved_tree.specs.Nodes.{Table}
 use Rattle.rows_in_force.specs.Origins.{MarksAreOfFrames, mark_at}
 use Rattle.dsu_runs.specs.Books.{Entries, IsBook}
 use Rattle.dsu_runs.proofs.Books.{same_offers}
 use Rattle.plain_engine.specs.declared.seat.Kept.TheVariants.{Passed}
 use Rattle.plain_engine.specs.declared.seat.Seat.{Seat}
-use Rattle.plain_engine.specs.declared.state.State.{State}
 use Rattle.plain_engine.specs.Kept.{IsOfVersion, IsSeat, mark_in_frame}
-use Rattle.plain_engine.specs.Plain.{AreSeats, IsRunAt, IsStateAt}
+use Rattle.plain_engine.specs.Plain.{AreSeats, IsRunAt, IsStateAt, ShownState}
 use Rattle.plain_engine.specs.Steps.{Happened, Stayed}
 use Rattle.plain_engine.proofs.SlotsAfter.{alive_is}
 use Rattle.plain_engine.proofs.Standing.{seat_at}
@@ -48,7 +46,7 @@ a_guard a b g going test = ap (λ x. guard_if (not x && b) g) going ∙ ap (λ x
 
 -- ---- offers that are opened and withdrawn
 
-pub offers_none : (setup : Setup) (g : Guard) (k : ℕ) (s : State) → IsStateAt setup g s → (has_ended g ≡ false → can_open setup g k ≡ false)
+pub offers_none : (setup : Setup) (g : Guard) (k : ℕ) (s : ShownState) → IsStateAt setup g s → (has_ended g ≡ false → can_open setup g k ≡ false)
     → Stayed setup (Offer k) g s
 offers_none setup g k s at none = record {
   never = λ rules rows. no_guard (has_ended g) (can_open setup g k) (record g { open_offer = Some k; greatest = k }) none;
@@ -56,7 +54,7 @@ offers_none setup g k s at none = record {
 }
 
 -- the state where the guard changes in its offers alone
-pub with_offers : (setup : Setup) (g : Guard) (s : State) (book : Entries) (opened : Option ℕ) (greatest closed : ℕ)
+pub with_offers : (setup : Setup) (g : Guard) (s : ShownState) (book : Entries) (opened : Option ℕ) (greatest closed : ℕ)
     (given : List Answered) → IsStateAt setup g s
     → IsBook setup (record g { open_offer = opened; greatest = greatest; closed = closed; answers = given }) s.installed.names book
     → IsStateAt setup (record g { open_offer = opened; greatest = greatest; closed = closed; answers = given }) (record s { book = book })
@@ -73,7 +71,7 @@ with_offers setup g s book opened greatest closed given at is = record {
   book = is;
 }
 
-pub offers_one : (setup : Setup) (g : Guard) (k : ℕ) (s : State) (book : Entries) → IsStateAt setup g s → has_ended g ≡ false
+pub offers_one : (setup : Setup) (g : Guard) (k : ℕ) (s : ShownState) (book : Entries) → IsStateAt setup g s → has_ended g ≡ false
     → can_open setup g k ≡ true → IsBook setup (record g { open_offer = Some k; greatest = k }) s.installed.names book
     → Happened setup (Offer k) g (record s { book = book }) []
 offers_one setup g k s book at going can is = record {
@@ -83,7 +81,7 @@ offers_one setup g k s book at going can is = record {
   grew = sym (append-nil g.world.output);
 }
 
-pub withdraws_none : (setup : Setup) (g : Guard) (k : ℕ) (s : State) → IsStateAt setup g s → (has_ended g ≡ false → is_open g k ≡ false)
+pub withdraws_none : (setup : Setup) (g : Guard) (k : ℕ) (s : ShownState) → IsStateAt setup g s → (has_ended g ≡ false → is_open g k ≡ false)
     → Stayed setup (Withdraw k) g s
 withdraws_none setup g k s at none = record {
   never = λ rules rows. no_guard (has_ended g) (is_open g k) (answered k Withdrawn g) none;
@@ -91,12 +89,12 @@ withdraws_none setup g k s at none = record {
 }
 
 -- an offer that is closed without an install
-pub closed_at : (setup : Setup) (g : Guard) (k : ℕ) (a : Answer) (s : State) (book : Entries) → IsStateAt setup g s
+pub closed_at : (setup : Setup) (g : Guard) (k : ℕ) (a : Answer) (s : ShownState) (book : Entries) → IsStateAt setup g s
     → IsBook setup (answered k a g) s.installed.names book → IsStateAt setup (answered k a g) (record s { book = book })
 closed_at setup g k a s book at is =
     with_offers setup g s book None g.greatest (suc g.closed) (g.answers ++ record { offer = k; answer = a } ∷ []) at is
 
-pub withdraws_one : (setup : Setup) (g : Guard) (k : ℕ) (s : State) (book : Entries) → IsStateAt setup g s → has_ended g ≡ false
+pub withdraws_one : (setup : Setup) (g : Guard) (k : ℕ) (s : ShownState) (book : Entries) → IsStateAt setup g s → has_ended g ≡ false
     → is_open g k ≡ true → IsBook setup (answered k Withdrawn g) s.installed.names book
     → Happened setup (Withdraw k) g (record s { book = book }) []
 withdraws_one setup g k s book at going offered is = record {
@@ -118,7 +116,7 @@ a_check_in : (a b c : Bool) (g : Guard) → a ≡ false → b ≡ true → c ≡
 a_check_in a b c g going at none =
     ap (λ x. guard_if (not x && b && c) g) going ∙ ap (λ x. guard_if (x && c) g) at ∙ ap (λ x. guard_if x g) none
 
-pub stays_put : (setup : Setup) (g : Guard) (slot : ℕ) (s : State) → IsStateAt setup g s
+pub stays_put : (setup : Setup) (g : Guard) (slot : ℕ) (s : ShownState) → IsStateAt setup g s
     → (has_ended g ≡ false → (seat_of g slot).at_check_in ≡ true → is_none g.open_offer ≡ false) → Stayed setup (CheckIn slot) g s
 stays_put setup g slot s at none = record {
   never = λ rules rows.
@@ -171,15 +169,13 @@ split_start : (texts : List (List BareDef)) (ms : List SourceMove) (o : Option W
 split_start texts ms None w e = absurd (none-some w e)
 split_start texts ms (Some first) w e = (first, refl, e)
 
-pub current_is : (setup : Setup) (g : Guard) (r : SourceRun) (at : IsRunAt setup g r) → current g.world.table ≡ length g.versions
+pub current_is : (setup : Setup) (g : Guard) (r : Shown) (at : IsRunAt setup g r) → current g.world.table ≡ length g.versions
 current_is setup g r at =
-    ap (λ (w : World). current w.table) (same_Some g.world at.run.world (sym at.world ∙ at.run.ran))
-    ∙ at.run.stands.all.history.count
-    ∙ ap length at.run.versions
+    r.counted (texts_of setup) setup.limits at.moves g.world at.run at.world
     ∙ ap length at.versions
     ∙ length-map g.versions (λ (t : Text). t.definitions)
 
-pub versions_there : (setup : Setup) (g : Guard) (r : SourceRun) → IsRunAt setup g r → FramesComeThrough
+pub versions_there : (setup : Setup) (g : Guard) (r : Shown) → IsRunAt setup g r → FramesComeThrough
     → (slot : ℕ) (th : Thread) (f : Frame) → in_slot g.world slot ≡ Live th → slice_get th.frames 0 ≡ Some f → f.version ≤ length g.versions
 versions_there setup g r at through slot th f lives first =
     let start = split_start (texts_of setup) at.moves (start (texts_of setup) setup.limits) g.world at.world in
@@ -203,10 +199,10 @@ set_there (z ∷ xs) zero (suc j) y x other at = at
 set_there (z ∷ xs) (suc k) zero y x other at = at
 set_there (z ∷ xs) (suc k) (suc j) y x other at = set_there xs k j y x (λ e. other (ap suc e)) at
 
-module _ (setup : Setup) (g : Guard) (slot : ℕ) (s : State) (at : IsStateAt setup g s) (going : has_ended g ≡ false)
+module _ (setup : Setup) (g : Guard) (slot : ℕ) (s : ShownState) (at : IsStateAt setup g s) (going : has_ended g ≡ false)
     (at_one : (seat_of g slot).at_check_in ≡ true) (below : slot < 16) (old : Seat) (at_old : slice_get s.seats slot ≡ Some old)
     (frame : Option FrameAt)
-    (framed : is_over g.world ≡ false → innermost_in (in_slot g.world slot) ≡ option_map (place_at (words_of s.run)) frame)
+    (framed : is_over g.world ≡ false → innermost_in (in_slot g.world slot) ≡ option_map (place_at s.run.words) frame)
     (are : MarksAreOfFrames) (through : FramesComeThrough) where
   abbrev new : Seat
   new = record old { kept = Passed frame; at_check_in = false }
@@ -214,10 +210,10 @@ module _ (setup : Setup) (g : Guard) (slot : ℕ) (s : State) (at : IsStateAt se
   abbrev own_new : guard.Seat
   own_new = record (seat_of g slot) { mark = guard.mark_of (bodies_of g) (alive_in g.world slot); at_check_in = false }
 
-  base : IsSeat (words_of s.run) (bodies_of g) (length g.versions) (is_over g.world) (in_slot g.world slot) old (seat_of g slot)
+  base : IsSeat s.run.words (bodies_of g) (length g.versions) (is_over g.world) (in_slot g.world slot) old (seat_of g slot)
   base = at.seats.each going slot old (seat_of g slot) at_old (seat_at g slot at.seats.many below)
 
-  here : IsSeat (words_of s.run) (bodies_of g) (length g.versions) (is_over g.world) (in_slot g.world slot) new own_new
+  here : IsSeat s.run.words (bodies_of g) (length g.versions) (is_over g.world) (in_slot g.world slot) new own_new
   here = record {
     at_check_in = refl;
     pinned = base.pinned;
@@ -226,9 +222,9 @@ module _ (setup : Setup) (g : Guard) (slot : ℕ) (s : State) (at : IsStateAt se
     idle = λ e. absurd (false≢true (sym e));
     mark = λ still.
         ap (guard.mark_of (bodies_of g)) (alive_is g.world slot going)
-        ∙ slot_mark (words_of s.run) (bodies_of g) are (in_slot g.world slot) frame (framed still);
+        ∙ slot_mark s.run.words (bodies_of g) are (in_slot g.world slot) frame (framed still);
     version = λ still.
-        slot_version (words_of s.run) (length g.versions) (in_slot g.world slot) frame (framed still)
+        slot_version s.run.words (length g.versions) (in_slot g.world slot) frame (framed still)
         (λ th f lives first. versions_there setup g s.run at.run through slot th f lives first);
   }
 
@@ -240,14 +236,14 @@ module _ (setup : Setup) (g : Guard) (slot : ℕ) (s : State) (at : IsStateAt se
     where
       by : (n : ℕ) (kept : Seat) (own : guard.Seat) → slice_get (slice_set s.seats slot new) n ≡ Some kept
           → slice_get (slice_set g.seats slot own_new) n ≡ Some own → (n ≡ slot) ⊎ (n ≡ slot → ⊥)
-          → IsSeat (words_of s.run) (bodies_of g) (length g.versions) (is_over g.world) (in_slot g.world n) kept own
+          → IsSeat s.run.words (bodies_of g) (length g.versions) (is_over g.world) (in_slot g.world n) kept own
       by n kept own at_kept at_own (inl same) =
           let new_is : kept ≡ new = set_here s.seats slot new kept (ap (slice_get (slice_set s.seats slot new)) (sym same) ∙ at_kept) in
           let own_is : own ≡ own_new =
           set_here g.seats slot own_new own (ap (slice_get (slice_set g.seats slot own_new)) (sym same) ∙ at_own) in
-          subst (λ m. IsSeat (words_of s.run) (bodies_of g) (length g.versions) (is_over g.world) (in_slot g.world m) kept own) (sym same)
-          (subst (IsSeat (words_of s.run) (bodies_of g) (length g.versions) (is_over g.world) (in_slot g.world slot) kept) (sym own_is)
-          (subst (λ k. IsSeat (words_of s.run) (bodies_of g) (length g.versions) (is_over g.world) (in_slot g.world slot) k own_new)
+          subst (λ m. IsSeat s.run.words (bodies_of g) (length g.versions) (is_over g.world) (in_slot g.world m) kept own) (sym same)
+          (subst (IsSeat s.run.words (bodies_of g) (length g.versions) (is_over g.world) (in_slot g.world slot) kept) (sym own_is)
+          (subst (λ k. IsSeat s.run.words (bodies_of g) (length g.versions) (is_over g.world) (in_slot g.world slot) k own_new)
           (sym new_is) here))
       by n kept own at_kept at_own (inr other) =
           at.seats.each going n kept own (set_there s.seats slot n new kept other at_kept)

@@ -17,8 +17,7 @@ use Rattle.source_model.specs.Guards as guard
 use Rattle.source_model.proofs.Moved.{Keeps, move_keeps, of_outcome}
 use Rattle.resolved_tree.specs.Nodes.{Table, word}
 use Rattle.resolved_tree.specs.declared.words.Word.{Word}
-use Rattle.source_runner.specs.declared.run.SourceRun.{SourceRun}
-use Rattle.source_runner.specs.SourceRuns.{words_of}
+use Rattle.run_machine.specs.Machines.{Shown}
 use Rattle.plain_engine.specs.declared.seat.Kept.{Kept}
 use Rattle.plain_engine.specs.declared.seat.Kept.TheVariants.{Empty, Started, Passed}
 use Rattle.plain_engine.specs.declared.seat.Seat.{Seat}
@@ -285,7 +284,7 @@ pub from_zero : (n : ℕ) → 0 + n ≡ n
 from_zero n = omega arith
 
 -- a move that starts no thread makes none live where none is kept
-pub none_new : (g : Guard) (slot : ℕ) (w : World) (old : SourceRun) (seats : List Seat) → AreSeats g old seats
+pub none_new : (g : Guard) (slot : ℕ) (w : World) (old : Shown) (seats : List Seat) → AreSeats g old seats
     → length seats ≡ 16 → move g.world slot ≡ Some w → w.threads ≡ g.world.threads → NoneNew w slot seats
 none_new g slot w old seats are many to same n kept at_kept test none =
     let going = goes_on g.world (mover g.world w slot to).0 in
@@ -296,7 +295,7 @@ none_new g slot w old seats are many to same n kept at_kept test none =
           (sym ((of_outcome (Keeps slot g.world) (move g.world slot) w to (move_keeps g.world slot)).settled same n (other_number n slot test) lives)
           ∙ sym seat.there
           ∙ none)),
-      unkept_is (words_of old) (bodies_of g) (length g.versions) (is_over g.world) (in_slot g.world n) kept own.0 seat none,
+      unkept_is old.words (bodies_of g) (length g.versions) (is_over g.world) (in_slot g.world n) kept own.0 seat none,
     )
   where
     seat_there : (ss : List guard.Seat) (n : ℕ) → n < length ss → (own : guard.Seat) × (slice_get ss n ≡ Some own)
@@ -304,17 +303,17 @@ none_new g slot w old seats are many to same n kept at_kept test none =
     seat_there (s ∷ ss) zero below = (s, refl)
     seat_there (s ∷ ss) (suc n) below = seat_there ss n (omega (arith, below))
 
-pub slots_after : (g : Guard) (slot : ℕ) (w : World) (old new : SourceRun) (seats later : List Seat) (leads : Bool)
-    → AreSeats g old seats → move g.world slot ≡ Some w → move_leads (in_slot g.world slot) ≡ leads → words_of new ≡ words_of old
-    → AreAfter (words_of new) w slot leads seats later → AreSeats (moved g slot w) new later
+pub slots_after : (g : Guard) (slot : ℕ) (w : World) (old new : Shown) (seats later : List Seat) (leads : Bool)
+    → AreSeats g old seats → move g.world slot ≡ Some w → move_leads (in_slot g.world slot) ≡ leads → new.words ≡ old.words
+    → AreAfter new.words w slot leads seats later → AreSeats (moved g slot w) new later
 slots_after g slot w old new seats later leads are to leads_is words after = record {
   many = length_after 0 slot (move_leads (in_slot g.world slot)) g.world w g.seats ∙ are.many;
   each = λ going n kept own at_kept at_own.
       let was = after n kept at_kept in
       let from = after_at 0 slot (move_leads (in_slot g.world slot)) g.world w g.seats n n own (from_zero n) at_own in
-      subst (IsSeat (words_of new) (bodies_of g) (length g.versions) (is_over w) (in_slot w n) kept)
+      subst (IsSeat new.words (bodies_of g) (length g.versions) (is_over w) (in_slot w n) kept)
       (sym (from.2 ∙ here n from.0 going))
-      (after_is (words_of new) (bodies_of g) (length g.versions) (is_over w) leads (n == slot) (in_slot g.world n) (in_slot w n)
+      (after_is new.words (bodies_of g) (length g.versions) (is_over w) leads (n == slot) (in_slot g.world n) (in_slot w n)
       was.0 kept from.0
       (λ test. ap (λ m. is_live (in_slot g.world m)) (same_number n slot test) ∙ mine.1)
       (λ test th lives. keeps.others n th (other_number n slot test) lives)
@@ -328,10 +327,10 @@ slots_after g slot w old new seats later leads are to leads_is words after = rec
     keeps = of_outcome (Keeps slot g.world) (move g.world slot) w to (move_keeps g.world slot)
 
     before : (n : ℕ) (kept : Seat) (own : guard.Seat) → slice_get seats n ≡ Some kept → slice_get g.seats n ≡ Some own
-        → IsSeat (words_of new) (bodies_of g) (length g.versions) false (in_slot g.world n) kept own
+        → IsSeat new.words (bodies_of g) (length g.versions) false (in_slot g.world n) kept own
     before n kept own at_kept at_own =
         subst (λ t. IsSeat t (bodies_of g) (length g.versions) false (in_slot g.world n) kept own) (sym words)
-        (subst (λ b. IsSeat (words_of old) (bodies_of g) (length g.versions) b (in_slot g.world n) kept own) mine.0
+        (subst (λ b. IsSeat old.words (bodies_of g) (length g.versions) b (in_slot g.world n) kept own) mine.0
         (are.each (goes_on g.world mine.0) n kept own at_kept at_own))
 
     here : (n : ℕ) (own : guard.Seat) → is_some w.finish ≡ false

@@ -14,7 +14,7 @@ use Rattle.source_model.specs.Guards as guard
 use Rattle.source_model.specs.JournalLaws.{texts_of}
 use Rattle.source_runner.specs.SourceRuns.{world_after}
 use Rattle.source_runner.specs.States.{ending_of}
-use Rattle.source_runner.specs.declared.run.SourceRun.{SourceRun}
+use Rattle.run_machine.specs.Machines.{Shown}
 use Rattle.dsu_runs.specs.Engines.{finish_of, standing_by, standing_of, waits_in}
 use Rattle.dsu_runs.specs.declared.engine.Stands.TheVariants.{NoThread, AtCheckIn, Going}
 use Rattle.plain_engine.specs.declared.seat.Seat.{Seat}
@@ -39,7 +39,7 @@ pub gives : {A : Type 0} (of : Result → A) (setup : Setup) (ms : List SourceMo
     → world_after (texts_of setup) setup.limits ms ≡ Some w → Gives of setup ms x → of (result w) ≡ x
 gives of setup ms w x reached e = of_run of (texts_of setup) setup.limits ms w x reached e
 
-module _ (setup : Setup) (g : Guard) (run : SourceRun) (at : IsRunAt setup g run) where
+module _ (setup : Setup) (g : Guard) (run : Shown) (at : IsRunAt setup g run) where
   -- what its run gives
   pub asked : {A : Type 0} (of : Result → A) (x : A) → Gives of setup at.moves x → of (result g.world) ≡ x
   asked of x e = gives of setup at.moves g.world x at.world e
@@ -68,7 +68,7 @@ outside [] n past = refl
 outside (s ∷ ss) zero past = absurd (omega (arith, past))
 outside (s ∷ ss) (suc n) past = outside ss n (omega (arith, past))
 
-pub outside_is : (g : Guard) (run : SourceRun) (seats : List Seat) (n : ℕ) → AreSeats g run seats → 16 ≤ n
+pub outside_is : (g : Guard) (run : Shown) (seats : List Seat) (n : ℕ) → AreSeats g run seats → 16 ≤ n
     → false ≡ (seat_of g n).at_check_in
 outside_is g run seats n are past =
     sym (ap (λ (s : guard.Seat). s.at_check_in) (outside g.seats n (let long = are.many in omega (arith, long, past))))
@@ -76,7 +76,7 @@ outside_is g run seats n are past =
 pub seat_at : (g : Guard) (n : ℕ) → length g.seats ≡ 16 → n < 16 → slice_get g.seats n ≡ Some (seat_of g n)
 seat_at g n many below = slice_get-get_or g.seats n empty_seat (omega (arith, many, below))
 
-pub inside_is : (g : Guard) (run : SourceRun) (seats : List Seat) (n : ℕ) (kept : Seat) → AreSeats g run seats → has_ended g ≡ false
+pub inside_is : (g : Guard) (run : Shown) (seats : List Seat) (n : ℕ) (kept : Seat) → AreSeats g run seats → has_ended g ≡ false
     → n < 16 → slice_get seats n ≡ Some kept → kept.at_check_in ≡ (seat_of g n).at_check_in
 inside_is g run seats n kept are going below at =
     sym (are.each going n kept (seat_of g n) at (seat_at g n are.many below)).at_check_in
@@ -88,7 +88,7 @@ same_end None = refl
 same_end (Some (world.Finished r)) = refl
 same_end (Some (world.Trapped kind slot)) = refl
 
-pub ended_so : (setup : Setup) (g : Guard) (run : SourceRun) (o : Option Ending)
+pub ended_so : (setup : Setup) (g : Guard) (run : Shown) (o : Option Ending)
     → (at : IsRunAt setup g run) → Gives (λ x. ending_of x.world.finish) setup at.moves o → o ≡ finish_of g.world.finish
 ended_so setup g run o at e = sym (asked setup g run at (λ x. ending_of x.world.finish) o e) ∙ same_end g.world.finish
 
@@ -100,12 +100,12 @@ ended_is g o is = ap is_some is ∙ by g.world.finish
     by (Some (world.Finished r)) = refl
     by (Some (world.Trapped kind slot)) = refl
 
-pub has_ended_so : (setup : Setup) (g : Guard) (run : SourceRun) (o : Option Ending)
+pub has_ended_so : (setup : Setup) (g : Guard) (run : Shown) (o : Option Ending)
     → (at : IsRunAt setup g run) → Gives (λ x. ending_of x.world.finish) setup at.moves o → is_some o ≡ has_ended g
 has_ended_so setup g run o at e = ended_is g o (ended_so setup g run o at e)
 
 -- whether a run is over
-pub misused_is : (setup : Setup) (g : Guard) (run : SourceRun) (b : Bool) → (at : IsRunAt setup g run)
+pub misused_is : (setup : Setup) (g : Guard) (run : Shown) (b : Bool) → (at : IsRunAt setup g run)
     → Gives (λ x. x.misused) setup at.moves b → b ≡ g.world.misused
 misused_is setup g run b at e = sym (asked setup g run at (λ x. x.misused) b e)
 

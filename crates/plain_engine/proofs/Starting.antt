@@ -1,5 +1,5 @@
 -- The start of a run.
-use Rattle.std.proofs.Common.{◌≡◌, ℕ, zero, suc, false, List, [], ◌∷◌, map, length, slice_get, slice_index_or, Option, Some, refl, sym, ◌∙◌, ap, subst, arith}
+use Rattle.std.proofs.Common.{◌≡◌, ℕ, zero, suc, ◌<◌, false, List, [], ◌∷◌, map, length, slice_get, slice_index_or, Option, Some, None, refl, sym, ◌∙◌, ap, subst, arith}
 use Rattle.std.specs.Prelude.{◌-◌, option_map, codes, replicate}
 use Rattle.std.proofs.lemmas.Bool.{false≢true}
 use Rattle.std.proofs.lemmas.List.{length-replicate}
@@ -12,17 +12,15 @@ use Rattle.source_model.specs.Worlds.{Free, in_slot, main_enter}
 use Rattle.source_model.specs.Guards.{Guard, Offer, Setup, bodies_of, empty_seat, first_guard}
 use Rattle.source_model.specs.Guards as guard
 use Rattle.source_programs.specs.Programs.{text_in}
-use Rattle.source_runner.specs.declared.run.SourceRun.{SourceRun}
-use Rattle.source_runner.specs.SourceRuns.{IsRun, trees_of, words_of}
+use Rattle.run_machine.specs.Machines.{Shown}
 use Rattle.resolved_tree.specs.Nodes.{word}
 use Rattle.resolved_tree.specs.declared.words.Word.{Word}
 use Rattle.installed_versions.specs.Installed.{IsInstalled}
 use Rattle.dsu_runs.specs.Books.{IsBook}
 use Rattle.dsu_runs.specs.Setups.{limits_of, offers_of, setup_of}
 use Rattle.plain_engine.specs.declared.seat.Seat.{Seat}
-use Rattle.plain_engine.specs.declared.state.State.{State}
 use Rattle.plain_engine.specs.Kept.{IsSeat, empty, started}
-use Rattle.plain_engine.specs.Plain.{AreSeats, IsRunAt, IsStateAt}
+use Rattle.plain_engine.specs.Plain.{AreSeats, IsRunAt, IsStateAt, ShownState}
 use Rattle.plain_engine.proofs.SlotsAfter.{entered}
 
 -- the texts of a setup
@@ -45,24 +43,32 @@ lines_are [] (n ∷ ns) e = absurd (omega (arith, e))
 lines_are (p ∷ ps) [] e = absurd (omega (arith, e))
 lines_are (p ∷ ps) (n ∷ ns) e = ap (λ ls. n ∷ ls) (lines_are ps ns (omega (arith, e)))
 
+-- the first of some texts
+pub first_there : {A : Type 0} (xs : List A) → 0 < length xs → slice_get xs 0 ≡ None → ⊥
+first_there [] some e = omega (arith, some)
+first_there (x ∷ xs) some e = none-some x (sym e)
+
+pub some_texts : (text : Program) (programs trees : List Program) → trees ≡ text ∷ programs → 0 < length trees
+some_texts text programs trees e = let long = ap length e in omega (arith, long)
+
 -- the run at its start
-pub first_run_at : (text : Program) (programs : List Program) (lines : List ℕ) (objects : ℕ) (r : SourceRun)
-    → length programs ≡ length lines → IsRun (map text_in (text ∷ programs)) (limits_of objects) [] r
-    → trees_of r ≡ text ∷ programs
+pub first_run_at : (text : Program) (programs : List Program) (lines : List ℕ) (objects : ℕ) (r : Shown)
+    → length programs ≡ length lines → r.is_run (map text_in (text ∷ programs)) (limits_of objects) []
+    → r.trees ≡ text ∷ programs
     → IsRunAt (setup_of text programs lines objects) (first_guard (setup_of text programs lines objects)) r
 first_run_at text programs lines objects r equal is trees = record {
   moves = [];
-  run = subst (λ ts. IsRun (text_in text ∷ ts) (limits_of objects) [] r) (sym (offered_definitions programs lines equal)) is;
+  run = subst (λ ts. r.is_run (text_in text ∷ ts) (limits_of objects) []) (sym (offered_definitions programs lines equal)) is;
   world = refl;
   trees = ap (map text_of) trees ∙ ap (λ ts. text_of text ∷ ts) (sym (offered_texts programs lines equal));
   versions = refl;
 }
 
-pub first_state : (text : Program) (programs : List Program) (lines : List ℕ) (objects : ℕ) (s : State)
+pub first_state : (text : Program) (programs : List Program) (lines : List ℕ) (objects : ℕ) (s : ShownState)
     → IsRunAt (setup_of text programs lines objects) (first_guard (setup_of text programs lines objects)) s.run
     → AreSeats (first_guard (setup_of text programs lines objects)) s.run s.seats
     → IsInstalled (text_of text ∷ []) s.installed.count s.installed.names s.installed.store → s.last ≡ 0
-    → trees_of s.run ≡ text ∷ programs
+    → s.run.trees ≡ text ∷ programs
     → IsBook (setup_of text programs lines objects) (first_guard (setup_of text programs lines objects)) s.installed.names s.book
     → IsStateAt (setup_of text programs lines objects) (first_guard (setup_of text programs lines objects)) s
 first_state text programs lines objects s run seats installed last trees book = record {
@@ -72,7 +78,7 @@ first_state text programs lines objects s run seats installed last trees book = 
     installed = installed;
     before = [];
     tree = text;
-    numbered = ap (slice_get (trees_of s.run)) last ∙ ap (λ ts. slice_get ts 0) trees;
+    numbered = ap (slice_get s.run.trees) last ∙ ap (λ ts. slice_get ts 0) trees;
     last_is = refl;
   };
   book = book;
@@ -93,8 +99,8 @@ in_free (suc count) (suc n) = in_free count n
 many_slots : (n : ℕ) → n ≡ 16 → suc (n - 1) ≡ 16
 many_slots n e = omega (arith, e)
 
-pub first_slots : (setup : Setup) (r : SourceRun) (function : Option Word) (seats : List Seat) → setup.limits.slots ≡ 16
-    → option_map (word (words_of r)) function ≡ Some (codes "main") → seats ≡ started function ∷ replicate 15 empty
+pub first_slots : (setup : Setup) (r : Shown) (function : Option Word) (seats : List Seat) → setup.limits.slots ≡ 16
+    → option_map (word r.words) function ≡ Some (codes "main") → seats ≡ started function ∷ replicate 15 empty
     → AreSeats (first_guard setup) r seats
 first_slots setup r function seats slots named is = record {
   many = ap suc (length-replicate (setup.limits.slots - 1) empty_seat) ∙ many_slots setup.limits.slots slots;
@@ -103,24 +109,24 @@ first_slots setup r function seats slots named is = record {
   where
     by : (n : ℕ) (kept : Seat) (own : guard.Seat) → slice_get (started function ∷ replicate 15 empty) n ≡ Some kept
         → slice_get (first_guard setup).seats n ≡ Some own
-        → IsSeat (words_of r) (bodies_of (first_guard setup)) 1 false (in_slot (first_guard setup).world n) kept own
+        → IsSeat r.words (bodies_of (first_guard setup)) 1 false (in_slot (first_guard setup).world n) kept own
     by zero kept own at_kept at_own =
-        subst (λ k. IsSeat (words_of r) (bodies_of (first_guard setup)) 1 false (in_slot (first_guard setup).world 0) k own)
+        subst (λ k. IsSeat r.words (bodies_of (first_guard setup)) 1 false (in_slot (first_guard setup).world 0) k own)
         (same_Some (started function) kept at_kept)
-        (subst (IsSeat (words_of r) (bodies_of (first_guard setup)) 1 false (in_slot (first_guard setup).world 0) (started function))
+        (subst (IsSeat r.words (bodies_of (first_guard setup)) 1 false (in_slot (first_guard setup).world 0) (started function))
         (same_Some (guard.started_seat (codes "main")) own at_own) (record {
           at_check_in = refl;
           pinned = refl;
           there = refl;
           lives = λ e. absurd (false≢true e);
           idle = λ e. absurd (false≢true (sym e));
-          mark = λ on. ap (λ f. Some (Start f)) (entered (words_of r) function (Some main_enter) named);
+          mark = λ on. ap (λ f. Some (Start f)) (entered r.words function (Some main_enter) named);
           version = λ on. tt;
         }))
     by (suc n) kept own at_kept at_own =
-        subst (λ k. IsSeat (words_of r) (bodies_of (first_guard setup)) 1 false (in_slot (first_guard setup).world (suc n)) k own)
+        subst (λ k. IsSeat r.words (bodies_of (first_guard setup)) 1 false (in_slot (first_guard setup).world (suc n)) k own)
         (sym (filled 15 n empty kept at_kept))
-        (subst (IsSeat (words_of r) (bodies_of (first_guard setup)) 1 false (in_slot (first_guard setup).world (suc n)) empty)
+        (subst (IsSeat r.words (bodies_of (first_guard setup)) 1 false (in_slot (first_guard setup).world (suc n)) empty)
         (sym (filled (setup.limits.slots - 1) n empty_seat own at_own)) (record {
           at_check_in = refl;
           pinned = refl;

@@ -1,13 +1,14 @@
 //! The decision on an offer.
-ghost use Rattle.std.specs.Prelude.{◌≡◌, ◌<◌, ◌++◌, false, true, List, None, map, Err, IfOk, IfNone, IfSome, OnErr};
+ghost use Rattle.std.specs.Prelude.{◌≡◌, ◌<◌, ◌++◌, false, true, List, None, map, Err, IfErr, IfOk, IfNone, IfSome, OnErr};
 ghost use Rattle.c_tree.specs.BareExpr.{Bytes};
 ghost use Rattle.code_store.specs.Limits.{are_too_many};
 ghost use Rattle.code_store.specs.Stored.{meant_body};
 ghost use Rattle.run_types.specs.declared.run.Event.TheVariants.{Decide};
 ghost use Rattle.source_model.specs.Guards.{Guard, Setup, has_ended, is_open, offer_at};
 ghost use Rattle.offer_decision.specs.declared.answer.Decision.TheVariants.{Admitted};
-ghost use Rattle.plain_engine.specs.Plain.{IsStateAt};
-ghost use Rattle.plain_engine.specs.Steps.{ComesTo, IsDecided, IsFollowed};
+ghost use Rattle.plain_engine.specs.Plain.{IsStateAt, state_shown};
+ghost use Rattle.dsu_runs.specs.UndefinedNames.{HasUndefinedOffer};
+ghost use Rattle.plain_engine.specs.Steps.{ComesTo, IsDecided, IsFollowed, MayWithhold};
 
 use crate::seen::{seats_seen, with_pins};
 use crate::state::State;
@@ -15,19 +16,22 @@ use code_store::StoredBody;
 use dsu_runs::Undecided;
 use offer_decision::{Decision, decision};
 use patch_build::{MOST_VERSIONS, Patch};
+use run_machine::Machine;
 use source_model::OfferAnswer;
 use source_runner::Stepped;
-use std::alloc::AllocError;
 
-impl State {
+impl<M: Machine> State<M> {
     /// Decides an offer, if it is open and the run goes on. Where it isn't decided nothing changed.
     pub(crate) fn decide(&mut self, k: u8) -> Result<bool, Undecided>
-        ensures made { (setup : Setup) (g : Guard) → IsStateAt setup g self.old
-            → IfOk result (ComesTo setup (Decide k) g self.new) }
+        ensures made { (setup : Setup) (g : Guard) → IsStateAt setup g (state_shown M.shown self.old)
+            → IfOk result (ComesTo setup (Decide k) g (state_shown M.shown self.new)) }
         ensures stays { OnErr result ((setup : Setup) (g : Guard)
-            → IsStateAt setup g self.old → IsStateAt setup g self.new) }
+            → IsStateAt setup g (state_shown M.shown self.old) → IsStateAt setup g (state_shown M.shown self.new)) }
+        ensures kept { (M.shown self.new.run).kept ≡ (M.shown self.old.run).kept }
         ensures misused { result ≡ Err Undecided.Misused → (setup : Setup) (g : Guard)
-            → IsStateAt setup g self.old → g.world.misused ≡ true }
+            → IsStateAt setup g (state_shown M.shown self.old) → g.world.misused ≡ true }
+        ensures undefined { result ≡ Err Undecided.UndefinedName → (setup : Setup) (g : Guard)
+            → IsStateAt setup g (state_shown M.shown self.old) → HasUndefinedOffer setup }
     {
         // Offers are numbered from 1, and text 0 is the first one.
         if k == 0 {
@@ -44,17 +48,19 @@ impl State {
         }
         match self.decide_open(k) {
             Ok(done) => Ok(done),
-            Err(_) => Err(Undecided::Memory),
+            Err(why) => Err(why),
         }
     }
 
-    /// Decides the open offer in a run in which threads still move. Where memory runs out, nothing changed.
-    fn decide_open(&mut self, k: u8) -> Result<bool, AllocError>
-        ensures made { (setup : Setup) (g : Guard) → IsStateAt setup g self.old → has_ended g ≡ false
+    /// Decides the open offer in a run in which threads still move. Where it isn't decided nothing changed.
+    fn decide_open(&mut self, k: u8) -> Result<bool, Undecided>
+        ensures made { (setup : Setup) (g : Guard) → IsStateAt setup g (state_shown M.shown self.old) → has_ended g ≡ false
             → g.world.misused ≡ false → is_open g k ≡ true → 0 < k
-            → IfOk result (ComesTo setup (Decide k) g self.new) }
+            → IfOk result (ComesTo setup (Decide k) g (state_shown M.shown self.new)) }
         ensures stays { OnErr result ((setup : Setup) (g : Guard)
-            → IsStateAt setup g self.old → IsStateAt setup g self.new) }
+            → IsStateAt setup g (state_shown M.shown self.old) → IsStateAt setup g (state_shown M.shown self.new)) }
+        ensures kept { (M.shown self.new.run).kept ≡ (M.shown self.old.run).kept }
+        ensures why { IfErr result (MayWithhold (state_shown M.shown self.old) k) }
     {
         let decided = self.decision(k)?;
         match decided {
@@ -72,10 +78,11 @@ impl State {
     }
 
     /// What is decided on an offer; nothing where there is no such offer.
-    fn decision(&self, k: u8) -> Result<Option<Decision>, AllocError>
-        ensures decided { IfOk result (λ found. IfSome found (IsDecided self.now k)) }
+    fn decision(&self, k: u8) -> Result<Option<Decision>, Undecided>
+        ensures decided { IfOk result (λ found. IfSome found (IsDecided (state_shown M.shown self.now) k)) }
         ensures none { IfOk result (λ found. IfNone found ((setup : Setup) (g : Guard)
-            → IsStateAt setup g self.now → 0 < k → offer_at setup k ≡ None)) }
+            → IsStateAt setup g (state_shown M.shown self.now) → 0 < k → offer_at setup k ≡ None)) }
+        ensures why { IfErr result (MayWithhold (state_shown M.shown self.now) k) }
     {
         let Some(last) = self.run.text(self.last) else {
             return Ok(None);
@@ -94,7 +101,7 @@ impl State {
         ensures few { result ≡ true → self.now.installed.count < 64 }
         ensures room { result ≡ true → (names : List Bytes) → are_too_many
             (map (meant_body names) self.now.installed.store ++ map (meant_body names) bodies.now) ≡ false }
-        ensures full { result ≡ false → (setup : Setup) (g : Guard) → IsStateAt setup g self.now
+        ensures full { result ≡ false → (setup : Setup) (g : Guard) → IsStateAt setup g (state_shown M.shown self.now)
             → self.now.installed.count < 64 → ¬ ((names : List Bytes) → are_too_many
             (map (meant_body names) self.now.installed.store ++ map (meant_body names) bodies.now) ≡ false) }
     {
@@ -108,13 +115,15 @@ impl State {
     }
 
     /// Installs an admitted patch with these pins. Where memory runs out, nothing changed.
-    fn install(&mut self, k: u8, patch: Patch, pins: &[bool; 16]) -> Result<bool, AllocError>
-        ensures made { (setup : Setup) (g : Guard) → IsStateAt setup g self.old → has_ended g ≡ false
+    fn install(&mut self, k: u8, patch: Patch, pins: &[bool; 16]) -> Result<bool, Undecided>
+        ensures made { (setup : Setup) (g : Guard) → IsStateAt setup g (state_shown M.shown self.old) → has_ended g ≡ false
             → g.world.misused ≡ false → is_open g k ≡ true → 0 < k
-            → IsDecided self.old k (Admitted patch pins.now)
-            → IfOk result (ComesTo setup (Decide k) g self.new) }
+            → IsDecided (state_shown M.shown self.old) k (Admitted patch pins.now)
+            → IfOk result (ComesTo setup (Decide k) g (state_shown M.shown self.new)) }
         ensures stays { OnErr result ((setup : Setup) (g : Guard)
-            → IsStateAt setup g self.old → IsStateAt setup g self.new) }
+            → IsStateAt setup g (state_shown M.shown self.old) → IsStateAt setup g (state_shown M.shown self.new)) }
+        ensures kept { (M.shown self.new.run).kept ≡ (M.shown self.old.run).kept }
+        ensures memory { IfErr result (λ why. why ≡ Undecided.Memory) }
     {
         // A decision admits no patch without room.
         if !self.has_room(&patch.bodies) {
@@ -131,17 +140,18 @@ impl State {
                 self.installed.take_back(replaced);
                 Ok(false)
             }
-            Err(fault) => {
+            Err(_) => {
                 self.installed.take_back(replaced);
-                Err(fault)
+                Err(Undecided::Memory)
             }
         }
     }
 
     /// What is kept beside the machine follows an install.
     fn follow(&mut self, k: u8, pins: &[bool; 16])
-        ensures { (setup : Setup) (g after : Guard)
-            → IsFollowed setup g k pins.now self.old after → IsStateAt setup after self.new }
+        ensures followed { (setup : Setup) (g after : Guard)
+            → IsFollowed setup g k pins.now (state_shown M.shown self.old) after → IsStateAt setup after (state_shown M.shown self.new) }
+        ensures kept { (M.shown self.new.run).kept ≡ (M.shown self.old.run).kept }
     {
         self.seats = with_pins(&self.seats, pins);
         self.last = k as usize;

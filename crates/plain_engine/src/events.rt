@@ -3,22 +3,23 @@ ghost use Rattle.dsu_io.specs.Causes.{Rose};
 ghost use Rattle.source_model.specs.Guards.{Guard, Setup, lines_written};
 ghost use Rattle.source_runner.specs.Waits.{waiting_of as source_waiting};
 ghost use Rattle.dsu_runs.specs.Engines.{waiting_of};
-ghost use Rattle.plain_engine.specs.Plain.{IsRunAt, Wrote, lines_among};
+ghost use Rattle.plain_engine.specs.Plain.{IsRunAt, IsStateAt, Wrote, lines_among, state_shown};
 
 use crate::PlainEngine;
 use crate::state::SLOTS;
 use dsu_io::{Sink, put};
 use dsu_runs::{Engine, Made, Stands, Undecided, Waiting};
 use name_sets::Names;
+use run_machine::Machine;
 use run_types::Ending;
 use source_model::OfferAnswer;
 use source_runner::SourceWait;
 use std::alloc::AllocError;
 
-impl<S: Sink> Engine for PlainEngine<S> {
+impl<M: Machine, S: Sink> Engine for PlainEngine<M, S> {
     ghost use Rattle.plain_engine.specs.Plain.{IsAt};
 
-    ghost is_at = { λ setup g engine. IsAt setup g engine.state engine.printed engine.written };
+    ghost is_at = { λ setup g engine. IsAt M.shown setup g engine.state engine.printed engine.written };
 
     ghost told = { λ engine. S.told engine.sink };
 
@@ -138,31 +139,31 @@ fn lines_in(bytes: &[u8]) -> usize
     lines
 }
 
-impl<S: Sink> PlainEngine<S> {
-    /// Hands the sink what was printed since the last time, and counts its lines.
+impl<M: Machine, S: Sink> PlainEngine<M, S> {
+    /// Hands the sink what was printed since the last time, and counts its lines. The machine may let go of its text then.
     fn write(&mut self) -> Made
-        ensures wrote { (setup : Setup) (g : Guard) → IsRunAt setup g self.old.state.run
-            → self.old.printed ≤ length g.world.output
+        ensures wrote { (setup : Setup) (g : Guard) → IsRunAt setup g (M.shown self.old.state.run)
+            → (M.shown self.old.state.run).kept ≤ self.old.printed → self.old.printed ≤ length g.world.output
             → Wrote g.world.output self.old.printed (S.told self.old.sink) (S.told self.new.sink)
             self.new.printed result }
         ensures lines { (before more : List ℕ) (setup : Setup) (g : Guard)
-            → IsRunAt setup g self.old.state.run → g.world.output ≡ before ++ more
-            → self.old.printed ≡ length before → self.old.written ≡ lines_among before
+            → IsRunAt setup g (M.shown self.old.state.run) → (M.shown self.old.state.run).kept ≤ self.old.printed
+            → g.world.output ≡ before ++ more → self.old.printed ≡ length before → self.old.written ≡ lines_among before
             → result ≡ Made.Done → self.new.written ≡ lines_written g.world }
-        ensures same { self.new.state ≡ self.old.state }
+        ensures stays { (setup : Setup) (g : Guard) → IsStateAt setup g (state_shown M.shown self.old.state)
+            → IsStateAt setup g (state_shown M.shown self.new.state) }
+        ensures kept { (setup : Setup) (g : Guard) → IsRunAt setup g (M.shown self.old.state.run)
+            → (M.shown self.old.state.run).kept ≤ self.old.printed → self.old.printed ≤ length g.world.output
+            → result ≡ Made.Done → (M.shown self.new.state.run).kept ≤ self.new.printed }
         ensures later { S.faults self.old.sink ≤ S.faults self.new.sink }
         ensures cause { result ≡ Made.SinkFailed → Rose (S.faults self.old.sink) (S.faults self.new.sink) }
     {
-        let output = self.state.run.output();
-        // An output never shrinks.
-        if output.len() < self.printed {
-            return Made::Done;
-        }
-        let piece = &output[self.printed..];
+        let piece = self.state.run.output_from(self.printed);
         match put(&mut self.sink, piece) {
             Ok(()) => {
                 self.written = sum(self.written, lines_in(piece));
-                self.printed = output.len();
+                self.printed = sum(self.printed, piece.len());
+                self.state.run.forget();
                 Made::Done
             }
             Err(_) => Made::SinkFailed,
@@ -170,7 +171,7 @@ impl<S: Sink> PlainEngine<S> {
     }
 }
 
-/// What the source machine says that a thread waits for, as an engine says it.
+/// What a machine says that a thread waits for, as an engine says it.
 fn waiting(wait: Option<SourceWait<'_>>) -> Option<Waiting<'_>>
     ensures { option_map waiting_of result ≡ option_map source_waiting wait.entry }
 {

@@ -4,16 +4,16 @@ ghost use Rattle.c_tree.specs.BareDef.{BareDef};
 ghost use Rattle.source_model.specs.Runs.{SourceMove as Made, is_live};
 ghost use Rattle.source_model.specs.Worlds.{Limits, World, in_slot, is_over};
 ghost use Rattle.source_model.specs.Guards.{in_transaction};
-ghost use Rattle.source_runner.specs.SourceRuns.{IsRun, words_of, world_after};
+ghost use Rattle.source_runner.specs.SourceRuns.{world_after};
 ghost use Rattle.plain_engine.specs.Kept.{AreAfter, IsAfter, IsMoved, IsOther, NoneNew, is_there};
 
 use crate::seat::Seat;
-use source_runner::SourceRun;
+use run_machine::Machine;
 
 /// Whether a thread that was pinned still is: a pin doesn't outlive its transaction.
-fn stays_pinned(run: &SourceRun, slot: u8, pinned: bool) -> bool
+fn stays_pinned<M: Machine>(run: &M, slot: u8, pinned: bool) -> bool
     ensures { (texts : List (List BareDef)) (limits : Limits) (moves : List Made) (w : World)
-        → IsRun texts limits moves run.now → world_after texts limits moves ≡ Some w
+        → (M.shown run.now).is_run texts limits moves → world_after texts limits moves ≡ Some w
         → result ≡ (pinned && in_transaction (in_slot w slot)) }
 {
     if pinned {
@@ -24,9 +24,9 @@ fn stays_pinned(run: &SourceRun, slot: u8, pinned: bool) -> bool
 }
 
 /// The slot of the thread that moved, by whether the move led to a check-in.
-fn moved(run: &SourceRun, seat: Seat, slot: u8, leads: bool) -> Seat
+fn moved<M: Machine>(run: &M, seat: Seat, slot: u8, leads: bool) -> Seat
     ensures { (texts : List (List BareDef)) (limits : Limits) (moves : List Made) (w : World)
-        → IsRun texts limits moves run.now → world_after texts limits moves ≡ Some w
+        → (M.shown run.now).is_run texts limits moves → world_after texts limits moves ≡ Some w
         → IsMoved (in_slot w slot) leads seat result }
 {
     if !run.is_live(slot) {
@@ -40,10 +40,10 @@ fn moved(run: &SourceRun, seat: Seat, slot: u8, leads: bool) -> Seat
 }
 
 /// Another slot: a thread that lives there stays, and one may be new.
-fn other(run: &SourceRun, seat: Seat, slot: u8) -> Seat
+fn other<M: Machine>(run: &M, seat: Seat, slot: u8) -> Seat
     ensures { (texts : List (List BareDef)) (limits : Limits) (moves : List Made) (w : World)
-        → IsRun texts limits moves run.now → world_after texts limits moves ≡ Some w
-        → IsOther (is_there seat.kept) (is_live (in_slot w slot)) (words_of run.now) (is_over w)
+        → (M.shown run.now).is_run texts limits moves → world_after texts limits moves ≡ Some w
+        → IsOther (is_there seat.kept) (is_live (in_slot w slot)) (M.shown run.now).words (is_over w)
         (in_slot w slot) seat result }
 {
     if seat.is_there() {
@@ -57,10 +57,10 @@ fn other(run: &SourceRun, seat: Seat, slot: u8) -> Seat
 }
 
 /// A slot after a move of the thread in slot `mover`.
-fn after(run: &SourceRun, seat: Seat, slot: u8, mover: u8, leads: bool) -> Seat
+fn after<M: Machine>(run: &M, seat: Seat, slot: u8, mover: u8, leads: bool) -> Seat
     ensures { (texts : List (List BareDef)) (limits : Limits) (moves : List Made) (w : World)
-        → IsRun texts limits moves run.now → world_after texts limits moves ≡ Some w
-        → IsAfter (words_of run.now) (is_over w) (in_slot w slot) (slot == mover) leads seat result }
+        → (M.shown run.now).is_run texts limits moves → world_after texts limits moves ≡ Some w
+        → IsAfter (M.shown run.now).words (is_over w) (in_slot w slot) (slot == mover) leads seat result }
 {
     if slot == mover {
         moved(run, seat, slot, leads)
@@ -71,10 +71,10 @@ fn after(run: &SourceRun, seat: Seat, slot: u8, mover: u8, leads: bool) -> Seat
 
 /// Makes the slots those after a move of the thread in slot `mover`, by whether the move led to a check-in. Each slot in
 /// which no thread was is looked at, since one may be new.
-pub(crate) fn follow_move(run: &SourceRun, seats: &mut [Seat; 16], mover: u8, leads: bool)
+pub(crate) fn follow_move<M: Machine>(run: &M, seats: &mut [Seat; 16], mover: u8, leads: bool)
     ensures { (texts : List (List BareDef)) (limits : Limits) (moves : List Made) (w : World)
-        → IsRun texts limits moves run.now → world_after texts limits moves ≡ Some w
-        → AreAfter (words_of run.now) w mover leads seats.old seats.new }
+        → (M.shown run.now).is_run texts limits moves → world_after texts limits moves ≡ Some w
+        → AreAfter (M.shown run.now).words w mover leads seats.old seats.new }
 {
     for slot in 0..16u8 {
         let seat = seats[slot as usize];
@@ -83,10 +83,10 @@ pub(crate) fn follow_move(run: &SourceRun, seats: &mut [Seat; 16], mover: u8, le
 }
 
 /// The same of a move that started no thread: the other slots stay.
-pub(crate) fn follow_mover(run: &SourceRun, seats: &mut [Seat; 16], mover: u8, leads: bool)
+pub(crate) fn follow_mover<M: Machine>(run: &M, seats: &mut [Seat; 16], mover: u8, leads: bool)
     ensures { (texts : List (List BareDef)) (limits : Limits) (moves : List Made) (w : World)
-        → IsRun texts limits moves run.now → world_after texts limits moves ≡ Some w → NoneNew w mover seats.old
-        → AreAfter (words_of run.now) w mover leads seats.old seats.new }
+        → (M.shown run.now).is_run texts limits moves → world_after texts limits moves ≡ Some w → NoneNew w mover seats.old
+        → AreAfter (M.shown run.now).words w mover leads seats.old seats.new }
 {
     if mover >= 16 {
         return;

@@ -4,7 +4,7 @@ ghost use Rattle.c_tree.specs.BareDef.{BareDef};
 ghost use Rattle.source_model.specs.Runs.{SourceMove as Made};
 ghost use Rattle.source_model.specs.Worlds.{Limits, World, in_slot};
 ghost use Rattle.source_model.specs.Guards.{in_transaction};
-ghost use Rattle.source_runner.specs.SourceRuns.{IsRun, words_of, world_after};
+ghost use Rattle.source_runner.specs.SourceRuns.{world_after};
 ghost use Rattle.plain_engine.specs.declared.seat.Kept.TheVariants.{Passed, Started};
 ghost use Rattle.plain_engine.specs.Kept.{ArePinned, name_of};
 ghost use Rattle.plain_engine.specs.Seen.{AreSeen, AreWithin, IsOriginOf, IsSeen};
@@ -14,11 +14,12 @@ use name_sets::Names;
 use offer_decision::Seat as Seen;
 use resolved_tree::Word;
 use rows_in_force::Origin;
-use source_runner::{FrameAt, SourceRun};
+use run_machine::Machine;
+use source_runner::FrameAt;
 
 /// The name of the function with which a thread starts; it is empty where the function isn't known.
-fn name_of(run: &SourceRun, function: Option<Word>) -> &str
-    ensures { result.now ≡ name_of (words_of run.now) function }
+fn name_of<M: Machine>(run: &M, function: Option<Word>) -> &str
+    ensures { result.now ≡ name_of (M.shown run.now).words function }
 {
     match function {
         Some(function) => run.word(function),
@@ -34,8 +35,8 @@ fn version_of(frame: FrameAt, versions: u32) -> u32
 }
 
 /// Where the row of a thread that was started comes from.
-fn origin_of_start(run: &SourceRun, names: &Names, function: Option<Word>) -> Option<Origin>
-    ensures { (versions : ℕ) → IsOriginOf (words_of run.now) names.now versions (Started function) result }
+fn origin_of_start<M: Machine>(run: &M, names: &Names, function: Option<Word>) -> Option<Origin>
+    ensures { (versions : ℕ) → IsOriginOf (M.shown run.now).words names.now versions (Started function) result }
 {
     match names.find(name_of(run, function)) {
         Some(id) => Some(Origin::Start(id)),
@@ -44,8 +45,13 @@ fn origin_of_start(run: &SourceRun, names: &Names, function: Option<Word>) -> Op
 }
 
 /// Where the row of a thread comes from that passed a check-in in a frame.
-fn origin_in_frame(run: &SourceRun, names: &Names, versions: u32, frame: FrameAt) -> Option<Origin>
-    ensures { IsOriginOf (words_of run.now) names.now versions (Passed (Some frame)) result }
+fn origin_in_frame<M: Machine>(
+    run: &M,
+    names: &Names,
+    versions: u32,
+    frame: FrameAt,
+) -> Option<Origin>
+    ensures { IsOriginOf (M.shown run.now).words names.now versions (Passed (Some frame)) result }
 {
     match names.find(run.word(frame.function)) {
         Some(id) => Some(Origin::Passed(id, version_of(frame, versions), frame.point)),
@@ -55,8 +61,8 @@ fn origin_in_frame(run: &SourceRun, names: &Names, versions: u32, frame: FrameAt
 
 /// Where the row in force of a slot comes from. There is none where no thread lives, nor where no version has the function
 /// of the thread: its row has no name of theirs.
-fn origin(run: &SourceRun, names: &Names, versions: u32, kept: Kept) -> Option<Origin>
-    ensures { IsOriginOf (words_of run.now) names.now versions kept result }
+fn origin<M: Machine>(run: &M, names: &Names, versions: u32, kept: Kept) -> Option<Origin>
+    ensures { IsOriginOf (M.shown run.now).words names.now versions kept result }
 {
     match kept {
         Kept::Empty => None,
@@ -67,10 +73,10 @@ fn origin(run: &SourceRun, names: &Names, versions: u32, kept: Kept) -> Option<O
 }
 
 /// A slot as a decision sees it.
-fn seen(run: &SourceRun, names: &Names, versions: u32, seat: Seat, slot: u8) -> Seen
-    ensures kept { IsSeen (words_of run.now) names.now versions seat result }
+fn seen<M: Machine>(run: &M, names: &Names, versions: u32, seat: Seat, slot: u8) -> Seen
+    ensures kept { IsSeen (M.shown run.now).words names.now versions seat result }
     ensures within { (texts : List (List BareDef)) (limits : Limits) (moves : List Made) (w : World)
-        → IsRun texts limits moves run.now → world_after texts limits moves ≡ Some w
+        → (M.shown run.now).is_run texts limits moves → world_after texts limits moves ≡ Some w
         → in_transaction (in_slot w slot) ≡ result.in_transaction }
 {
     Seen {
@@ -90,15 +96,15 @@ fn unseen() -> Seen {
 }
 
 /// The slots as a decision sees them, by the names of the versions so far and how many these are.
-pub(crate) fn seats_seen(
-    run: &SourceRun,
+pub(crate) fn seats_seen<M: Machine>(
+    run: &M,
     names: &Names,
     versions: u32,
     seats: &[Seat; 16],
 ) -> [Seen; 16]
-    ensures kept { AreSeen (words_of run.now) names.now versions seats.now result }
+    ensures kept { AreSeen (M.shown run.now).words names.now versions seats.now result }
     ensures within { (texts : List (List BareDef)) (limits : Limits) (moves : List Made) (w : World)
-        → IsRun texts limits moves run.now → world_after texts limits moves ≡ Some w → AreWithin w result }
+        → (M.shown run.now).is_run texts limits moves → world_after texts limits moves ≡ Some w → AreWithin w result }
 {
     let mut all = [unseen(); 16];
     for slot in 0..16u8 {

@@ -72,7 +72,7 @@ fn check_ins_of(
 ) -> Result<Vec<CheckIn>, AllocError> {
     match prepare(alloc, stand.versions, stand.offered.typed) {
         Ok(patch) => check_ins_in_force(alloc, stand, code, &patch, place, is_pinned),
-        Err(PatchFault::Not(_)) => Ok(Vec::new(alloc)),
+        Err(PatchFault::Not(_) | PatchFault::UndefinedName) => Ok(Vec::new(alloc)),
         Err(PatchFault::Memory) => Err(AllocError),
     }
 }

@@ -10,6 +10,7 @@ use patch_notes::{add_install_notes, add_no_patch_notes};
 use plain_engine::PlainEngine;
 use refusal_notes::{Stand, add_refusal_notes};
 use source_model::{NotPatch, OfferAnswer};
+use source_runner::SourceRun;
 use std::alloc::{AllocError, Global};
 use thread_notes::Source;
 
@@ -17,7 +18,7 @@ use thread_notes::Source;
 pub(crate) fn decision_notes<S: Sink>(
     alloc: Global,
     mark: &[u8],
-    engine: &PlainEngine<S>,
+    engine: &PlainEngine<SourceRun, S>,
     sources: &[Source<'_>],
     offer: u8,
     before: usize,
@@ -42,7 +43,7 @@ pub(crate) fn decision_notes<S: Sink>(
 fn of_install<S: Sink>(
     alloc: Global,
     mark: &[u8],
-    engine: &PlainEngine<S>,
+    engine: &PlainEngine<SourceRun, S>,
     number: usize,
     before: usize,
 ) -> Result<Vec<u8>, AllocError>
@@ -64,7 +65,7 @@ fn of_install<S: Sink>(
 fn of_refusal<S: Sink>(
     alloc: Global,
     mark: &[u8],
-    engine: &PlainEngine<S>,
+    engine: &PlainEngine<SourceRun, S>,
     sources: &[Source<'_>],
     number: usize,
     refusal: Refusal,
@@ -95,7 +96,7 @@ fn of_refusal<S: Sink>(
 fn of_no_patch<S: Sink>(
     alloc: Global,
     mark: &[u8],
-    engine: &PlainEngine<S>,
+    engine: &PlainEngine<SourceRun, S>,
     sources: &[Source<'_>],
     number: usize,
     before: usize,

@@ -8,6 +8,7 @@ use dsu_io::{NullSink, Sink};
 use dsu_runs::Engine;
 use plain_engine::PlainEngine;
 use run_types::{Ending, Event};
+use source_runner::SourceRun;
 use std::alloc::{AllocError, Global};
 use thread_notes::{MARK, Source, ending_notes};
 
@@ -44,7 +45,7 @@ pub fn run_notes(
 /// The notes on a run that an engine is at the start of.
 fn noted<S: Sink>(
     alloc: Global,
-    engine: &mut PlainEngine<S>,
+    engine: &mut PlainEngine<SourceRun, S>,
     sources: &[Source<'_>],
     count: usize,
     history: &[Event],
@@ -77,7 +78,7 @@ fn looked_at(history: &[Event], ending: Ending) -> &[Event] {
 fn replay<S: Sink>(
     alloc: Global,
     mark: &[u8],
-    engine: &mut PlainEngine<S>,
+    engine: &mut PlainEngine<SourceRun, S>,
     sources: &[Source<'_>],
     events: &[Event],
     notes: &mut Vec<Vec<u8>>,
@@ -125,7 +126,7 @@ fn add_all(all: &mut Vec<Vec<u8>>, more: Vec<Vec<u8>>) -> Result<(), AllocError>
 fn make<S: Sink>(
     alloc: Global,
     mark: &[u8],
-    engine: &mut PlainEngine<S>,
+    engine: &mut PlainEngine<SourceRun, S>,
     sources: &[Source<'_>],
     event: Event,
     notes: &mut Vec<Vec<u8>>,
@@ -155,7 +156,7 @@ fn make<S: Sink>(
 fn decide<S: Sink>(
     alloc: Global,
     mark: &[u8],
-    engine: &mut PlainEngine<S>,
+    engine: &mut PlainEngine<SourceRun, S>,
     sources: &[Source<'_>],
     offer: u8,
     notes: &mut Vec<Vec<u8>>,

@@ -4,7 +4,7 @@ use dsu_runs::Engine;
 use offer_drafts::{Frame, RowFrom, SourceText, Thread};
 use plain_engine::{PlainEngine, RowOf};
 use source_model::OfferAnswer;
-use source_runner::FrameAt;
+use source_runner::{FrameAt, SourceRun};
 use std::alloc::{AllocError, Global};
 use thread_notes::Source;
 
@@ -13,7 +13,7 @@ const MOST_FRAMES: usize = 256;
 
 /// A text of a run by its number: 0 is the first one, k that of offer k.
 pub(crate) fn text_at<'a, S: Sink>(
-    engine: &'a PlainEngine<S>,
+    engine: &'a PlainEngine<SourceRun, S>,
     sources: &'a [Source<'a>],
     number: usize,
 ) -> Option<SourceText<'a>> {
@@ -26,7 +26,7 @@ pub(crate) fn text_at<'a, S: Sink>(
 }
 
 /// The number of the text that was installed as a version; the first one is version 1.
-fn number_of<S: Sink>(engine: &PlainEngine<S>, version: u32) -> usize {
+fn number_of<S: Sink>(engine: &PlainEngine<SourceRun, S>, version: u32) -> usize {
     let answers = engine.answers();
     for index in 0..answers.len() {
         if let OfferAnswer::Installed(number) = &answers[index] {
@@ -41,7 +41,7 @@ fn number_of<S: Sink>(engine: &PlainEngine<S>, version: u32) -> usize {
 /// The texts of the versions so far, the first one first.
 pub(crate) fn texts_of<'a, S: Sink>(
     alloc: Global,
-    engine: &'a PlainEngine<S>,
+    engine: &'a PlainEngine<SourceRun, S>,
     sources: &'a [Source<'a>],
 ) -> Result<Vec<SourceText<'a>>, AllocError> {
     let mut texts = Vec::new(alloc);
@@ -54,7 +54,7 @@ pub(crate) fn texts_of<'a, S: Sink>(
 }
 
 /// Where a frame is.
-fn frame_of<'a, S: Sink>(engine: &'a PlainEngine<S>, at: FrameAt) -> Frame<'a> {
+fn frame_of<'a, S: Sink>(engine: &'a PlainEngine<SourceRun, S>, at: FrameAt) -> Frame<'a> {
     Frame {
         function: engine.word(at.function),
         version: at.version.min(u32::MAX as usize) as u32,
@@ -65,7 +65,7 @@ fn frame_of<'a, S: Sink>(engine: &'a PlainEngine<S>, at: FrameAt) -> Frame<'a> {
 /// The frames of the thread in a slot, the innermost first.
 fn frames_of<'a, S: Sink>(
     alloc: Global,
-    engine: &'a PlainEngine<S>,
+    engine: &'a PlainEngine<SourceRun, S>,
     slot: u8,
 ) -> Result<Vec<Frame<'a>>, AllocError> {
     let mut frames = Vec::new(alloc);
@@ -81,7 +81,7 @@ fn frames_of<'a, S: Sink>(
 /// The thread in a slot, if one lives there.
 pub(crate) fn thread_in<'a, S: Sink>(
     alloc: Global,
-    engine: &'a PlainEngine<S>,
+    engine: &'a PlainEngine<SourceRun, S>,
     slot: u8,
 ) -> Result<Option<Thread<'a>>, AllocError> {
     let row = match engine.row_of(slot) {
@@ -100,7 +100,7 @@ pub(crate) fn thread_in<'a, S: Sink>(
 /// The live threads, by slot.
 pub(crate) fn threads_of<'a, S: Sink>(
     alloc: Global,
-    engine: &'a PlainEngine<S>,
+    engine: &'a PlainEngine<SourceRun, S>,
 ) -> Result<Vec<Thread<'a>>, AllocError> {
     let mut threads = Vec::new(alloc);
     for slot in 0..engine.slots() {

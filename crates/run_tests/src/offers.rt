@@ -133,6 +133,18 @@ fn an_offer_after_a_misuse_is_withdrawn(rt: HostRuntime) {
     assert!(rt; ends(rt.alloc(), &MISUSED, 2, &WITHDRAWN) == Some(true));
 }
 
+/// The same with offers of texts that use a name that they don't define.
+static UNDEFINED: Script = Script {
+    lines: &[1, 2],
+    moves: 3,
+    decision: Decision::UsesUndefined,
+};
+
+#[test]
+fn an_offer_of_an_undefined_name_is_withdrawn(rt: HostRuntime) {
+    assert!(rt; ends(rt.alloc(), &UNDEFINED, 2, &WITHDRAWN) == Some(true));
+}
+
 /// The same with decisions that can't be made.
 static CANNOT_HAPPEN: Script = Script {
     lines: &[1, 2],
@@ -226,4 +238,17 @@ static AFTER_A_MISUSE: Answered = Answered {
 #[test]
 fn replay_stops_at_the_decision_after_a_misuse(rt: HostRuntime) {
     assert!(rt; replays(rt.alloc(), &MISUSED, &DECIDING, &AFTER_A_MISUSE) == Some(true));
+}
+
+static AT_AN_UNDEFINED_NAME: Answered = Answered {
+    end: End {
+        cause: StopCause::UndefinedName(4),
+        events: &[Event::Move(0), Event::Offer(1)],
+    },
+    answers: "[NotOffered, NotOffered]",
+};
+
+#[test]
+fn replay_stops_at_the_decision_on_an_undefined_name(rt: HostRuntime) {
+    assert!(rt; replays(rt.alloc(), &UNDEFINED, &DECIDING, &AT_AN_UNDEFINED_NAME) == Some(true));
 }

@@ -3,10 +3,11 @@ use c_front::read_text;
 use c_types::Typed;
 use dsu_io::MemorySink;
 use plain_engine::PlainEngine;
+use source_runner::SourceRun;
 use std::alloc::Global;
 
 /// The engine over a sink in memory.
-pub type Plain = PlainEngine<MemorySink>;
+pub type Plain = PlainEngine<SourceRun, MemorySink>;
 
 /// An offer: its text, and after how many lines it is due.
 #[derive(Clone, Copy)]

@@ -13,6 +13,8 @@ pub enum Decision {
     WantsMemory,
     /// A definition is misused.
     IsMisused,
+    /// The text of each offer uses a name that it doesn't define.
+    UsesUndefined,
     /// It can't be made.
     CannotHappen,
 }
@@ -125,6 +127,7 @@ impl Engine for Scripted {
             }
             Decision::WantsMemory => Err(Undecided::Memory),
             Decision::IsMisused => Err(Undecided::Misused),
+            Decision::UsesUndefined => Err(Undecided::UndefinedName),
             Decision::CannotHappen => Ok(Made::CannotHappen),
         }
     }

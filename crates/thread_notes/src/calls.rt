@@ -4,7 +4,7 @@ use dsu_runs::Engine;
 use plain_engine::PlainEngine;
 use resolved_tree::Word;
 use source_model::OfferAnswer;
-use source_runner::FrameAt;
+use source_runner::{FrameAt, SourceRun};
 use std::alloc::{AllocError, Global};
 
 /// How a call goes on.
@@ -48,7 +48,7 @@ const MOST_FRAMES: usize = 256;
 /// The calls of the thread in a slot.
 pub(crate) fn calls_of<S: Sink>(
     alloc: Global,
-    engine: &PlainEngine<S>,
+    engine: &PlainEngine<SourceRun, S>,
     slot: u8,
 ) -> Result<Calls<'_>, AllocError> {
     let mut shown = Vec::new(alloc);
@@ -66,7 +66,7 @@ pub(crate) fn calls_of<S: Sink>(
 }
 
 /// How many frames the thread in a slot has.
-fn depth<S: Sink>(engine: &PlainEngine<S>, slot: u8) -> usize {
+fn depth<S: Sink>(engine: &PlainEngine<SourceRun, S>, slot: u8) -> usize {
     for up in 0..MOST_FRAMES {
         if engine.frame_up(slot, up).is_none() {
             return up;
@@ -76,7 +76,7 @@ fn depth<S: Sink>(engine: &PlainEngine<S>, slot: u8) -> usize {
 }
 
 /// The call of a function that is entered, in the version in force.
-fn entered<S: Sink>(engine: &PlainEngine<S>, function: Word) -> Call<'_> {
+fn entered<S: Sink>(engine: &PlainEngine<SourceRun, S>, function: Word) -> Call<'_> {
     Call {
         standing: Standing::Entering,
         function: engine.word(function),
@@ -87,7 +87,12 @@ fn entered<S: Sink>(engine: &PlainEngine<S>, function: Word) -> Call<'_> {
 }
 
 /// The call of a frame that is so many calls above the innermost one of the thread in a slot.
-fn call_of<S: Sink>(engine: &PlainEngine<S>, slot: u8, up: usize, frame: FrameAt) -> Call<'_> {
+fn call_of<S: Sink>(
+    engine: &PlainEngine<SourceRun, S>,
+    slot: u8,
+    up: usize,
+    frame: FrameAt,
+) -> Call<'_> {
     if up > 0 || engine.entering(slot).is_some() {
         return call_at(engine, Standing::Calling, frame, frame.point);
     }
@@ -99,7 +104,7 @@ fn call_of<S: Sink>(engine: &PlainEngine<S>, slot: u8, up: usize, frame: FrameAt
 
 /// The call of a frame at a point.
 fn call_at<S: Sink>(
-    engine: &PlainEngine<S>,
+    engine: &PlainEngine<SourceRun, S>,
     standing: Standing,
     frame: FrameAt,
     point: u32,

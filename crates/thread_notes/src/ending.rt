@@ -11,6 +11,7 @@ use dsu_runs::{Engine, Stands};
 use fault_notes::add_line;
 use plain_engine::PlainEngine;
 use run_types::Ending;
+use source_runner::SourceRun;
 use std::alloc::{AllocError, Global};
 
 /// What each line of the notes of an ending begins with.
@@ -22,7 +23,7 @@ pub const MARK: &[u8] = b"#   ";
 /// before the move that trapped.
 pub fn ending_notes<S: Sink>(
     alloc: Global,
-    engine: &PlainEngine<S>,
+    engine: &PlainEngine<SourceRun, S>,
     sources: &[Source<'_>],
     ending: Ending,
 ) -> Result<Vec<Vec<u8>>, AllocError>
@@ -48,7 +49,7 @@ pub fn ending_notes<S: Sink>(
 fn notes_of<S: Sink>(
     alloc: Global,
     mark: &[u8],
-    engine: &PlainEngine<S>,
+    engine: &PlainEngine<SourceRun, S>,
     sources: &[Source<'_>],
     places: &mut Places,
     slot: u8,
@@ -64,7 +65,7 @@ fn notes_of<S: Sink>(
 fn waits_notes<S: Sink>(
     alloc: Global,
     mark: &[u8],
-    engine: &PlainEngine<S>,
+    engine: &PlainEngine<SourceRun, S>,
     sources: &[Source<'_>],
     places: &mut Places,
 ) -> Result<Vec<Vec<u8>>, AllocError>
@@ -81,7 +82,7 @@ fn waits_notes<S: Sink>(
 fn add_if_waiting<S: Sink>(
     all: &mut Vec<Vec<u8>>,
     mark: &[u8],
-    engine: &PlainEngine<S>,
+    engine: &PlainEngine<SourceRun, S>,
     sources: &[Source<'_>],
     places: &mut Places,
     slot: u8,
@@ -102,7 +103,7 @@ fn add_if_waiting<S: Sink>(
 fn live_notes<S: Sink>(
     alloc: Global,
     mark: &[u8],
-    engine: &PlainEngine<S>,
+    engine: &PlainEngine<SourceRun, S>,
     sources: &[Source<'_>],
     places: &mut Places,
 ) -> Result<Vec<u8>, AllocError>
@@ -119,7 +120,7 @@ fn live_notes<S: Sink>(
 fn add_if_live<S: Sink>(
     notes: &mut Vec<u8>,
     mark: &[u8],
-    engine: &PlainEngine<S>,
+    engine: &PlainEngine<SourceRun, S>,
     sources: &[Source<'_>],
     places: &mut Places,
     slot: u8,

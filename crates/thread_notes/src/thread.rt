@@ -9,6 +9,7 @@ use crate::source::Source;
 use dsu_io::Sink;
 use fault_notes::add_line;
 use plain_engine::PlainEngine;
+use source_runner::SourceRun;
 use std::alloc::AllocError;
 
 /// Adds where the thread in a slot is, in a run that isn't over: at most eight lines for its calls, the innermost first, and
@@ -16,7 +17,7 @@ use std::alloc::AllocError;
 pub fn add_thread<S: Sink>(
     text: &mut Vec<u8>,
     mark: &[u8],
-    engine: &PlainEngine<S>,
+    engine: &PlainEngine<SourceRun, S>,
     sources: &[Source<'_>],
     places: &mut Places,
     slot: u8,
@@ -31,7 +32,7 @@ pub fn add_thread<S: Sink>(
 
 /// Finds the places of the texts of some calls.
 fn find_places<S: Sink>(
-    engine: &PlainEngine<S>,
+    engine: &PlainEngine<SourceRun, S>,
     places: &mut Places,
     calls: &Calls<'_>,
 ) -> Result<(), AllocError> {

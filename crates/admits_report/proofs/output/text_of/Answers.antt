@@ -9,7 +9,7 @@ use Rattle.source_model.specs.declared.patch.NotPatch.{NotPatch}
 use Rattle.source_model.specs.Patches.{not_patch}
 use Rattle.code_store.specs.Stored.{IsStoreOf}
 use Rattle.patch_build.specs.declared.fault.PatchFault.{PatchFault}
-use Rattle.patch_build.specs.declared.fault.PatchFault.TheVariants.{Not, Memory}
+use Rattle.patch_build.specs.declared.fault.PatchFault.TheVariants.{Not, UndefinedName, Memory}
 use Rattle.patch_build.specs.Faults.{IsCause}
 use Rattle.patch_build.specs.Versions.{AreVersions}
 use Rattle.admits_report.specs.AdmitsText.{IsTextBy, IsPatchText}
@@ -40,6 +40,7 @@ returns-in-Ok c =
 by_fault : (p : Program) (text : Bytes) (q : Program) (newer : Bytes) (fault : PatchFault) (o : Option NotPatch) (output : Bytes) → IsCause o fault
     → IsFaultText fault newer output → IsTextBy o p text q newer output
 by_fault p text q newer (Not cause) o output caused is = subst {A = Option NotPatch} (λ o. IsTextBy o p text q newer output) (sym caused) is
+by_fault p text q newer UndefinedName o output caused is = absurd is
 by_fault p text q newer Memory o output caused is = absurd is
 
 pub returns : goal.returns

@@ -1,5 +1,4 @@
-use Rattle.std.proofs.Common.{List, [], ◌∷◌, ◌++◌, length, map, ap, sym, subst, ◌∙◌}
-use Rattle.std.specs.Prelude.{All}
+use Rattle.std.proofs.Common.{List, [], ◌∷◌, ◌++◌, map, ap, sym, subst, ◌∙◌}
 use Rattle.std.specs.List.{flat_map, AllZip}
 use Rattle.std.proofs.lemmas.Result.{IfOk-weaker}
 use Rattle.c_tree.specs.BareExpr.{Bytes}
@@ -10,34 +9,24 @@ use Rattle.check_in_places.specs.declared.section.Section.{Section}
 use Rattle.check_in_places.specs.Bodies.{AreSections}
 use Rattle.check_in_places.specs.CheckIns.{functions}
 use Rattle.admits_report.specs.AdmitsText.{block_text, end_text, IsBlockOf}
-use Rattle.admits_report.specs.Answered.{AreAnswersOf, AreWithin}
+use Rattle.admits_report.specs.Answered.{AreAnswersOf}
 use Rattle.admits_report.specs.Shown.{block_of}
-use Rattle.admits_report.proofs.Blocks.{blocks_are, sections_within}
+use Rattle.admits_report.proofs.Blocks.{blocks_are}
 use Rattle.admits_report.proofs.output.text_of_patch.Goals as goal
-
-pub text_of_sections-requires : goal.text_of_sections-requires
-text_of_sections-requires c =
-    let program = c.args.program.now in
-    let text = c.args.text.now in
-    subst {A = Bytes} (λ bytes. All (AreWithin (length bytes)) c.as_slice.result.now) (sym c.in_ok-lines.ensures)
-    (subst {A = List Section} (All (AreWithin (length text))) (sym c.as_slice.ensures.value)
-    (sections_within c.args.versions.names.now (definition (text_of program).definitions) (length text) 0 (functions program)
-    c.in_ok-bodies.bodies.sections.items c.in_ok-bodies.ensures.sections))
 
 pub returns : goal.returns
 returns c = λ changed interface stored in_c in_i.
     let program = c.args.program.now in
     let q = text_of program in
-    let text = c.args.text.now in
     let a = c.in_ok-admission.admission in
     let sections = c.in_ok-bodies.bodies.sections.items in
     let bodies = store (q ∷ []) in
     IfOk-weaker c.text_of_sections.result _ _
     (λ output is. record {
       blocks = map (block_of a.names.now) is.functions;
-      are = blocks_are a bodies changed interface q (length text) 0 (functions program) sections is.functions
+      are = blocks_are a bodies changed interface q 0 (functions program) sections is.functions
           (c.in_ok-admission.ensures.over bodies changed interface stored in_c in_i)
-          (subst {A = List Bytes} (λ names. AreSections names (definition q.definitions) (length text) 0 (functions program) sections)
+          (subst {A = List Bytes} (λ names. AreSections names (definition q.definitions) 0 (functions program) sections)
           (sym c.in_ok-admission.ensures.names) c.in_ok-bodies.ensures.sections)
           (subst {A = List Section} (λ list. AllZip (AreAnswersOf a) list is.functions) c.as_slice.ensures.value is.are);
       printed = is.printed

@@ -1,19 +1,10 @@
-use Rattle.std.proofs.Common.{List, ◌++◌, length, map, ap, sym, subst, ◌∙◌}
-use Rattle.std.specs.Prelude.{All}
+use Rattle.std.proofs.Common.{◌++◌, map, ap, ◌∙◌}
 use Rattle.std.specs.List.{flat_map}
-use Rattle.admits_report.specs.declared.answers.FunctionAnswers.{FunctionAnswers}
 use Rattle.admits_report.specs.AdmitsText.{block_text, end_text}
-use Rattle.admits_report.specs.Shown.{block_of, IsReady}
+use Rattle.admits_report.specs.Shown.{block_of}
 use Rattle.admits_report.proofs.Adding.{two_added, from_nothing}
-use Rattle.admits_report.proofs.Blocks.{answers_ready}
 use Rattle.admits_report.proofs.Counted.{counted_of}
 use Rattle.admits_report.proofs.output.text_of_sections.Goals as goal
-
-pub add_functions-requires : goal.add_functions-requires
-add_functions-requires c =
-    let size = length c.args.lines.now.text.now in
-    subst {A = List FunctionAnswers} (All (IsReady size)) (sym c.as_slice-2.ensures.value)
-    (answers_ready c.args.admission.now size c.args.sections.now c.in_ok-functions.functions.items c.in_ok-functions.ensures c.requires)
 
 pub returns : goal.returns
 returns c =

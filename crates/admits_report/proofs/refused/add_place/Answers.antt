@@ -8,6 +8,6 @@ use Rattle.admits_report.proofs.refused.add_place.Goals as goal
 pub returns : goal.returns
 returns c =
     on_ok_weaker c.add.result
-    (place_words (codes "transform ") (decimal c.args.place.line) (codes ":") (decimal c.args.place.column) _ _ _ _
-    (c.as_bytes-line.ensures.value ∙ c.format.ensures.text) (c.as_bytes-column.ensures.value ∙ c.format-2.ensures.text))
+    (place_words (codes "transform ") (decimal c.args.line) (codes ":") (decimal c.args.column) _ _ _ _
+    (c.as_bytes-line_text.ensures.value ∙ c.format.ensures.text) (c.as_bytes-column_text.ensures.value ∙ c.format-2.ensures.text))
     c.add.ensures

@@ -8,11 +8,11 @@ use Rattle.check_in_places.proofs.bodies.add_definition.Goals as goal
 pub returns-in-Some : goal.returns-in-Some
 returns-in-Some c = λ text done same are.
     subst {A = List Function} (λ more. OnOk c.add_function.result
-    (AreBodiesOf c.args.names.now text c.args.size (done ++ more) c.add_function.new.bodies.flow c.add_function.new.bodies.sections.items))
+    (AreBodiesOf c.args.names.now text (done ++ more) c.add_function.new.bodies.flow c.add_function.new.bodies.sections.items))
     (sym (one_function c.args.added.now c.in-Some.function.now (sym c.in-Some.ensures)))
     (c.add_function.ensures text done same are)
 
 pub returns-in-None : goal.returns-in-None
 returns-in-None c = λ text done same are.
-    subst {A = List Function} (λ fs. AreBodiesOf c.args.names.now text c.args.size fs c.args.bodies.now.flow c.args.bodies.now.sections.items)
+    subst {A = List Function} (λ fs. AreBodiesOf c.args.names.now text fs c.args.bodies.now.flow c.args.bodies.now.sections.items)
     (sym (ap (λ more. done ++ more) (no_function c.args.added.now (sym c.in-None.ensures)) ∙ append-nil done)) are

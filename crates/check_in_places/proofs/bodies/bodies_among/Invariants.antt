@@ -10,4 +10,4 @@ use Rattle.check_in_places.proofs.bodies.bodies_among.Given as goal
 abbrev pub invariant-loop-one : goal.invariant-loop-one
 invariant-loop-one l =
     (text : Text) → known_of l.known ≡ definition text.definitions
-    → AreBodiesOf l.names text l.size (functions_in (take l.one-index l.definitions)) l.bodies.flow l.bodies.sections.items
+    → AreBodiesOf l.names text (functions_in (take l.one-index l.definitions)) l.bodies.flow l.bodies.sections.items

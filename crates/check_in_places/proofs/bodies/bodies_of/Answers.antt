@@ -10,6 +10,6 @@ use Rattle.check_in_places.proofs.bodies.bodies_of.Goals as goal
 pub returns : goal.returns
 returns c =
     subst {A = List Def}
-    (λ ds. IfOk c.bodies_among.result (λ bodies. AreBodiesOf c.args.names.now (text_of c.args.program.now) c.args.size (functions_in ds) bodies.flow bodies.sections.items))
+    (λ ds. IfOk c.bodies_among.result (λ bodies. AreBodiesOf c.args.names.now (text_of c.args.program.now) (functions_in ds) bodies.flow bodies.sections.items))
     c.as_slice-definitions.ensures
     (c.bodies_among.ensures (text_of c.args.program.now) (ap known_of (c.in_ok-known.ensures ∙ c.as_slice-definitions.ensures)))

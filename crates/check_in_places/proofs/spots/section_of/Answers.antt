@@ -12,6 +12,6 @@ returns c = λ names. record {
   all = subst {A = List CheckIn} (λ list. IsPermutation list (map shown c.sort_by_key.new.self.items)) (c.in_ok-spots.ensures.shown names)
       (IsPermutation-map shown _ _ c.in_ok-sort_by_key.ensures.permutation);
   ascending = IsNonDecreasingBy-from_sort_by_key (λ spot. spot.at) _ c.in_ok-sort_by_key.ensures.sorted (λ a r q k. search rules);
-  spots = All-permutation (IsSpotOf c.args.first c.args.size) _ _ c.in_ok-sort_by_key.ensures.permutation c.in_ok-spots.ensures.spots;
+  spots = All-permutation (IsSpotOf c.args.first) _ _ c.in_ok-sort_by_key.ensures.permutation c.in_ok-spots.ensures.spots;
   counted = All-permutation (IsCounted (meant names c.args.skeleton.now)) _ _ c.in_ok-sort_by_key.ensures.permutation (c.in_ok-spots.ensures.counted names);
 }

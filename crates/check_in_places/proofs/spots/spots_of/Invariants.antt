@@ -9,5 +9,5 @@ use Rattle.check_in_places.proofs.spots.spots_of.Given as goal
 abbrev pub invariant-loop-number : goal.invariant-loop-number
 invariant-loop-number l =
     ((names : List (List ℕ)) → map shown l.spots.items ≡ check_ins_below (meant names l.skeleton) l.places l.number)
-    × All (IsSpotOf l.first l.size) l.spots.items
+    × All (IsSpotOf l.first) l.spots.items
     × ((names : List (List ℕ)) → All (IsCounted (meant names l.skeleton)) l.spots.items)

@@ -1,5 +1,5 @@
 use Rattle.dsu_commands.specs.Calls.{output_of}
-use Rattle.dsu_commands.proofs.Reporting.{cannot_happen, ended, never_misused, out_of_memory, sink_failed}
+use Rattle.dsu_commands.proofs.Reporting.{cannot_happen, ended, never_misused, never_undefined, out_of_memory, sink_failed}
 use Rattle.dsu_commands.proofs.finish.report_run.Goals as goal
 
 pub returns-in-Ended : goal.returns-in-Ended
@@ -46,3 +46,10 @@ returns-in-Misused g c = λ plan setup engine accepted by given installed hands.
     absurd (never_misused plan setup (e.is_at setup) e.told e.faults engine c.args.ran.now c.rules_exist.ensures c.journal_is_a_run.ensures
     c.accepted_runs_are_version_consistent.ensures c.mains_result_is_an_int.ensures c.deadlocked_threads_wait.ensures accepted by
     c.in-Misused.line c.in-Misused.is)
+
+pub returns-in-UndefinedName : goal.returns-in-UndefinedName
+returns-in-UndefinedName g c = λ plan setup engine accepted by given installed hands.
+    let e = g.T.Engine in
+    absurd (never_undefined plan setup (e.is_at setup) e.told e.faults engine c.args.ran.now c.rules_exist.ensures c.journal_is_a_run.ensures
+    c.accepted_runs_are_version_consistent.ensures c.mains_result_is_an_int.ensures c.deadlocked_threads_wait.ensures accepted by
+    c.in-UndefinedName.line c.in-UndefinedName.is)

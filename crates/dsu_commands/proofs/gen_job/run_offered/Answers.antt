@@ -5,6 +5,7 @@ use Rattle.accepted_runs.specs.AcceptedRuns.{TextsAreAccepted}
 use Rattle.program_gen.specs.Generated.{offer_text}
 use Rattle.dsu_runs.specs.Setups.{setup_of}
 use Rattle.source_model.specs.Guards.{first_guard}
+use Rattle.run_machine.specs.Sources.{source_shown}
 use Rattle.plain_engine.specs.Plain.{IsAt}
 use Rattle.dsu_commands.specs.Generated.{generated_setup}
 use Rattle.dsu_commands.proofs.Summing.{only_offer_is_accepted}
@@ -20,10 +21,10 @@ returns-in-Ok g c = λ next is.
     (only_offer_is_accepted c.texts_of_programs_are_accepted.ensures a.program offer.next c.requires.accepted
     (offer_text a.seed a.size) (a.size / 2) 4096 offer.known))
     (subst {A = List Program}
-    (λ ps. IsAt (setup_of a.program ps (a.size / 2 ∷ []) 4096) (first_guard (setup_of a.program ps (a.size / 2 ∷ []) 4096)) e.state e.printed e.written)
+    (λ ps. IsAt source_shown (setup_of a.program ps (a.size / 2 ∷ []) 4096) (first_guard (setup_of a.program ps (a.size / 2 ∷ []) 4096)) e.state e.printed e.written)
     is
     (subst {A = List ℕ}
-    (λ ns. IsAt (setup_of a.program a.offers.programs.items ns 4096) (first_guard (setup_of a.program a.offers.programs.items ns 4096))
+    (λ ns. IsAt source_shown (setup_of a.program a.offers.programs.items ns 4096) (first_guard (setup_of a.program a.offers.programs.items ns 4096))
     e.state e.printed e.written)
     offer.counts c.in-Ok.ensures.start))
     (c.deref.ensures.value ∙ offer.texts)

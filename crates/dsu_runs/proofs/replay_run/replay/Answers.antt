@@ -6,7 +6,7 @@ use Rattle.dsu_runs.specs.Replays.{Replayed}
 use Rattle.dsu_runs.specs.Turns.{history_after}
 use Rattle.dsu_runs.proofs.Coming.{Tries}
 use Rattle.dsu_runs.proofs.Happening.{any_are_rows, any_rules}
-use Rattle.dsu_runs.proofs.Replaying.{failed, finished, lacks, line_there, misused, no_room, one_more, refused, starts}
+use Rattle.dsu_runs.proofs.Replaying.{failed, finished, lacks, line_there, misused, no_room, one_more, refused, starts, undefined}
 use Rattle.dsu_runs.proofs.replay_run.replay.Goals as goal
 
 pub returns-in_default : goal.returns-in_default
@@ -137,6 +137,26 @@ returns-in-Misused g c = λ setup start.
     subst (Replayed setup (e.is_at setup) e.told e.faults c.args.engine lines) (sym c.stop-in-Misused.ensures)
     (misused setup (e.is_at setup) e.told e.faults c.args.engine lines n old new line c.make.result
     (c.loop-line.invariant.made setup start) (line_there lines n c.loop-line-test.true) tries c.in-Misused.is)
+
+pub returns-in-UndefinedName : goal.returns-in-UndefinedName
+returns-in-UndefinedName g c = λ setup start.
+    let e = g.E.Engine in
+    let m = c.make.ensures in
+    let lines = c.args.events.now in
+    let n = c.loop-line.line-index in
+    let old = c.loop-line.running in
+    let new = c.make.new.self in
+    let line = slice_index_or lines n (0, Move 0) in
+    let tries : Tries setup (e.is_at setup) e.told e.faults old new line.1 c.make.result = record {
+      made = λ x there. m.made setup x there;
+      history = m.history;
+      later = m.later;
+      cause = m.cause;
+      moves = m.moves;
+    } in
+    subst (Replayed setup (e.is_at setup) e.told e.faults c.args.engine lines) (sym c.stop-in-UndefinedName.ensures)
+    (undefined setup (e.is_at setup) e.told e.faults c.args.engine lines n old new line c.make.result
+    (c.loop-line.invariant.made setup start) (line_there lines n c.loop-line-test.true) tries c.in-UndefinedName.is)
 
 pub returns : goal.returns
 returns g c = λ setup start.

@@ -39,6 +39,9 @@ returns-in-Decide-clause-made g c = λ setup x at.
 pub returns-in-Decide-clause-decides : goal.returns-in-Decide-clause-decides
 returns-in-Decide-clause-decides g c = λ is. (c.in-Decide.k, c.in-Decide.is)
 
+pub returns-in-Decide-clause-offers : goal.returns-in-Decide-clause-offers
+returns-in-Decide-clause-offers g c = λ is. (c.in-Decide.k, c.in-Decide.is)
+
 pub returns-in-Withdraw-clause-made : goal.returns-in-Withdraw-clause-made
 returns-in-Withdraw-clause-made g c = λ setup x at.
     let e = g.E.Engine in

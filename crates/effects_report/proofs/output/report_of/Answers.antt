@@ -6,20 +6,20 @@ use Rattle.c_tree.specs.declared.def.Def.{Def}
 use Rattle.c_semantics.specs.SourceTexts.{text_of}
 use Rattle.c_semantics.specs.Texts.{definition, names}
 use Rattle.check_in_places.specs.CheckIns.{functions}
+use Rattle.brought_bodies.proofs.FewNames.{few_names}
 use Rattle.effects_report.proofs.Assembled.{report_is, report_ready}
-use Rattle.effects_report.proofs.FewNames.{few_names}
 use Rattle.effects_report.proofs.output.report_of.Goals as goal
 
 pub returns-clause-blocks : goal.returns-clause-blocks
 returns-clause-blocks c =
     let bodies = c.in_ok-bodies.bodies in
-    report_is c.args.program.now c.in_ok-names.names (length c.args.text.now) bodies.flow bodies.sections.items c.in_ok-effects.effects
+    report_is c.args.program.now c.in_ok-names.names bodies.flow bodies.sections.items c.in_ok-effects.effects
     c.in_ok-names.ensures c.in_ok-bodies.ensures c.in_ok-effects.ensures.effects
 
 pub returns-clause-ready : goal.returns-clause-ready
 returns-clause-ready c =
     let bodies = c.in_ok-bodies.bodies in
-    report_ready c.in_ok-names.names (definition (text_of c.args.program.now).definitions) (length c.args.text.now) (functions c.args.program.now)
+    report_ready c.in_ok-names.names (definition (text_of c.args.program.now).definitions) (functions c.args.program.now)
     bodies.sections.items 0 c.in_ok-bodies.ensures.sections
 
 pub names_of-requires : goal.names_of-requires

@@ -6,7 +6,7 @@ use Rattle.plain_engine.proofs.Standing.{of_run}
 use Rattle.plain_engine.proofs.moves.moved.Goals as goal
 
 pub returns-then-not-is_live : goal.returns-then-not-is_live
-returns-then-not-is_live c = λ texts limits moves w run reached.
+returns-then-not-is_live g c = λ texts limits moves w run reached.
     let slot = c.args.slot in
     moved_dead (in_slot w slot) c.args.leads c.args.seat c.empty.result
     (of_run (λ x. is_live (in_slot x.world slot)) texts limits moves w c.is_live.result reached (c.is_live.ensures texts limits moves run)
@@ -14,7 +14,7 @@ returns-then-not-is_live c = λ texts limits moves w run reached.
     c.empty.ensures
 
 pub returns : goal.returns
-returns c = λ texts limits moves w run reached.
+returns g c = λ texts limits moves w run reached.
     let slot = c.args.slot in
     moved_on (in_slot w slot) c.args.leads c.stays_pinned.result c.args.seat
     (of_run (λ x. is_live (in_slot x.world slot)) texts limits moves w c.is_live.result reached (c.is_live.ensures texts limits moves run)

@@ -11,10 +11,11 @@ use Rattle.plain_engine.proofs.Starting.{first_slots}
 use Rattle.plain_engine.proofs.state.first_seats.Goals as goal
 
 pub returns : goal.returns
-returns c = λ setup slots at.
-    first_slots setup c.args.run.now c.entering.result _ slots
-    (sym (asked setup (first_guard setup) c.args.run.now at (λ x. entering_in (in_slot x.world 0)) _
+returns g c = λ setup slots at.
+    let run = g.M.Machine.shown c.args.run.now in
+    first_slots setup run c.entering.result _ slots
+    (sym (asked setup (first_guard setup) run at (λ x. entering_in (in_slot x.world 0)) _
     (c.entering.ensures (texts_of setup) setup.limits at.moves at.run
-    (given setup (first_guard setup) c.args.run.now at (λ x. is_over x.world) false refl))))
+    (given setup (first_guard setup) run at (λ x. is_over x.world) false refl))))
     (ap (λ (s : Seat). s ∷ replicate 15 c.empty-seats.result) c.started.ensures
     ∙ ap (λ (s : Seat). started c.entering.result ∷ replicate 15 s) c.empty-seats.ensures)

@@ -15,4 +15,4 @@ returns c =
     IsPartitionPoint-from_clause (λ start. leb start at) starts c.partition_point.result c.partition_point.ensures.partitioned parted
     (λ a r q k. search rules)
     in
-    point_is_line text starts at c.partition_point.result all c.requires c.partition_point.ensures.bound point
+    point_is_line text starts at c.partition_point.result all c.partition_point.ensures.bound point

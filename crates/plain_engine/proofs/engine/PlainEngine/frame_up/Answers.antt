@@ -7,7 +7,7 @@ use Rattle.plain_engine.proofs.engine.PlainEngine.frame_up.Goals as goal
 
 pub returns : goal.returns
 returns g c = λ setup x at going.
-    let run = c.args.self.now.state.run in
+    let run = g.M.Machine.shown c.args.self.now.state.run in
     sym (asked setup x run at.state.run (λ r. place_up_in c.args.up (in_slot r.world c.args.slot)) _
     (c.frame_up.ensures (texts_of setup) setup.limits at.state.run.moves at.state.run.run
     (given setup x run at.state.run (λ r. is_over r.world) _ going)))

@@ -6,4 +6,4 @@ use Rattle.plain_engine.proofs.engine.PlainEngine.text.Goals as goal
 
 pub returns : goal.returns
 returns g c = λ setup x at.
-    ap (option_map text_of) c.text.ensures ∙ text_at setup x c.args.self.now.state.run c.args.number at.state.run
+    ap (option_map text_of) c.text.ensures ∙ text_at setup x (g.M.Machine.shown c.args.self.now.state.run) c.args.number at.state.run

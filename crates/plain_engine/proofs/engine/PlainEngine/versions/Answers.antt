@@ -1,12 +1,13 @@
 use Rattle.std.proofs.Common.{◌∙◌, ap, sym}
 use Rattle.std.specs.Prelude.{option_copied}
 use Rattle.std.proofs.lemmas.Option.{none-some}
+use Rattle.plain_engine.specs.Plain.{state_shown}
 use Rattle.plain_engine.proofs.Querying.{last_is}
 use Rattle.plain_engine.proofs.engine.PlainEngine.versions.Goals as goal
 
 pub returns-in-Some : goal.returns-in-Some
 returns-in-Some g c = λ setup x at.
-    let s = c.args.self.now.state in
+    let s = state_shown g.M.Machine.shown c.args.self.now.state in
     let are = at.state.versions in
     c.versions.ensures.versions x.versions are.before are.installed
     (last_is x s.run s.installed s.last c.in-Some.last.now are (sym (ap option_copied c.in-Some.is) ∙ c.text.ensures))

@@ -1,43 +1,45 @@
-use Rattle.std.proofs.Common.{◌<◌, arith, length, sym}
+use Rattle.std.proofs.Common.{◌<◌, arith, length, subst, sym}
 use Rattle.std.specs.Prelude.{◌^◌}
 use Rattle.source_model.specs.JournalLaws.{texts_of}
-use Rattle.plain_engine.proofs.Printing.{lines_after, long_enough, none_missing, wrote_all, wrote_partly}
-use Rattle.plain_engine.proofs.Standing.{asked}
+use Rattle.plain_engine.specs.Plain.{state_shown}
+use Rattle.plain_engine.proofs.Moving.{unmoved}
+use Rattle.plain_engine.proofs.Printing.{all_printed, lines_after, long_enough, wrote_all, wrote_partly}
 use Rattle.plain_engine.proofs.engine.PlainEngine.write.Goals as goal
 
-pub returns-then-output-self-clause-wrote : goal.returns-then-output-self-clause-wrote
-returns-then-output-self-clause-wrote g c = λ setup x at within.
-    let e = c.args.self.now in
-    absurd (none_missing c.output-output.result.now x.world.output e.printed
-    (sym (asked setup x e.state.run at (λ r. r.output) c.output-output.result.now (c.output-output.ensures (texts_of setup) setup.limits at.moves at.run)))
-    within c.if-output-self.true)
-
-pub returns-then-output-self-clause-lines : goal.returns-then-output-self-clause-lines
-returns-then-output-self-clause-lines g c = λ before more setup x at whole from had done.
-    let e = c.args.self.now in
-    absurd (none_missing c.output-output.result.now x.world.output e.printed
-    (sym (asked setup x e.state.run at (λ r. r.output) c.output-output.result.now (c.output-output.ensures (texts_of setup) setup.limits at.moves at.run)))
-    (long_enough before more x.world.output e.printed whole from) c.if-output-self.true)
-
 pub returns-in-Ok-clause-wrote : goal.returns-in-Ok-clause-wrote
-returns-in-Ok-clause-wrote g c = λ setup x at within.
+returns-in-Ok-clause-wrote g c = λ setup x at kept within.
     let e = c.args.self.now in
-    wrote_all (g.S.Sink.told e.sink) (g.S.Sink.told c.put.new.sink) c.output-output.result.now x.world.output e.printed
-    (sym (asked setup x e.state.run at (λ r. r.output) c.output-output.result.now (c.output-output.ensures (texts_of setup) setup.limits at.moves at.run)))
-    c.in-Ok.ensures.bytes
+    let piece = c.output_from-piece.result.now in
+    let rest = c.output_from-piece.ensures.rest (texts_of setup) setup.limits at.moves x.world at.run at.world kept within in
+    let small = c.output_from-piece.ensures.fits (texts_of setup) setup.limits at.moves x.world at.run at.world in
+    wrote_all (g.S.Sink.told e.sink) (g.S.Sink.told c.put.new.sink) piece x.world.output e.printed c.sum-self-in-Ok.result rest
+    (all_printed piece x.world.output e.printed c.sum-self-in-Ok.result rest within c.sum-self-in-Ok.ensures small) c.in-Ok.ensures.bytes
 
 pub returns-in-Ok-clause-lines : goal.returns-in-Ok-clause-lines
-returns-in-Ok-clause-lines g c = λ before more setup x at whole from had done.
+returns-in-Ok-clause-lines g c = λ before more setup x at kept whole from had done.
     let e = c.args.self.now in
-    let seen = c.output-output.result.now in
-    let small : length seen < 2 ^ 64 = omega arith in
-    lines_after before more seen x.world.output e.printed e.written c.lines_in.result c.sum-self.result
-    (sym (asked setup x e.state.run at (λ r. r.output) seen (c.output-output.ensures (texts_of setup) setup.limits at.moves at.run)))
-    whole from had c.lines_in.ensures c.sum-self.ensures small
+    let within = long_enough before more x.world.output e.printed whole from in
+    lines_after before more c.output_from-piece.result.now x.world.output e.printed e.written c.lines_in.result c.sum-self.result
+    (c.output_from-piece.ensures.rest (texts_of setup) setup.limits at.moves x.world at.run at.world kept within) whole from had c.lines_in.ensures
+    c.sum-self.ensures (c.output_from-piece.ensures.fits (texts_of setup) setup.limits at.moves x.world at.run at.world)
+
+pub returns-in-Ok-clause-stays : goal.returns-in-Ok-clause-stays
+returns-in-Ok-clause-stays g c = λ setup x at.
+    unmoved setup x (state_shown g.M.Machine.shown c.args.self.now.state) at (g.M.Machine.shown c.forget.new.self) c.forget.ensures.same
+    (c.forget.ensures.run (texts_of setup) setup.limits at.run.moves at.run.run)
+
+pub returns-in-Ok-clause-kept : goal.returns-in-Ok-clause-kept
+returns-in-Ok-clause-kept g c = λ setup x at kept within done.
+    let e = c.args.self.now in
+    let piece = c.output_from-piece.result.now in
+    let rest = c.output_from-piece.ensures.rest (texts_of setup) setup.limits at.moves x.world at.run at.world kept within in
+    let small = c.output_from-piece.ensures.fits (texts_of setup) setup.limits at.moves x.world at.run at.world in
+    let all = all_printed piece x.world.output e.printed c.sum-self-in-Ok.result rest within c.sum-self-in-Ok.ensures small in
+    let most = c.forget.ensures.kept (texts_of setup) setup.limits at.moves x.world at.run at.world (omega (arith, kept, within)) in
+    omega (arith, all, most)
 
 pub returns-in-Err-clause-wrote : goal.returns-in-Err-clause-wrote
-returns-in-Err-clause-wrote g c = λ setup x at within.
+returns-in-Err-clause-wrote g c = λ setup x at kept within.
     let e = c.args.self.now in
-    wrote_partly (g.S.Sink.told e.sink) (g.S.Sink.told c.put.new.sink) c.output-output.result.now x.world.output e.printed e.printed
-    (sym (asked setup x e.state.run at (λ r. r.output) c.output-output.result.now (c.output-output.ensures (texts_of setup) setup.limits at.moves at.run)))
-    c.in-Err.ensures.bytes
+    wrote_partly (g.S.Sink.told e.sink) (g.S.Sink.told c.put.new.sink) c.output_from-piece.result.now x.world.output e.printed e.printed
+    (c.output_from-piece.ensures.rest (texts_of setup) setup.limits at.moves x.world at.run at.world kept within) c.in-Err.ensures.bytes

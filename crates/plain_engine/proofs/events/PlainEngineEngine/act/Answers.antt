@@ -1,5 +1,6 @@
-use Rattle.std.proofs.Common.{subst}
+use Rattle.std.proofs.Common.{◌≤◌, subst, sym}
 use Rattle.run_types.specs.declared.run.Event.TheVariants.{Move}
+use Rattle.plain_engine.specs.Plain.{state_shown}
 use Rattle.plain_engine.specs.Steps.{MovesTo}
 use Rattle.plain_engine.proofs.Engines.{moves, refuses, within}
 use Rattle.plain_engine.proofs.events.PlainEngineEngine.act.Goals as goal
@@ -8,17 +9,23 @@ pub returns-then-not-moved-clause-made : goal.returns-then-not-moved-clause-made
 returns-then-not-moved-clause-made g c = λ setup x at.
     let e = c.args.self.now in
     let slot = c.args.slot in
-    refuses setup (Move slot) x e.state c.make.new.self e.printed e.written (g.S.Sink.told e.sink) at
-    (subst (MovesTo setup (Move slot) x c.make.new.self) c.if-not-moved.true (c.in_ok-moved.ensures setup x at.state))
+    let new = state_shown g.M.Machine.shown c.make.new.self in
+    refuses setup (Move slot) x (state_shown g.M.Machine.shown e.state) new e.printed e.written (g.S.Sink.told e.sink) at
+    (subst (MovesTo setup (Move slot) x new) c.if-not-moved.true (c.in_ok-moved.ensures.made setup x at.state)) c.make.ensures.kept
 
 pub returns-clause-made : goal.returns-clause-made
 returns-clause-made g c = λ setup x at.
     let e = c.args.self.now in
     let slot = c.args.slot in
-    let mid = c.make.new.self in
+    let old = state_shown g.M.Machine.shown e.state in
+    let mid = state_shown g.M.Machine.shown c.make.new.self in
     let last = c.write.new.self in
-    let h = subst (MovesTo setup (Move slot) x mid) c.if-not-moved.false (c.in_ok-moved.ensures setup x at.state) in
-    moves setup (Move slot) x e.state mid last.state e.printed e.written last.printed last.written (g.S.Sink.told e.sink)
-    (g.S.Sink.told last.sink) h.0 c.write.result at h.1 c.write.ensures.same
-    (c.write.ensures.wrote setup h.1.after h.1.there.run (within setup (Move slot) x e.state mid e.printed e.written h.0 at h.1))
-    (c.write.ensures.lines x.world.output h.0 setup h.1.after h.1.there.run h.1.grew at.printed at.written)
+    let h = subst (MovesTo setup (Move slot) x mid) c.if-not-moved.false (c.in_ok-moved.ensures.made setup x at.state) in
+    let kept = subst (λ n. n ≤ e.printed) (sym c.make.ensures.kept) at.kept in
+    let room = within setup (Move slot) x old mid e.printed e.written h.0 at h.1 in
+    moves setup (Move slot) x old mid (state_shown g.M.Machine.shown last.state) e.printed e.written last.printed last.written
+    (g.S.Sink.told e.sink) (g.S.Sink.told last.sink) h.0 c.write.result at h.1
+    (c.write.ensures.stays setup h.1.after h.1.there)
+    (c.write.ensures.kept setup h.1.after h.1.there.run kept room)
+    (c.write.ensures.wrote setup h.1.after h.1.there.run kept room)
+    (c.write.ensures.lines x.world.output h.0 setup h.1.after h.1.there.run kept h.1.grew at.printed at.written)

@@ -1,7 +1,7 @@
 use Rattle.std.proofs.Common.{sym, subst}
 use Rattle.run_types.specs.declared.run.Event.TheVariants.{CheckIn}
 use Rattle.dsu_runs.specs.Engines.{MakesAt}
-use Rattle.plain_engine.specs.Plain.{IsAt}
+use Rattle.plain_engine.specs.Plain.{IsEngineAt, state_shown}
 use Rattle.plain_engine.proofs.Engines.{comes, is_written}
 use Rattle.plain_engine.proofs.events.PlainEngineEngine.check_in.Goals as goal
 
@@ -9,8 +9,10 @@ pub returns-clause-made : goal.returns-clause-made
 returns-clause-made g c = λ setup x at.
     let e = c.args.self.now in
     let told = g.S.Sink.told e.sink in
-    subst (MakesAt (λ y. IsAt setup y c.pass.new.self e.printed e.written) setup (CheckIn c.args.slot) x told told) (sym c.made.ensures)
-    (comes setup (CheckIn c.args.slot) x e.state c.pass.new.self e.printed e.written told c.pass.result at (c.pass.ensures setup x at.state))
+    let new = state_shown g.M.Machine.shown c.pass.new.self in
+    subst (MakesAt (λ y. IsEngineAt setup y new e.printed e.written) setup (CheckIn c.args.slot) x told told) (sym c.made.ensures)
+    (comes setup (CheckIn c.args.slot) x (state_shown g.M.Machine.shown e.state) new e.printed e.written told c.pass.result at
+    (c.pass.ensures.made setup x at.state) c.pass.ensures.kept)
 
 pub returns-clause-written : goal.returns-clause-written
 returns-clause-written g c = is_written c.pass.result c.made.result c.made.ensures

@@ -4,5 +4,5 @@ use Rattle.plain_engine.proofs.events.PlainEngineEngine.finish.Goals as goal
 
 pub returns : goal.returns
 returns g c = λ setup x at.
-    ended_so setup x c.args.self.now.state.run c.ending.result at.state.run
+    ended_so setup x (g.M.Machine.shown c.args.self.now.state.run) c.ending.result at.state.run
     (c.ending.ensures (texts_of setup) setup.limits at.state.run.moves at.state.run.run)

@@ -11,10 +11,10 @@ returns-then-is_over g c = λ setup x at.
 
 pub returns : goal.returns
 returns g c = λ setup x at.
-    let e = c.args.self.now in
+    let run = g.M.Machine.shown c.args.self.now.state.run in
     let going = sym (c.is_over.ensures setup x at.state.run) ∙ c.if-is_over.false in
     c.waiting.ensures
-    ∙ sym (asked setup x e.state.run at.state.run (λ r. waits_for r.world c.args.slot) _
+    ∙ sym (asked setup x run at.state.run (λ r. waits_for r.world c.args.slot) _
     (c.waits.ensures (texts_of setup) setup.limits at.state.run.moves at.state.run.run
-    (given setup x e.state.run at.state.run (λ r. is_over r.world) _ going)))
+    (given setup x run at.state.run (λ r. is_over r.world) _ going)))
     ∙ waits_then x.world c.args.slot going

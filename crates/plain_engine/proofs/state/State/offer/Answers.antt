@@ -4,13 +4,12 @@ use Rattle.std.proofs.lemmas.Bool.{true≢false}
 use Rattle.source_model.specs.Guards.{Guard, Setup, can_open, has_ended}
 use Rattle.run_types.specs.declared.run.Event.TheVariants.{Offer}
 use Rattle.dsu_runs.specs.Books.{Entries, IsBook}
-use Rattle.plain_engine.specs.declared.state.State.{State}
-use Rattle.plain_engine.specs.Plain.{IsStateAt}
+use Rattle.plain_engine.specs.Plain.{IsStateAt, ShownState, state_shown}
 use Rattle.plain_engine.specs.Steps.{ComesTo}
 use Rattle.plain_engine.proofs.QuietEvents.{offers_none, offers_one}
 use Rattle.plain_engine.proofs.state.State.offer.Goals as goal
 
-by : (setup : Setup) (g : Guard) (k : _) (s : State) (book : Entries) (done : Bool) → IsStateAt setup g s → has_ended g ≡ false
+by : (setup : Setup) (g : Guard) (k : _) (s : ShownState) (book : Entries) (done : Bool) → IsStateAt setup g s → has_ended g ≡ false
     → done ≡ can_open setup g k
     → IsBook setup (if done then record g { open_offer = Some k; greatest = k } else g) s.installed.names book
     → ComesTo setup (Offer k) g (record s { book = book }) done
@@ -19,14 +18,14 @@ by setup g k s book false at going can is =
     let none = offers_none setup g k (record s { book = book })
     (record { run = at.run; seats = at.seats; versions = at.versions; book = is }) (λ on. sym can) in none
 
-pub returns-then-has_ended : goal.returns-then-has_ended
-returns-then-has_ended c = λ setup g at lines.
-    offers_none setup g c.args.k c.args.self.now at
-    (λ going. absurd (true≢false (sym c.if-has_ended.true ∙ c.has_ended.ensures setup g at.run ∙ going)))
+pub returns-then-has_ended-clause-made : goal.returns-then-has_ended-clause-made
+returns-then-has_ended-clause-made g c = λ setup x at lines.
+    offers_none setup x c.args.k (state_shown g.M.Machine.shown c.args.self.now) at
+    (λ going. absurd (true≢false (sym c.if-has_ended.true ∙ c.has_ended.ensures setup x at.run ∙ going)))
 
-pub returns : goal.returns
-returns c = λ setup g at lines.
-    let s = c.args.self.now in
-    let made = c.offer.ensures setup g s.installed.names at.book lines in
-    by setup g c.args.k s c.offer.new.self c.offer.result at (sym (c.has_ended.ensures setup g at.run) ∙ c.if-has_ended.false)
+pub returns-clause-made : goal.returns-clause-made
+returns-clause-made g c = λ setup x at lines.
+    let s = state_shown g.M.Machine.shown c.args.self.now in
+    let made = c.offer.ensures setup x s.installed.names at.book lines in
+    by setup x c.args.k s c.offer.new.self c.offer.result at (sym (c.has_ended.ensures setup x at.run) ∙ c.if-has_ended.false)
     made.0 made.1

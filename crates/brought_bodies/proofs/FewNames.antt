@@ -20,13 +20,13 @@ use Rattle.c_definitions.specs.Lookup.{definition_of, members_of}
 use Rattle.c_expr_types.specs.Faults.{unless}
 use Rattle.c_expr_types.specs.declared.fault.Fault.{Fault}
 use Rattle.c_expr_types.specs.declared.fault.TypeKind.TheVariants.{OverLimit}
-use Rattle.c_types.specs.Statements.{hiding}
 use Rattle.c_expr_types.specs.Expressions.{unknown_tag}
 use Rattle.c_expr_types.specs.Need.{optional_need}
 use Rattle.c_types.specs.Definitions.{Types, all_faults, is_small, is_small_array, kind_faults, many_cells, many_names, max_need, name_added, named_twice, names_of, result_faults}
 use Rattle.c_types.proofs.Counts.{name_taken, names_more, tag_taken}
 use Rattle.c_semantics.specs.Names.{struct_name}
 use Rattle.c_semantics.specs.Texts.{names}
+use Rattle.typed_uses.proofs.Faultless.{none_before, none_after, none_hidden, passes}
 use Rattle.sorted_names.proofs.Order.{among_set, same_sets, set_ascends}
 
 -- ---- a set of names with one name more
@@ -135,32 +135,12 @@ few_in_set (d ∷ ds) = by d.kind (few_in_set ds)
 
 -- ---- and these are few where there is no fault
 
-none_before : {A : Type 0} (xs ys : List A) → xs ++ ys ≡ [] → xs ≡ []
-none_before [] ys e = refl
-none_before (x ∷ xs) ys e = cc
-
-none_after : {A : Type 0} (xs ys : List A) → xs ++ ys ≡ [] → ys ≡ []
-none_after [] ys e = e
-none_after (x ∷ xs) ys e = cc
-
-none_of_parts : (parts whole : List Fault) → hiding parts whole ≡ [] → parts ≡ []
-none_of_parts [] whole e = refl
-none_of_parts (f ∷ more) whole e = cc
-
-none_of_whole : (parts whole : List Fault) → hiding parts whole ≡ [] → whole ≡ []
-none_of_whole [] whole e = e
-none_of_whole (f ∷ more) whole e = cc
-
-passes : (test : Bool) (place : ℕ) → unless test OverLimit place ≡ [] → test ≡ true
-passes true place e = refl
-passes false place e = cc
-
 at_most : (m n : ℕ) → nat_le m n ≡ true → m ≤ n
 at_most m n e = grind (arith, nat_tests, e)
 
 module _ (text before : List Def) (d : Def) where
   counted : many_names before d ≡ [] → names_of (before ++ d ∷ []) ≤ most_names
-  counted e = at_most (names_of (before ++ d ∷ [])) most_names (passes (nat_le (names_of (before ++ d ∷ [])) most_names) d.place e)
+  counted e = at_most (names_of (before ++ d ∷ [])) most_names (passes (nat_le (names_of (before ++ d ∷ [])) most_names) OverLimit d.place e)
 
   -- a definition of another kind adds no name
   uncounted : names_of before ≤ most_names → name_added before d.kind ≡ 0 → names_of (before ++ d ∷ []) ≤ most_names
@@ -168,24 +148,24 @@ module _ (text before : List Def) (d : Def) where
 
   next : (made : DefKind) → d.kind ≡ made → names_of before ≤ most_names → kind_faults text before d made ≡ []
       → names_of (before ++ d ∷ []) ≤ most_names
-  next (kind.Struct tag members) is few e = counted (none_after _ _ (none_after _ _ (none_of_whole _ _ e)))
+  next (kind.Struct tag members) is few e = counted (none_after _ _ (none_after _ _ (none_hidden _ _ e).1))
   next (kind.Forward tag) is few e = uncounted few (ap (name_added before) is)
   next (kind.Mutex name) is few e = counted (none_after _ _ e)
   next (kind.Function f) is few e =
       counted
       (none_after (unless (is_small f) OverLimit d.place) _
-      (none_after (named_twice before f.name) _ (none_after (result_faults text f.result) _ (none_of_whole _ _ e))))
+      (none_after (named_twice before f.name) _ (none_after (result_faults text f.result) _ (none_hidden _ _ e).1)))
   next (kind.Prototype p) is few e = uncounted few (ap (name_added before) is)
   next (kind.Global v) is few e =
       counted
       (none_before (many_names before d) (many_cells before d)
       (none_after (unless (nat_le (optional_need v.initial) max_need) OverLimit d.place) _
-      (none_after (named_twice before v.name) _ (none_after (unknown_tag text v.declared) _ (none_of_whole _ _ e)))))
+      (none_after (named_twice before v.name) _ (none_after (unknown_tag text v.declared) _ (none_hidden _ _ e).1))))
   next (kind.Array a) is few e =
       counted
       (none_before (many_names before d) (many_cells before d)
       (none_after (unless (is_small_array a) OverLimit d.place) _
-      (none_after (named_twice before a.name) _ (none_after (unknown_tag text a.element) _ (none_of_whole _ _ e)))))
+      (none_after (named_twice before a.name) _ (none_after (unknown_tag text a.element) _ (none_hidden _ _ e).1))))
   next (kind.TransformStruct t) is few e = uncounted few (ap (name_added before) is)
   next (kind.TransformGlobal name value) is few e = uncounted few (ap (name_added before) is)
 
@@ -201,5 +181,5 @@ within_limit text before (d ∷ ds) few e =
 pub few_names : (p : Program) → Types p → length (name_set (names (map bare_def p.definitions))) ≤ most_names
 few_names p types =
     let all = few_in_set p.definitions in
-    let few = within_limit p.definitions [] p.definitions (omega arith) (none_of_parts _ _ types) in
+    let few = within_limit p.definitions [] p.definitions (omega arith) (none_hidden _ _ types).0 in
     omega (arith, all, few)

@@ -1,0 +1,90 @@
+//! The source machine as a machine.
+use crate::Machine;
+use c_types::Typed;
+use resolved_tree::Word;
+use run_types::Ending;
+use source_runner::{FrameAt, SourceMove, SourceRun, SourceWait, Stepped};
+use std::alloc::AllocError;
+use type_transformers::Change;
+
+impl Machine for SourceRun {
+    ghost use Rattle.run_machine.specs.Sources.{source_shown};
+
+    ghost shown = { source_shown };
+
+    fn step(&mut self, m: SourceMove) -> Result<Stepped, AllocError> {
+        self.step(m)
+    }
+
+    fn install(&mut self, number: usize, changes: &[Change]) -> Result<Stepped, AllocError> {
+        self.install(number, changes)
+    }
+
+    fn output_from(&self, from: usize) -> &[u8] {
+        let output = self.output();
+        // An output never shrinks.
+        if output.len() < from {
+            return output;
+        }
+        &output[from..]
+    }
+
+    // The source machine keeps all that was printed.
+    fn forget(&mut self) {}
+
+    fn misused(&self) -> bool {
+        self.misused()
+    }
+
+    fn threads(&self) -> usize {
+        self.threads()
+    }
+
+    fn ending(&self) -> Option<Ending> {
+        self.ending()
+    }
+
+    fn is_live(&self, slot: u8) -> bool {
+        self.is_live(slot)
+    }
+
+    fn can_move(&self, slot: u8) -> bool {
+        self.can_move(slot)
+    }
+
+    fn leads(&self, slot: u8) -> bool {
+        self.leads(slot)
+    }
+
+    fn waits(&self, slot: u8) -> Option<SourceWait<'_>> {
+        self.waits(slot)
+    }
+
+    fn text(&self, number: usize) -> Option<&Typed> {
+        self.text(number)
+    }
+
+    fn word(&self, word: Word) -> &str {
+        self.word(word)
+    }
+
+    fn in_transaction(&self, slot: u8) -> bool {
+        self.in_transaction(slot)
+    }
+
+    fn frame(&self, slot: u8) -> Option<FrameAt> {
+        self.frame(slot)
+    }
+
+    fn frame_up(&self, slot: u8, up: usize) -> Option<FrameAt> {
+        self.frame_up(slot, up)
+    }
+
+    fn next_point(&self, slot: u8) -> Option<u32> {
+        self.next_point(slot)
+    }
+
+    fn entering(&self, slot: u8) -> Option<Word> {
+        self.entering(slot)
+    }
+}
