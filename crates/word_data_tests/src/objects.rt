@@ -54,7 +54,7 @@ fn a_handle_of_an_ended_object_traps(rt: HostRuntime) {
     let a = created(&mut bench).expect(&rt, "room");
     assert!(rt; bench.goes(SharedStop::Free, &[a], &[0]));
     let b = created(&mut bench).expect(&rt, "room");
-    for h in [a, 1, b + 1, u64::MAX] {
+    for h in [a, 1, b.wrapping_add(1), u64::MAX] {
         assert!(rt; bench.comes(0, SharedStop::ReadField(0), &[h], STALE, &[h]));
         assert!(rt; bench.comes(0, SharedStop::WriteField(0), &[h, 9], STALE, &[h, 9]));
         assert!(rt; bench.comes(0, SharedStop::Free, &[h], STALE, &[h]));
