@@ -16,11 +16,12 @@ use Rattle.code_runs.specs.CodeData.{Data, Names, thread_word}
 use Rattle.code_runs.specs.CodeThreads.{CodeSlot, CodeWorld}
 use Rattle.code_runs.specs.CodeMoves.{going, with_slot}
 use Rattle.code_run_laws.specs.DataMatches.{DataMatches, ObjectsMatch}
-use Rattle.code_run_laws.specs.ThreadMatches.{SlotMatches, SlotsMatch}
+use Rattle.code_run_laws.specs.ThreadMatches.{SlotMatches, SlotsMatch, SlotsStand}
 use Rattle.code_run_laws.specs.WorldMatches.{WorldMatches}
 use Rattle.code_run_laws.proofs.SharedAlike.{MoreNamed}
 use Rattle.code_run_laws.proofs.MoreNames.{no_more_named}
 use Rattle.code_run_laws.proofs.SlotsMatching.{set_matching}
+use Rattle.code_run_laws.proofs.SlotsStanding.{slots_standing}
 use Rattle.code_run_laws.proofs.ThreadWords.{word_positive}
 
 -- ---- parts of a world
@@ -92,6 +93,9 @@ module _ (texts : List (List BareDef)) (names : Names) where
     abbrev tags : List Bytes
     tags = tags_of now.objects
 
+    standing : SlotsStand now.slots own.slots
+    standing = slots_standing texts tags b.names_now now.slots own.slots b.slots
+
     -- another slot is changed, and then that of the thread that moves
     abbrev pub changed : (t : ℕ) (s : Slot) (x : CodeSlot) → SlotMatches texts tags b.names_now s x
         → Between w naming (with_source_slot t s now) (with_slot t x own)
@@ -117,6 +121,7 @@ module _ (texts : List (List BareDef)) (names : Names) where
       shared = b.shared;
       count = b.count;
       slots = λ e. b.slots;
+      standing = standing;
       threads = b.threads;
       finish = b.finish;
       used_well = b.used_well;
@@ -139,16 +144,17 @@ module _ (texts : List (List BareDef)) (names : Names) where
       more = b.more;
     }
 
-    -- the run ends
-    pub ended : (f : Finish) (slots : List Slot) → length slots ≡ length now.slots
+    -- the run ends, and the same threads are in its slots
+    pub ended : (f : Finish) (slots : List Slot) → length slots ≡ length now.slots → (SlotsStand now.slots own.slots → SlotsStand slots own.slots)
         → WorldMatches texts names (record now { slots = slots; finish = Some f }) (record own { finish = Some f })
-    ended f slots e = record {
+    ended f slots e still = record {
       naming = b.names_now;
       threads_named = b.threads_named;
       objects = b.objects;
       shared = still_shared names b.names_now b.objects now own.shared slots now.threads now.closed (Some f) b.shared;
       count = b.count ∙ sym e;
       slots = λ none. absurd (none-some f (sym none));
+      standing = still standing;
       threads = b.threads;
       finish = refl;
       used_well = b.used_well;

@@ -28,9 +28,11 @@ use Rattle.code_kinds.specs.WellFormed.{most_variables}
 use Rattle.code_runs.specs.CodeData.{Names}
 use Rattle.code_runs.specs.CodeThreads.{CodeEnter, CodeFrame, CodeThread, CodeWorld, Live as CodeLive}
 use Rattle.code_runs.specs.CodeMoves.{GoesOn, IsEntered, going, trapped, with_thread}
+use Rattle.code_runs.specs.CodeWaits.{in_slot}
 use Rattle.code_run_laws.specs.MoveLaws.{IsCoded}
-use Rattle.code_run_laws.specs.ThreadMatches.{BelowMatch, EnterMatches, FrameRests}
+use Rattle.code_run_laws.specs.ThreadMatches.{BelowMatch, EnterMatches, FrameRests, SlotStands}
 use Rattle.code_run_laws.specs.WorldMatches.{WorldMatches}
+use Rattle.code_run_laws.proofs.SlotsStanding.{still_standing}
 use Rattle.code_run_laws.proofs.FramesRest.{goes_on_resting}
 use Rattle.code_run_laws.proofs.Between.{Between, begun, changed, done, ended, told_apart}
 use Rattle.code_run_laws.proofs.ThreadAtStop.{KnownLaws, MadeAlike, Running, silent}
@@ -156,8 +158,9 @@ module _ (laws : KnownLaws) (texts : List (List BareDef)) (names : Names) (w : W
 
     -- ---- there is none
 
-    pub overflows_alike : length own_th.below ≡ frame_count → MadeAlike texts names w (enter_with w t e th) (trapped Depth t own) []
-    overflows_alike full =
+    pub overflows_alike : in_slot own t ≡ CodeLive own_th → length own_th.below ≡ frame_count
+        → MadeAlike texts names w (enter_with w t e th) (trapped Depth t own) []
+    overflows_alike there full =
         subst (λ b. MadeAlike texts names w
         (if b then Some (record (with_source_thread t th w) { finish = Some (Trapped Depth t) })
         else Some (with_source_thread t (record th { frames = frame_of w e ∷ th.frames; entering = None }) w))
@@ -169,5 +172,6 @@ module _ (laws : KnownLaws) (texts : List (List BareDef)) (names : Names) (w : W
           is = refl;
           output = silent w.output [] refl;
           matches =
-              ended texts names w naming w own start (Trapped Depth t) (slice_set w.slots t (Live th)) (length-set w.slots t (Live th));
+              ended texts names w naming w own start (Trapped Depth t) (slice_set w.slots t (Live th)) (length-set w.slots t (Live th))
+              (still_standing w.slots own.slots t (Live th) (subst (SlotStands (Live th)) (sym there) (serial, depth)));
         })

@@ -20,7 +20,7 @@ use Rattle.bytecode.specs.Instructions.{Constant}
 use Rattle.tree_code.specs.Code.{body_code}
 use Rattle.tree_code.specs.CodeLaws.{CodeGoesOnAfterStops}
 use Rattle.code_runs.specs.CodeData.{Names}
-use Rattle.code_runs.specs.CodeThreads.{CodeThread, CodeWorld}
+use Rattle.code_runs.specs.CodeThreads.{CodeThread, CodeWorld, Live as CodeLive}
 use Rattle.code_runs.specs.CodeMoves.{Moves}
 use Rattle.code_runs.specs.CodeWaits.{EndsNone, Stays, Waits, WaitsNext, ends_none, none_lives, over, waits}
 use Rattle.code_runs.specs.CodeWaits as code
@@ -85,11 +85,11 @@ module _ (texts : List Text) (names : Names) (w : World) (own : CodeWorld) (s : 
         ∙ ap (λ o. if is_some o then None else move_of w t (in_slot w t)) none ∙ ap (move_of w t) there
 
     lives_moves : LivesAs texts_of (tags_of w.objects) s.matches.naming (in_slot w t) own_th → waits_for w t ≡ None
-        → MovesAlike texts names w t new printed
-    lives_moves l none =
+        → code.in_slot own t ≡ CodeLive own_th → MovesAlike texts names w t new printed
+    lives_moves l none there =
         let is = move_is l.thread l.is none in
         let made =
-        thread_alike laws shared texts_of names w own (running going) (each_coded (length texts_of)) t l.thread own_th l.matches
+        thread_alike laws shared texts_of names w own (running going) (each_coded (length texts_of)) t l.thread own_th there l.matches
         (subst (SlotTyped texts_of (tags_of w.objects)) l.is (slot_at texts_of (tags_of w.objects) w.slots t (s.typed.slots going)))
         waiting (λ after e. uses after (is ∙ e)) new printed moves in
         record { after = made.after; moves = is ∙ made.is; output = made.output; matches = made.matches }
@@ -105,4 +105,4 @@ code_moves_alike laws shared texts names w own t own_th new printed s uses going
     (lives_as (definitions_of texts) (tags_of w.objects) s.matches.naming (in_slot w t) (code.in_slot own t) own_th there
     (slot_matching (definitions_of texts) (tags_of w.objects) s.matches.naming w.slots own.slots t (s.matches.slots on)))
     (code_waits_alike laws.resumed texts names w own t None s going
-    (subst (λ x. Waits (definitions_of texts) names own t x None) (sym there) waiting))
+    (subst (λ x. Waits (definitions_of texts) names own t x None) (sym there) waiting)) there

@@ -21,6 +21,7 @@ pub mod SharedPrints
 pub mod SharedStops
 pub mod FramesStill
 pub mod SlotsMatching
+pub mod SlotsStanding
 pub mod FramesRest
 pub mod Between
 pub mod ThreadAtStop

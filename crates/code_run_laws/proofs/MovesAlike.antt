@@ -24,9 +24,10 @@ use Rattle.bytecode.specs.Meaning.{step, Traps}
 use Rattle.tree_code.specs.Code.{Code}
 use Rattle.tree_code.specs.CodedPieces.{Stops}
 use Rattle.code_runs.specs.CodeData.{Names}
-use Rattle.code_runs.specs.CodeThreads.{CodeEnter, CodeFrame, CodeNext, CodeThread, CodeWorld, Enters, Rests}
+use Rattle.code_runs.specs.CodeThreads.{CodeEnter, CodeFrame, CodeNext, CodeThread, CodeWorld, Enters, Live as CodeLive, Rests}
 use Rattle.code_runs.specs.CodeMoves.{At as CodeAt, Moves, StopMade, code_in, enters, frame_code, overflows, stops, trapped, traps}
 use Rattle.code_runs.specs.CodeWaits.{WaitsNext}
+use Rattle.code_runs.specs.CodeWaits as code_waits
 use Rattle.code_run_laws.specs.MoveLaws.{IsCoded}
 use Rattle.code_run_laws.specs.ThreadMatches.{BelowMatch, EnterMatches, IsSame, NextMatches, RestsSo, ThreadMatches}
 use Rattle.code_run_laws.specs.WorldMatches.{WorldMatches}
@@ -67,8 +68,8 @@ module _ (laws : KnownLaws) (shared : SharedStopsAlike) (texts : List (List Bare
       by true e well = then_do (same_use _ _ (sym (right_by_texts texts w.table r.of.history n name) ∙ e))
       by false e well = absurd (no (well (marked w) refl))
 
-  module _ (t : ℕ) (th : Thread) (own_th : CodeThread) (serial : own_th.serial ≡ th.serial) (depth : own_th.depth ≡ th.depth) (new : CodeWorld)
-      (printed : List ℕ) where
+  module _ (t : ℕ) (th : Thread) (own_th : CodeThread) (serial : own_th.serial ≡ th.serial) (depth : own_th.depth ≡ th.depth)
+      (there : code_waits.in_slot own t ≡ CodeLive own_th) (new : CodeWorld) (printed : List ℕ) where
     -- ---- an enter
 
     -- what an enter of code is due to
@@ -130,7 +131,7 @@ module _ (laws : KnownLaws) (shared : SharedStopsAlike) (texts : List (List Bare
         matches =
             subst (WorldMatches texts names (record w { finish = Some (world.Trapped other t) }))
             (ap (λ k. trapped k t own) (one_trap (step code own_f.state) other kind h e) ∙ sym made)
-            (ended texts names w naming w own (begun texts names w own r.matches r.going) (world.Trapped other t) w.slots refl);
+            (ended texts names w naming w own (begun texts names w own r.matches r.going) (world.Trapped other t) w.slots refl (λ h. h));
       }
       trap_alike Nothing kind h e made none = absurd h
 
@@ -158,6 +159,7 @@ module _ (laws : KnownLaws) (shared : SharedStopsAlike) (texts : List (List Bare
               matches = h.1.1;
               below = below_match;
               below_typed = below_typed;
+              lives = there;
               serial = serial ∙ sym same_serial;
               depth = depth ∙ sym same_depth;
               entering = same_entering ∙ entering;
@@ -194,7 +196,8 @@ module _ (laws : KnownLaws) (shared : SharedStopsAlike) (texts : List (List Bare
 
   -- ---- a thread's move
 
-  module _ (coded : IsCoded (last_text texts)) (t : ℕ) (th : Thread) (own_th : CodeThread) (h : ThreadMatches texts tags naming th own_th)
+  module _ (coded : IsCoded (last_text texts)) (t : ℕ) (th : Thread) (own_th : CodeThread) (there : code_waits.in_slot own t ≡ CodeLive own_th)
+      (h : ThreadMatches texts tags naming th own_th)
       (typed : FramesTyped texts tags th.entering th.frames) (waits : WaitsNext texts names own t own_th.next None)
       (well : IsWell (thread_move w t th th.entering)) where
     abbrev Next : CodeNext → Type 0
@@ -207,21 +210,21 @@ module _ (laws : KnownLaws) (shared : SharedStopsAlike) (texts : List (List Bare
     pub thread_alike : (new : CodeWorld) (printed : List ℕ) → Moves texts names own t own_th new printed
         → Alike (thread_move w t th th.entering) new printed
     thread_alike new printed (enters due f next is room entered goes) =
-        enter_due t th own_th h.serial h.depth new printed due th.entering (subst Next is h.next) well
+        enter_due t th own_th h.serial h.depth there new printed due th.entering (subst Next is h.next) well
         (λ e user same_serial same_depth same_frames m below same.
         entered_alike laws texts names w own r coded t user own_th (h.serial ∙ sym same_serial) (h.depth ∙ sym same_depth) e due m below f next same
         entered goes room)
     thread_alike new printed (overflows due is full) =
-        enter_due t th own_th h.serial h.depth new printed due th.entering (subst Next is h.next) well
+        enter_due t th own_th h.serial h.depth there new printed due th.entering (subst Next is h.next) well
         (λ e user same_serial same_depth same_frames m below same.
-        overflows_alike laws texts names w own r coded t user own_th (h.serial ∙ sym same_serial) (h.depth ∙ sym same_depth) e due m below full)
+        overflows_alike laws texts names w own r coded t user own_th (h.serial ∙ sym same_serial) (h.depth ∙ sym same_depth) e due m below there full)
     thread_alike new printed (traps own_f kind is e) =
-        rest_of t th own_th h.serial h.depth new printed own_f th.entering refl (subst Next is h.next) typed waits_none well
+        rest_of t th own_th h.serial h.depth there new printed own_f th.entering refl (subst Next is h.next) typed waits_none well
         (λ f below none same rests below_match below_typed waits well.
-        trap_alike t th own_th h.serial h.depth new printed f below own_f none same below_match below_typed (next_of f) kind rests
+        trap_alike t th own_th h.serial h.depth there new printed f below own_f none same below_match below_typed (next_of f) kind rests
         (subst (λ c. step c own_f.state ≡ Traps kind) (ap₂ (code_in texts) same.version same.function) e) refl refl)
     thread_alike new printed (stops own_f x point after world_after shown is at made) =
-        rest_of t th own_th h.serial h.depth new printed own_f th.entering refl (subst Next is h.next) typed waits_none well
+        rest_of t th own_th h.serial h.depth there new printed own_f th.entering refl (subst Next is h.next) typed waits_none well
         (λ f below none same rests below_match below_typed waits well.
-        halt_alike t th own_th h.serial h.depth new printed f below own_f none same below_match below_typed (next_of f) x point after rests
+        halt_alike t th own_th h.serial h.depth there new printed f below own_f none same below_match below_typed (next_of f) x point after rests
         (subst (λ c. Stops c x point own_f.state.place after) (ap₂ (code_in texts) same.version same.function) at) waits well made)

@@ -68,7 +68,7 @@ module _ (laws : KnownLaws) (texts : List (List BareDef)) (names : Names) (s : S
       matches =
           subst (WorldMatches texts names (record s.world { finish = Some (Finished (value_of n)) }))
           (ap (λ z. record own { finish = Some (Finished z) }) (sym (int_back n hv rv)) ∙ sym is)
-          (ended texts names s.world naming s.world own start (Finished (value_of n)) s.world.slots refl);
+          (ended texts names s.world naming s.world own start (Finished (value_of n)) s.world.slots refl (λ h. h));
     }
     main_ended (Reference o) hv rv is = absurd hv
     main_ended (Started o) hv rv is = absurd hv

@@ -21,6 +21,7 @@ use Rattle.code_run_laws.specs.DataMatches.{DataMatches}
 use Rattle.code_run_laws.specs.MoveLaws.{CodeStartsAlike, Starts}
 use Rattle.code_run_laws.specs.ThreadMatches.{SlotsMatch, ThreadMatches}
 use Rattle.code_run_laws.specs.WorldMatches.{Numbers}
+use Rattle.code_run_laws.proofs.SlotsStanding.{slots_standing}
 use Rattle.code_run_laws.proofs.FirstCells.{first_cells_ranged}
 
 -- no object is named yet
@@ -94,6 +95,9 @@ starts_alike_by first_typed text limits names own accepted numbers starts = reco
   slots = λ e.
       slots_match text.definitions limits names own starts
       (first_typed text limits (All-head IsAccepted text [] accepted));
+  standing =
+      slots_standing (text.definitions ∷ []) [] first_naming (first text.definitions limits names own starts).slots own.slots
+      (slots_match text.definitions limits names own starts (first_typed text limits (All-head IsAccepted text [] accepted)));
   threads = starts.threads;
   finish = starts.finish;
   used_well = refl;

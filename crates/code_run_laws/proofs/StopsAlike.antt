@@ -23,7 +23,7 @@ use Rattle.code_run_laws.proofs.SharedAlike.{ComesAlike, GoesAlike, IsSameNow, S
 use Rattle.code_run_laws.proofs.MoreNames.{by_tags}
 use Rattle.code_run_laws.proofs.FramesStill.{slots_still}
 use Rattle.code_run_laws.proofs.Between.{Between, ended}
-use Rattle.code_run_laws.proofs.ThreadAtStop.{AtStop, KnownLaws, MadeAlike, On, Running, at, goes_alike, here, silent, typed_stop}
+use Rattle.code_run_laws.proofs.ThreadAtStop.{AtStop, KnownLaws, MadeAlike, On, Running, at, goes_alike, here, silent, still_there, typed_stop}
 use Rattle.code_run_laws.proofs.StopsOfThreads.{call_alike, join_alike, spawn_alike}
 use Rattle.code_run_laws.proofs.ReturnsAlike.{begin_alike, end_alike, return_alike}
 
@@ -110,7 +110,8 @@ module _ (laws : KnownLaws) (shared : SharedStopsAlike) (texts : List (List Bare
                 subst (WorldMatches texts names (trap_world kind)) (sym is)
                 (ended texts names s.world naming s.world (record own { shared = d.shared }) (aside kind g) (Trapped kind s.slot)
                 (slice_set s.world.slots s.slot (Live (gone_on s s.frame.values)))
-                (length-set s.world.slots s.slot (Live (gone_on s s.frame.values))));
+                (length-set s.world.slots s.slot (Live (gone_on s s.frame.values)))
+                (still_there laws texts names s own r th f after x values h s.frame.values));
           })
 
     shared_alike : IsSameNow texts s x → at_stop x s.world s.slot values ≡ None

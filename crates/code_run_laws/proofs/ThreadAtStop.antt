@@ -28,11 +28,13 @@ use Rattle.store_laws.specs.HandleLaws.{HandlesDistinguish}
 use Rattle.code_runs.specs.CodeData.{Names}
 use Rattle.code_runs.specs.CodeThreads.{CodeFrame, CodeThread, CodeWorld, Live as CodeLive, Rests}
 use Rattle.code_runs.specs.CodeMoves.{At as CodeAt, Continues, GoesOn, code_in, going, trapped, with_thread}
-use Rattle.code_run_laws.specs.ThreadMatches.{BelowMatch, FrameRests, NextMatches}
+use Rattle.code_runs.specs.CodeWaits.{in_slot}
+use Rattle.code_run_laws.specs.ThreadMatches.{BelowMatch, FrameRests, NextMatches, SlotStands, SlotsStand}
 use Rattle.code_run_laws.specs.WorldMatches.{Numbers, WorldMatches}
 use Rattle.code_run_laws.proofs.NumberedTexts.{Numbered}
 use Rattle.code_run_laws.proofs.MoreNames.{holds_still}
 use Rattle.code_run_laws.proofs.FramesStill.{below_match_still}
+use Rattle.code_run_laws.proofs.SlotsStanding.{still_standing}
 use Rattle.code_run_laws.proofs.FramesRest.{goes_on_resting}
 use Rattle.code_run_laws.proofs.Between.{Between, begun, changed, done, ended, told_apart}
 
@@ -95,6 +97,7 @@ module _ (laws : KnownLaws) (texts : List (List BareDef)) (names : Names) (s : S
     pub matches : Matches code most_variables look result tags naming (StopAt x s.frame.standing ∷ s.frame.pieces) values s.frame.scopes f.state
     pub below : BelowMatch texts tags naming result s.below th.below
     pub below_typed : Below texts tags result s.below
+    pub lives : in_slot own s.slot ≡ CodeLive th
     pub serial : th.serial ≡ s.thread.serial
     pub depth : th.depth ≡ s.thread.depth
     pub entering : s.thread.entering ≡ None
@@ -172,6 +175,13 @@ module _ (laws : KnownLaws) (texts : List (List BareDef)) (names : Names) (s : S
             (subst (λ d. Continues texts at (record th { depth = d }) stack mid new) h.depth goes);
       }
 
+    -- the slots stay alike where the stop traps
+    pub still_there : (vs : List Value) → SlotsStand s.world.slots own.slots
+        → SlotsStand (slice_set s.world.slots s.slot (Live (gone_on s vs))) own.slots
+    still_there vs =
+        still_standing s.world.slots own.slots s.slot (Live (gone_on s vs))
+        (subst (SlotStands (Live (gone_on s vs))) (sym h.lives) (h.serial, h.depth))
+
     -- the stop traps
     pub traps_alike : (kind : TrapKind) (printed : List ℕ) (new : CodeWorld) → printed ≡ [] → new ≡ trapped kind s.slot own
         → MadeAlike texts names s.world (source_traps s kind) new printed
@@ -185,5 +195,5 @@ module _ (laws : KnownLaws) (texts : List (List BareDef)) (names : Names) (s : S
           (sym is)
           (ended texts names s.world naming s.world own here (Trapped kind s.slot)
           (slice_set s.world.slots s.slot (Live (gone_on s s.frame.values)))
-          (length-set s.world.slots s.slot (Live (gone_on s s.frame.values))));
+          (length-set s.world.slots s.slot (Live (gone_on s s.frame.values))) (still_there s.frame.values));
     }

@@ -43,6 +43,18 @@ RestsSo code look result tags naming (Stopped s n rest values scopes) at =
 RestsSo code look result tags naming (Trapped kind) at = step code at ≡ Traps kind
 RestsSo code look result tags naming Nothing at = ⊥
 
+-- slots are alike in what lives or ended there: the number of the thread, and in how many transactions it is
+abbrev pub SlotStands : Slot → CodeSlot → Type 0
+SlotStands world.Free Free = Unit {0}
+SlotStands (world.Live th) (Live own) = (own.serial ≡ th.serial) × (own.depth ≡ th.depth)
+SlotStands (world.Over serial v) (Over own w) = own ≡ serial
+SlotStands _ _ = ⊥
+
+abbrev pub SlotsStand : List Slot → List CodeSlot → Type 0
+SlotsStand [] [] = Unit {0}
+SlotsStand (s ∷ ss) (own ∷ owns) = SlotStands s own × SlotsStand ss owns
+SlotsStand _ _ = ⊥
+
 module _ (texts : List (List BareDef)) (tags : List Bytes) (naming : Naming) where
   -- the frames are of one function, entered under one version, and last stopped at one point
   pub record IsSame (f : Frame) (own : CodeFrame) : Type 0 where

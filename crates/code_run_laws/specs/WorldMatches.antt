@@ -13,14 +13,15 @@ use Rattle.object_store.specs.Naming.{Objects}
 use Rattle.code_runs.specs.CodeData.{Names, thread_word}
 use Rattle.code_runs.specs.CodeThreads.{CodeWorld}
 use Rattle.code_run_laws.specs.DataMatches.{DataMatches}
-use Rattle.code_run_laws.specs.ThreadMatches.{SlotsMatch}
+use Rattle.code_run_laws.specs.ThreadMatches.{SlotsMatch, SlotsStand}
 
 -- each text has its globals, arrays and mutexes among the numbered names
 pub record Numbers (names : Names) (text : List BareDef) : Type 0 where
   pub cells : (name : Bytes) → HasCells (definition text name) → Contains names.cells name
   pub mutexes : (name : Bytes) → IsMutex (definition text name) → Contains names.mutexes name
 
--- it stands for a world, by the definitions of the versions so far. What threads do next is no matter once the run has ended
+-- it stands for a world, by the definitions of the versions so far. Once the run has ended, what threads would do next is no matter,
+-- but the same threads are in its slots
 pub record WorldMatches (texts : List (List BareDef)) (names : Names) (w : World) (own : CodeWorld) : Type 0 where
   pub naming : Naming
   pub threads_named : (r : ThreadRef) → naming.thread r ≡ thread_word r
@@ -28,6 +29,7 @@ pub record WorldMatches (texts : List (List BareDef)) (names : Names) (w : World
   pub shared : DataMatches names naming objects w own.shared
   pub count : length own.slots ≡ length w.slots
   pub slots : w.finish ≡ None → SlotsMatch texts (tags_of w.objects) naming w.slots own.slots
+  pub standing : SlotsStand w.slots own.slots
   pub threads : own.threads ≡ w.threads
   pub finish : own.finish ≡ w.finish
   pub used_well : w.misused ≡ false

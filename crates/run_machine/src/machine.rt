@@ -1,5 +1,5 @@
 //! What an engine asks of a machine.
-ghost use Rattle.std.specs.Prelude.{◌≡◌, ◌≤◌, ◌<◌, ◌^◌, [], List, All, false, map, length, drop, option_map, option_copied, slice_get, slice_index_or, Some, IfOk, OnErr};
+ghost use Rattle.std.specs.Prelude.{◌≡◌, ◌+◌, ◌≤◌, ◌<◌, ◌^◌, ℕ, [], List, All, IsOk, false, map, length, drop, option_map, option_copied, slice_get, slice_index_or, Some, IfOk, OnErr};
 ghost use Rattle.c_tree.specs.BareDef.{BareDef};
 ghost use Rattle.source_model.specs.Waits.{waits_for};
 ghost use Rattle.source_model.specs.Worlds.{Limits, World, in_slot, is_over};
@@ -28,16 +28,24 @@ pub trait Machine: Drop {
     /// more.
     ghost shown: { Self → Shown };
 
+    /// That so many moves want no memory, if its output is forgotten after each.
+    ghost lasts: { ℕ → Self → Type 0 };
+
+    /// The same once its output is forgotten.
+    ghost spent: { ℕ → Self → Type 0 };
+
     /// Makes a move, if it can be made.
     fn step(&mut self, m: SourceMove) -> Result<Stepped, AllocError>
         ensures stepped { (texts : List (List BareDef)) (limits : Limits) (moves : List Made) → (shown self.old).is_run texts limits moves
             → IfOk result (CameBy texts limits moves (move_of m) (shown self.new)) }
         ensures same { KeepsTexts (shown self.old) (shown self.new) }
-        ensures kept { (shown self.new).kept ≡ (shown self.old).kept };
+        ensures kept { (shown self.new).kept ≡ (shown self.old).kept }
+        ensures lasts { (n : ℕ) → lasts (1 + n) self.old → IsOk result × spent n self.new };
 
     /// Installs the text with a number, if there is one and the run isn't over; the changes are those from the text in force
-    /// to it. Where memory runs out, the run stays as it is.
+    /// to it. The first text, which has the number 0, isn't installed again. Where memory runs out, the run stays as it is.
     fn install(&mut self, number: usize, changes: &[Change]) -> Result<Stepped, AllocError>
+        requires { 0 < number }
         ensures made { (texts : List (List BareDef)) (limits : Limits) (moves : List Made) → (shown self.old).is_run texts limits moves
             → let p = last_text (versions_by texts moves) in let q = slice_index_or texts number [] in
             map name_of changes.now ≡ changing p q → All (IsChange p q) changes.now
@@ -63,7 +71,8 @@ pub trait Machine: Drop {
         ensures same { KeepsTexts (shown self.old) (shown self.new) }
         ensures kept { (texts : List (List BareDef)) (limits : Limits) (moves : List Made) (w : World)
             → (shown self.old).is_run texts limits moves → world_after texts limits moves ≡ Some w
-            → (shown self.old).kept ≤ length w.output → (shown self.new).kept ≤ length w.output };
+            → (shown self.old).kept ≤ length w.output → (shown self.new).kept ≤ length w.output }
+        ensures lasts { (n : ℕ) → spent n self.old → lasts n self.new };
 
     /// Whether a definition was misused.
     fn misused(&self) -> bool

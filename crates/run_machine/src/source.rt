@@ -12,6 +12,11 @@ impl Machine for SourceRun {
 
     ghost shown = { source_shown };
 
+    // Its words, frames and output take memory as the run goes on.
+    ghost lasts = { λ _ _. ⊥ };
+
+    ghost spent = { λ _ _. ⊥ };
+
     fn step(&mut self, m: SourceMove) -> Result<Stepped, AllocError> {
         self.step(m)
     }

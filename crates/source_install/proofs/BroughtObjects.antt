@@ -7,10 +7,11 @@ use Rattle.c_tree.specs.BareExpr.{Bytes}
 use Rattle.c_tree.specs.BareDef.{BareBinding, BareDef}
 use Rattle.c_tree.specs.BareDef as bare
 use Rattle.c_definitions.specs.Index.{is_key}
+use Rattle.c_semantics.specs.Changes.{agree, same_interface}
 use Rattle.c_semantics.specs.Names.{struct_name}
 use Rattle.c_semantics.specs.Pieces.{Variable}
 use Rattle.c_semantics.specs.Texts.{definition, members_of}
-use Rattle.c_semantics.specs.Transformers.{transformed, zero_fields}
+use Rattle.c_semantics.specs.Transformers.{given_fields, new_field, transformed, zero_fields}
 use Rattle.c_semantics.specs.Values.{Value as Seen}
 use Rattle.source_model.specs.Worlds as world
 use Rattle.source_model.specs.Installs.{brought, brought_by}
@@ -19,7 +20,7 @@ use Rattle.versioned_structs.specs.declared.transform.FieldChange.{FieldChange}
 use Rattle.versioned_structs.specs.Transforms.{layout_in, variables, IsTransformOf}
 use Rattle.type_transformers.specs.declared.change.Change.{Change}
 use Rattle.type_transformers.specs.declared.change.Change.TheVariants as change
-use Rattle.type_transformers.specs.Changes.{changing, has_data, name_of, IsChange}
+use Rattle.type_transformers.specs.Changes.{changing, has_cells, has_data, is_struct, name_of, IsChange}
 use Rattle.resolved_tree.specs.Nodes.{Table}
 use Rattle.local_evaluation.specs.Values.{seen}
 use Rattle.source_data.specs.declared.store.Field.{Field}
@@ -29,9 +30,7 @@ use Rattle.local_evaluation.specs.declared.value.Value.{Value}
 use Rattle.source_data.specs.Stores.{field_of, fields_of}
 use Rattle.source_install.specs.declared.changes.Data.TheVariants.{Struct}
 use Rattle.source_install.specs.FoundChanges.{found, key_of, transform_in}
-use Rattle.source_install.specs.OwnNames.{HasOwnNames, is_change_hidden, is_struct}
 use Rattle.source_data.proofs.DataChanges.{Differs, differs, found_is, found_passes, name_found, none_found, stays}
-use Rattle.source_install.proofs.GlobalNames.{no_struct_name}
 
 same_bytes : (a b : Bytes) → bytes_eq a b ≡ true → a ≡ b
 same_bytes a b e = (bytes_eq-Decides a b).0 e
@@ -45,7 +44,7 @@ tag_of name = drop 7 name
 same_tag : (a b : Bytes) → struct_name a ≡ struct_name b → a ≡ b
 same_tag a b e = ap tag_of e
 
-struct_data : (d : BareDef) → is_struct d ≡ true → has_data (Some d) ≡ true
+struct_data : (d : BareDef) → is_struct (Some d) ≡ true → has_data (Some d) ≡ true
 struct_data (bare.Struct tag members) is = refl
 struct_data (bare.Forward tag) is = cc
 struct_data (bare.Mutex name) is = cc
@@ -55,6 +54,29 @@ struct_data (bare.Global v) is = cc
 struct_data (bare.Array t name n values) is = cc
 struct_data (bare.TransformStruct tag values) is = cc
 struct_data (bare.TransformGlobal name value) is = cc
+
+struct_no_cells : (d : BareDef) → is_struct (Some d) ≡ true → has_cells (Some d) ≡ true → ⊥
+struct_no_cells (bare.Struct tag members) is cells = cc
+struct_no_cells (bare.Forward tag) is cells = cc
+struct_no_cells (bare.Mutex name) is cells = cc
+struct_no_cells (bare.Function r name ps body) is cells = cc
+struct_no_cells (bare.Prototype r name ps) is cells = cc
+struct_no_cells (bare.Global v) is cells = cc
+struct_no_cells (bare.Array t name n values) is cells = cc
+struct_no_cells (bare.TransformStruct tag values) is cells = cc
+struct_no_cells (bare.TransformGlobal name value) is cells = cc
+
+-- what isn't a struct has no fields
+no_members : (d : BareDef) → is_struct (Some d) ≡ false → members_of (Some d) ≡ []
+no_members (bare.Struct tag members) is = cc
+no_members (bare.Forward tag) is = refl
+no_members (bare.Mutex name) is = refl
+no_members (bare.Function r name ps body) is = refl
+no_members (bare.Prototype r name ps) is = refl
+no_members (bare.Global v) is = refl
+no_members (bare.Array t name n values) is = refl
+no_members (bare.TransformStruct tag values) is = refl
+no_members (bare.TransformGlobal name value) is = refl
 
 -- ---- fields with the names of a layout
 
@@ -167,73 +189,88 @@ module _ (p q : List BareDef) (changes : List Change) (named : map name_of chang
   no_transform (Some (change.Global own c)) at e =
       let never : false ≡ true = found_passes (λ c. is_key tag (key_of Struct c)) changes (change.Global own c) at in cc
 
-  not_changing : All (λ c. is_change_hidden c ≡ false) changes → transform_in (found Struct changes tag) ≡ None → is_among (changing p q) (struct_name tag) ≡ false
-  not_changing apart e =
+  -- where none is found, the data of a struct stay
+  not_changing : (b : BareDef) → definition q (struct_name tag) ≡ Some b → is_struct (Some b) ≡ true → transform_in (found Struct changes tag) ≡ None
+      → is_among (changing p q) (struct_name tag) ≡ false
+  not_changing b at is e =
       ap (λ ns. is_among ns (struct_name tag)) (sym named)
-      ∙ none_found (λ c. is_change_hidden c ≡ false) (λ c. is_key tag (key_of Struct c)) changes (struct_name tag) apart
+      ∙ none_found (IsChange p q) (λ c. is_key tag (key_of Struct c)) changes (struct_name tag) are
       other (no_transform (found Struct changes tag) refl e)
     where
-      other : (c : Change) → is_change_hidden c ≡ false → is_key tag (key_of Struct c) ≡ false → bytes_eq (struct_name tag) (name_of c) ≡ false
-      other (change.Struct own x) shown fails = by (bytes_eq (struct_name tag) (struct_name own)) refl
+      other : (c : Change) → IsChange p q c → is_key tag (key_of Struct c) ≡ false → bytes_eq (struct_name tag) (name_of c) ≡ false
+      other (change.Struct own x) made fails = by (bytes_eq (struct_name tag) (struct_name own)) refl
         where
-          by : (b : Bool) → bytes_eq (struct_name tag) (struct_name own) ≡ b → b ≡ false
+          by : (t : Bool) → bytes_eq (struct_name tag) (struct_name own) ≡ t → t ≡ false
           by false e = refl
           by true e =
               let same : bytes_eq tag own ≡ true = (bytes_eq-Decides tag own).1 (same_tag tag own (same_bytes (struct_name tag) (struct_name own) e)) in
               absurd (let clash : true ≡ false = sym same ∙ fails in cc)
-      other (change.Global own c) shown fails = by (bytes_eq (struct_name tag) own) refl
+      other (change.Global own c) made fails = by (bytes_eq (struct_name tag) own) refl
         where
-          by : (b : Bool) → bytes_eq (struct_name tag) own ≡ b → b ≡ false
+          by : (t : Bool) → bytes_eq (struct_name tag) own ≡ t → t ≡ false
           by false e = refl
-          by true e = absurd (no_struct_name own tag shown (sym (same_bytes (struct_name tag) own e)))
+          by true e =
+              absurd (struct_no_cells b is
+              (ap has_cells (sym at) ∙ ap (λ n. has_cells (definition q n)) (same_bytes (struct_name tag) own e) ∙ made.defined))
 
-  -- where none is found, its struct is added, or the object stays
-  pub brought_same : All (λ c. is_change_hidden c ≡ false) changes → HasOwnNames q → transform_in (found Struct changes tag) ≡ None
-      → (o : world.Object) → o.tag ≡ tag → (is_some (definition q (struct_name tag)) && not (is_some (definition p (struct_name tag)))) ≡ false
-      → brought p q o ≡ o
-  brought_same apart own none o is stay =
-      ap (λ n. brought_by p q o (definition p (struct_name n)) (definition q (struct_name n))) is
-      ∙ by (definition p (struct_name tag)) refl (definition q (struct_name tag)) refl stay
-    where
-      by : (a : Option BareDef) → definition p (struct_name tag) ≡ a → (b : Option BareDef) → definition q (struct_name tag) ≡ b
-          → (is_some b && not (is_some a)) ≡ false → brought_by p q o a b ≡ o
-      by None was None at e = refl
-      by (Some a) was None at e = refl
-      by None was (Some b) at e = cc
-      by (Some a) was (Some b) at e =
-          ap (λ b. if b then o else record o { fields = transformed p q o.tag o.fields })
-          (stays p q (struct_name tag) a b (not_changing apart none) was at (struct_data b (own.structs tag b at)))
-
-  pub brought_added : (o : world.Object) → o.tag ≡ tag → (is_some (definition q (struct_name tag)) && not (is_some (definition p (struct_name tag)))) ≡ true
+  -- an object of a struct that is new becomes zero: where its name had another interface and it has no transform, it is no
+  -- struct any more, and has no fields
+  pub brought_new : transform_in (found Struct changes tag) ≡ None → (o : world.Object) → o.tag ≡ tag
+      → (is_some (definition q (struct_name tag)) && not (agree same_interface (definition p (struct_name tag)) (definition q (struct_name tag)))) ≡ true
       → brought p q o ≡ record o { fields = zero_fields (layout_in q tag) }
-  brought_added o is added =
+  brought_new none o is new =
       ap (λ n. brought_by p q o (definition p (struct_name n)) (definition q (struct_name n))) is
-      ∙ by (definition p (struct_name tag)) (definition q (struct_name tag)) added
+      ∙ by (definition p (struct_name tag)) refl (definition q (struct_name tag)) refl new
     where
-      by : (a b : Option BareDef) → (is_some b && not (is_some a)) ≡ true → brought_by p q o a b ≡ record o { fields = zero_fields (members_of b) }
-      by None None e = cc
-      by (Some a) None e = cc
-      by (Some a) (Some b) e = cc
-      by None (Some b) e = refl
+      turned : (t : Bool) → not t ≡ true → t ≡ false
+      turned true e = cc
+      turned false e = refl
 
--- the names of the fields are those of the layout, where there are as many
-pub names_of_layout : (p : List BareDef) (o : world.Object) → Fits p o → length o.fields ≡ length (layout_in p o.tag)
+      zeros : (b : BareDef) → definition q (struct_name tag) ≡ Some b → is_struct (Some b) ≡ false
+          → transformed p q tag o.fields ≡ zero_fields (members_of (Some b))
+      zeros b at apart =
+          let nothing : members_of (Some b) ≡ [] = no_members b apart in
+          ap (λ bs. map (λ b. record { name = b.name; value = new_field (layout_in p tag) o.fields (given_fields q tag) b }) bs)
+          (ap members_of at ∙ nothing)
+          ∙ sym (ap zero_fields nothing)
+
+      by : (a : Option BareDef) → definition p (struct_name tag) ≡ a → (b : Option BareDef) → definition q (struct_name tag) ≡ b
+          → (is_some b && not (agree same_interface a b)) ≡ true → brought_by p q o a b ≡ record o { fields = zero_fields (members_of b) }
+      by None was None at e = cc
+      by (Some a) was None at e = cc
+      by None was (Some b) at e = refl
+      by (Some a) was (Some b) at e =
+          let other : same_interface a b ≡ false = turned (same_interface a b) e in
+          ap (λ s. if s then o else record o { fields = transformed p q o.tag o.fields }) other
+          ∙ ap (λ n. record o { fields = transformed p q n o.fields }) is
+          ∙ ap (λ fs. record o { fields = fs }) (for (is_struct (Some b)) refl other)
+        where
+          for : (t : Bool) → is_struct (Some b) ≡ t → same_interface a b ≡ false → transformed p q tag o.fields ≡ zero_fields (members_of (Some b))
+          for false apart other = zeros b at apart
+          for true known other =
+              let stay : same_interface a b ≡ true = stays p q (struct_name tag) a b (not_changing b at known none) was at (struct_data b known) in
+              absurd (let clash : true ≡ false = sym stay ∙ other in cc)
+
+  -- and another one stays
+  pub brought_same : (o : world.Object) → o.tag ≡ tag
+      → (is_some (definition q (struct_name tag)) && not (agree same_interface (definition p (struct_name tag)) (definition q (struct_name tag)))) ≡ false
+      → brought p q o ≡ o
+  brought_same o is stay =
+      ap (λ n. brought_by p q o (definition p (struct_name n)) (definition q (struct_name n))) is
+      ∙ by (definition p (struct_name tag)) (definition q (struct_name tag)) stay
+    where
+      turned : (t : Bool) → not t ≡ false → t ≡ true
+      turned true e = refl
+      turned false e = cc
+
+      by : (a b : Option BareDef) → (is_some b && not (agree same_interface a b)) ≡ false → brought_by p q o a b ≡ o
+      by None None e = refl
+      by (Some a) None e = refl
+      by None (Some b) e = cc
+      by (Some a) (Some b) e =
+          ap (λ s. if s then o else record o { fields = transformed p q o.tag o.fields }) (turned (same_interface a b) e)
+
+-- the names of the fields of an object whose struct's name is defined
+pub names_of_layout : (p : List BareDef) (o : world.Object) → Fits p o → (d : BareDef) → definition p (struct_name o.tag) ≡ Some d
     → map (λ f. f.name) o.fields ≡ map (λ b. b.name) (layout_in p o.tag)
-names_of_layout p o fits long = by (definition p (struct_name o.tag)) fits long
-  where
-    none_of : (fs : List Variable) → length fs ≡ 0 → map (λ f. f.name) fs ≡ []
-    none_of [] e = refl
-    none_of (f ∷ fs) e = cc
-
-    by : (d : Option BareDef) → ((tag : Bytes) (members : List BareBinding) → d ≡ Some (bare.Struct tag members) → map (λ f. f.name) o.fields ≡ map (λ b. b.name) members)
-        → length o.fields ≡ length (members_of d) → map (λ f. f.name) o.fields ≡ map (λ b. b.name) (members_of d)
-    by None fits long = none_of o.fields long
-    by (Some (bare.Struct tag members)) fits long = fits tag members refl
-    by (Some (bare.Forward tag)) fits long = none_of o.fields long
-    by (Some (bare.Mutex name)) fits long = none_of o.fields long
-    by (Some (bare.Function r name ps body)) fits long = none_of o.fields long
-    by (Some (bare.Prototype r name ps)) fits long = none_of o.fields long
-    by (Some (bare.Global v)) fits long = none_of o.fields long
-    by (Some (bare.Array t name n values)) fits long = none_of o.fields long
-    by (Some (bare.TransformStruct tag values)) fits long = none_of o.fields long
-    by (Some (bare.TransformGlobal name value)) fits long = none_of o.fields long
+names_of_layout p o fits d was = fits d was ∙ ap (λ x. map (λ b. b.name) (members_of x)) (sym was)

@@ -51,6 +51,17 @@ agrees_with_itself text name = by (definition text name) refl
 
 -- ---- a text by its number
 
+-- there is none past the last
+pub no_text : (p : Programs) (k : ℕ) → slice_get (trees_of p) k ≡ None → text_at p k ≡ []
+no_text p k is =
+    sym (unwrap_or-slice_get (map text_of p.texts.items) k [])
+    ∙ ap (λ o. unwrap_or o []) (slice_get-map text_of p.texts.items k)
+    ∙ by (slice_get p.texts.items k) (sym (slice_get-map (λ r. r.text) p.texts.items k) ∙ is)
+  where
+    by : (o : Option Ready) → option_map (λ r. r.text) o ≡ None → unwrap_or (option_map text_of o) [] ≡ []
+    by None e = refl
+    by (Some r) e = cc
+
 pub text_is : (p : Programs) (k : ℕ) (program : Program) → slice_get (trees_of p) k ≡ Some program → text_at p k ≡ map bare_def program.definitions
 text_is p k program is =
     sym (unwrap_or-slice_get (map text_of p.texts.items) k [])

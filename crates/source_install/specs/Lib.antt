@@ -1,3 +1,3 @@
 pub mod FoundChanges
 pub mod NewData
-pub mod OwnNames
+pub mod OwnCells

@@ -3,16 +3,12 @@ use Rattle.std.specs.Prelude.{◌≡◌, ℕ, zero, suc, List, [], ◌∷◌, �
 use Rattle.std.specs.declared.alloc.Global.{Global}
 use Rattle.c_tree.specs.BareDef.{BareDef}
 use Rattle.c_semantics.specs.Texts.{definition}
-use Rattle.c_semantics.specs.Values.{Value as Seen}
-use Rattle.source_model.specs.Worlds.{World, cells_at_first}
+use Rattle.source_model.specs.Worlds.{World}
 use Rattle.source_model.specs.Installs.{brought, global_after, is_mutex}
 use Rattle.version_laws.specs.Fitting.{Fits}
 use Rattle.type_transformers.specs.declared.change.Change.{Change}
 use Rattle.type_transformers.specs.Changes.{changing, name_of, IsChange}
 use Rattle.resolved_tree.specs.Nodes.{Table}
-use Rattle.local_evaluation.specs.declared.value.Value.{Value}
-use Rattle.local_evaluation.specs.Values.{seen}
-use Rattle.source_programs.specs.declared.globals.Cells.{Cells}
 use Rattle.source_programs.specs.declared.programs.Programs.{Programs}
 use Rattle.source_programs.specs.Globals.{globals_of}
 use Rattle.source_programs.specs.Programs.{ArePrograms, current_of, table_of, text_at}
@@ -21,13 +17,7 @@ use Rattle.source_data.specs.declared.store.Object.{Object}
 use Rattle.source_data.specs.declared.store.Store.{Store}
 use Rattle.source_install.specs.declared.install.NewFields.{NewFields}
 use Rattle.source_install.specs.declared.install.NewData.{NewData}
-use Rattle.source_install.specs.OwnNames.{HasOwnNames}
 use Rattle.source_data.specs.Stores.{with_store, objects_of, holders_of}
-
--- the data of a world are of its text: its globals are the text's, and its objects have the fields of their structs
-pub record HasDataOfText (w : World) : Type 0 where
-  pub globals : map (λ g. g.name) w.globals ≡ map (λ g. g.name) (filter_map cells_at_first w.text)
-  pub objects : All (Fits w.text) w.objects
 
 -- the text with a number follows the version in force, which a world has, and these are the changes of data
 pub record Follows (program : Programs) (number : ℕ) (changes : List Change) (w : World) : Type 0 where
@@ -36,11 +26,11 @@ pub record Follows (program : Programs) (number : ℕ) (changes : List Change) (
   pub named : map name_of changes ≡ changing w.text (text_at program number)
   pub are : All (IsChange w.text (text_at program number)) changes
 
--- it does so in a world with what is shared
+-- it does so in a world with what is shared, whose objects have the fields of their structs
 pub record IsInstall (program : Programs) (number : ℕ) (changes : List Change) (store : Store) (w : World) : Type 0 where
   pub follows : Follows program number changes w
   pub shared : w ≡ with_store (table_of program) store w
-  pub fits : HasDataOfText w
+  pub fits : All (Fits w.text) w.objects
 
 -- an object of some has other fields
 abbrev pub with_fields : ℕ → Vec Field Global → List Object → List Object
@@ -71,19 +61,6 @@ with_data_of from w = record w {
 }
 
 -- For the contracts of private functions.
-
--- text q follows text p in a world with some globals, and these are the changes of data
-pub record BringsGlobals (p q : List BareDef) (changes : List Change) (old : List Cells) (w : World) : Type 0 where
-  pub named : map name_of changes ≡ changing p q
-  pub are : All (IsChange p q) changes
-  pub own : HasOwnNames q
-  pub names : map (λ g. g.name) w.globals ≡ map (λ g. g.name) (filter_map cells_at_first p)
-  pub shared : w.globals ≡ globals_of old
-
--- the cells that are carried, else the first ones
-abbrev pub cells_or : Option (Vec Value Global) → List Seen → List Seen
-cells_or None first = first
-cells_or (Some cells) first = map seen cells.items
 
 -- an object with its new fields, if it has some
 abbrev pub fields_or : Object → Option (Vec Field Global) → Object

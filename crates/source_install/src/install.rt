@@ -2,42 +2,38 @@
 //!
 //! [`prepare`] takes the memory and makes what is new, and changes nothing; [`NewData::put_into`] then puts it in the place of
 //! the old data, and can't fail. So an install is made whole or not at all.
-ghost use Rattle.std.specs.Prelude.{◌≡◌, [], unwrap_or, ◌<◌, ◌≤◌, ◌&&◌, List, All, option_copied, IfOk, IsFalse, IsTrue, OnOk, None, Some, bytes_eq, false, filter, find, map, length, not, slice_get, slice_set};
+ghost use Rattle.std.specs.Prelude.{◌≡◌, ◌&&◌, List, IfOk, IsFalse, IsTrue, OnOk, None, Some, filter, map, not};
 ghost use Rattle.std.specs.Option.{is_some, option_map};
 ghost use Rattle.c_tree.specs.BareExpr.{Bytes};
 ghost use Rattle.c_tree.specs.BareDef.{BareDef};
 ghost use Rattle.c_definitions.specs.Index.{table_of as key_table};
-ghost use Rattle.c_semantics.specs.Constants.{initial_cells};
+ghost use Rattle.c_semantics.specs.Changes.{agree, same_interface};
 ghost use Rattle.c_semantics.specs.Names.{struct_name};
 ghost use Rattle.c_semantics.specs.Texts.{definition};
 ghost use Rattle.c_semantics.specs.Transformers.{transformed, zero_fields};
 ghost use Rattle.source_model.specs.Worlds.{World};
-ghost use Rattle.source_model.specs.Worlds as world;
-ghost use Rattle.source_model.specs.Installs.{brought, carried, has_cells, installed, is_mutex};
+ghost use Rattle.source_model.specs.Installs.{brought, installed, is_mutex};
 ghost use Rattle.version_laws.specs.Fitting.{Fits};
-ghost use Rattle.versioned_structs.specs.Limits.{most_fields};
-ghost use Rattle.versioned_structs.specs.Transforms.{layout_in, variables, IsTransformOf};
+ghost use Rattle.versioned_structs.specs.Transforms.{layout_in, new_values, variables, IsTransformOf};
 ghost use Rattle.resolved_tree.specs.Nodes.{Table, word};
 ghost use Rattle.local_evaluation.specs.Values.{seen};
 ghost use Rattle.source_programs.specs.Definitions.{bindings_of};
-ghost use Rattle.source_programs.specs.Globals.{globals_of};
 ghost use Rattle.source_programs.specs.Programs.{ArePrograms, current_of, table_of as words_of, text_at};
-ghost use Rattle.source_install.specs.declared.changes.Data.TheVariants.{Struct as OfStruct, Global as OfGlobal};
+ghost use Rattle.source_install.specs.declared.changes.Data.TheVariants.{Struct as OfStruct};
 ghost use Rattle.source_install.specs.FoundChanges.{keys};
-ghost use Rattle.source_install.specs.OwnNames.{HasOwnNames, is_change_hidden};
 ghost use Rattle.source_data.specs.Stores.{fields_of, holders_of, object_of, objects_of, with_store};
-ghost use Rattle.source_install.specs.NewData.{BringsGlobals, Follows, IsInstall, IsNewData, cells_or, fields_or, news_with, with_data_of, with_fields, with_new};
+ghost use Rattle.source_install.specs.NewData.{Follows, IsInstall, IsNewData, fields_or, news_with, with_data_of, with_fields, with_new};
 
-use crate::changes::{Data, cells_change, table_of, transform};
-use crate::own_names::{are_own, has_own_names};
+use crate::changes::{Data, table_of, transform};
+use crate::globals::new_globals;
 use c_scope::Scopes;
 use local_evaluation::Value;
 use resolved_tree::Word;
 use source_data::{Field, Held, Object, Objects, Store, fresh};
 use source_programs::{Binding, Globals, Name, Programs};
 use std::alloc::{AllocError, Global};
-use type_transformers::{Change, cells_after};
-use versioned_structs::{Fields, MOST_FIELDS, Transform, apply};
+use type_transformers::Change;
+use versioned_structs::{FieldChange, Transform};
 
 /// Other fields of the object with a number.
 #[derive(Drop)]
@@ -55,8 +51,7 @@ pub struct NewData {
     pub holders: Vec<Held>,
 }
 
-/// Takes the memory for an install of a text, and makes the new data. Nothing of what is shared changes. A tree that gives a
-/// global the name of a struct, as no text is read, is refused as out of memory.
+/// Takes the memory for an install of a text, and makes the new data. Nothing of what is shared changes.
 pub fn prepare(
     alloc: Global,
     program: &Programs,
@@ -67,9 +62,6 @@ pub fn prepare(
     ensures { (w : World) → IsInstall program.now number changes.now store.now w
         → IfOk result (IsNewData (words_of program.now) (text_at program.now number) w store.now) }
 {
-    if !has_own_names(program, number) || !are_own(changes) {
-        return Err(AllocError);
-    }
     let globals = new_globals(alloc, program, store, number, changes)?;
     let objects = new_objects(alloc, program, store, number, changes)?;
     let holders = new_holders(alloc, program, number, store.holders.as_slice())?;
@@ -97,113 +89,6 @@ impl NewData {
     }
 }
 
-/// The globals of the newer text, each with its cells.
-fn new_globals(
-    alloc: Global,
-    program: &Programs,
-    store: &Store,
-    number: usize,
-    changes: &[Change],
-) -> Result<Globals, AllocError>
-    requires own { HasOwnNames (text_at program.now number) }
-    ensures { (w : World) → IsInstall program.now number changes.now store.now w
-        → IfOk result (λ globals. globals_of globals.list.items ≡ (installed (text_at program.now number) w).globals) }
-{
-    let table = table_of(alloc, Data::Global, changes)?;
-    let mut globals = program.globals_in(alloc, number)?;
-    for place in 0..globals.list.len() {
-        carry_cells(alloc, &table, changes, &store.globals, &mut globals, place)?;
-    }
-    Ok(globals)
-}
-
-/// Gives a global of the newer text, which has its first cells, those that it has after the install.
-fn carry_cells(
-    alloc: Global,
-    table: &Scopes<usize>,
-    changes: &[Change],
-    old: &Globals,
-    new: &mut Globals,
-    place: usize,
-) -> Result<(), AllocError>
-    requires table { table.now ≡ key_table (keys OfGlobal changes.now) }
-    requires place { place < length new.old.list.items }
-    ensures length { OnOk result (length new.new.list.items ≡ length new.old.list.items) }
-    ensures cells { (p q : List BareDef) (w : World) (g : world.Cells) (d : BareDef) → BringsGlobals p q changes.now old.now.list.items w
-        → IsTrue (has_cells d) → definition q g.name ≡ Some d
-        → slice_get (globals_of new.old.list.items) place ≡ Some g → g.cells ≡ initial_cells d
-        → OnOk result (globals_of new.new.list.items ≡ slice_set (globals_of new.old.list.items) place
-        (record g { cells = carried w p q d g.name (definition p g.name) })) }
-{
-    let name = new.list[place].name.as_str();
-    match carried_cells(alloc, table, changes, old, name)? {
-        Some(cells) => set_cells(new, place, cells),
-        None => {}
-    }
-    Ok(())
-}
-
-/// The cells that a global of the newer text has of the old ones, unless it is added.
-fn carried_cells(
-    alloc: Global,
-    table: &Scopes<usize>,
-    changes: &[Change],
-    old: &Globals,
-    name: &str,
-) -> Result<Option<Vec<Value>>, AllocError>
-    requires table { table.now ≡ key_table (keys OfGlobal changes.now) }
-    ensures { (p q : List BareDef) (w : World) (d : BareDef) → BringsGlobals p q changes.now old.now.list.items w
-        → IsTrue (has_cells d) → definition q name.now ≡ Some d
-        → IfOk result (λ cells. carried w p q d name.now (definition p name.now) ≡ cells_or cells (initial_cells d)) }
-{
-    let cells = old_cells(old, name);
-    match cells_change(table, changes, name) {
-        Some(change) => Ok(Some(cells_after(alloc, change, slice_of(cells))?)),
-        None => copied(alloc, cells),
-    }
-}
-
-/// The cells of a global, if it is there.
-fn old_cells<'a>(globals: &'a Globals, name: &str) -> Option<&'a [Value]>
-    ensures { option_map (λ c. map seen c.now) result
-        ≡ option_map (λ g. g.cells) (find (λ g. bytes_eq name.now g.name) (globals_of globals.now.list.items)) }
-{
-    match globals.places.find(name) {
-        Some(place) => Some(globals.list[place].cells.as_slice()),
-        None => None,
-    }
-}
-
-/// The cells of a global; none where it isn't there.
-fn slice_of(cells: Option<&[Value]>) -> &[Value]
-    ensures { result.now ≡ unwrap_or (option_copied cells.entry) [] }
-{
-    match cells {
-        Some(cells) => cells,
-        None => &[],
-    }
-}
-
-/// A copy of cells, if there are any.
-fn copied(alloc: Global, cells: Option<&[Value]>) -> Result<Option<Vec<Value>>, AllocError>
-    ensures { IfOk result (λ copy. option_map (λ c. c.items) copy ≡ option_copied cells.entry) }
-{
-    match cells {
-        Some(cells) => Ok(Some(Vec::from_slice(alloc, cells)?)),
-        None => Ok(None),
-    }
-}
-
-/// Gives a global other cells.
-fn set_cells(globals: &mut Globals, place: usize, cells: Vec<Value>)
-    requires { place < length globals.old.list.items }
-    ensures cells { (g : world.Cells) → slice_get (globals_of globals.old.list.items) place ≡ Some g
-        → globals_of globals.new.list.items ≡ slice_set (globals_of globals.old.list.items) place (record g { cells = map seen cells.items }) }
-    ensures length { length globals.new.list.items ≡ length globals.old.list.items }
-{
-    globals.list[place].cells = cells;
-}
-
 /// The objects that change, with their new fields.
 fn new_objects(
     alloc: Global,
@@ -212,8 +97,6 @@ fn new_objects(
     number: usize,
     changes: &[Change],
 ) -> Result<Vec<NewFields>, AllocError>
-    requires own { HasOwnNames (text_at program.now number) }
-    requires changes { All (λ c. is_change_hidden c ≡ false) changes.now }
     ensures { (w : World) → IsInstall program.now number changes.now store.now w
         → IfOk result (λ news. objects_of (words_of program.now) (with_new news.items store.now.objects.all.items)
         ≡ (installed (text_at program.now number) w).objects) }
@@ -251,9 +134,7 @@ fn new_fields(
     changes: &[Change],
     object: &Object,
 ) -> Result<Option<Vec<Field>>, AllocError>
-    requires own { HasOwnNames (text_at program.now number) }
-    requires changes { All (λ c. is_change_hidden c ≡ false) changes.now }
-    requires table { table.now ≡ key_table (keys OfStruct changes.now) }
+    requires { table.now ≡ key_table (keys OfStruct changes.now) }
     ensures { (w : World) → Follows program.now number changes.now w → Fits w.text (object_of (words_of program.now) object.now)
         → IfOk result (λ fields. object_of (words_of program.now) (fields_or object.now fields)
         ≡ brought w.text (text_at program.now number) (object_of (words_of program.now) object.now)) }
@@ -262,72 +143,80 @@ fn new_fields(
     let tag = program.trees().text(object.tag);
     match transform(table, changes, tag) {
         Some(transform) => {
-            let old = program.members(object.tag);
-            let fields = object.fields.as_slice();
-            let new = transformed_fields(alloc, transform, fields, old, members)?;
+            let new = transformed_fields(alloc, transform, object.fields.as_slice(), members)?;
             Ok(Some(new))
         }
-        None => added_fields(alloc, is_added(program, number, object.tag), members),
+        None => zero_fields_if(alloc, is_new(program, number, object.tag), members),
     }
 }
 
-/// The fields of an object whose struct is added, each zero.
-fn added_fields(
+/// The fields of an object whose struct is new, each zero.
+fn zero_fields_if(
     alloc: Global,
-    is_added: bool,
+    is_new: bool,
     members: &[Binding],
 ) -> Result<Option<Vec<Field>>, AllocError>
-    ensures added { IsTrue is_added → IfOk result (λ fields. (t : Table) → option_map (λ f. fields_of t f.items) fields
+    ensures new { IsTrue is_new → IfOk result (λ fields. (t : Table) → option_map (λ f. fields_of t f.items) fields
         ≡ Some (zero_fields (bindings_of t members.now))) }
-    ensures same { IsFalse is_added → IfOk result (λ fields. fields ≡ None) }
+    ensures same { IsFalse is_new → IfOk result (λ fields. fields ≡ None) }
 {
-    if is_added {
+    if is_new {
         Ok(Some(fresh(alloc, members)?))
     } else {
         Ok(None)
     }
 }
 
-/// Whether the struct with a tag is in a text and not in the one in force.
-fn is_added(program: &Programs, number: usize, tag: Word) -> bool
+/// Whether a text defines the struct with a tag, and not with the fields that it has in the version in force.
+fn is_new(program: &Programs, number: usize, tag: Word) -> bool
     ensures { ArePrograms program.now → let name = struct_name (word (words_of program.now) tag) in
-        result ≡ (is_some (definition (text_at program.now number) name) && not (is_some (definition (current_of program.now) name))) }
+        result ≡ (is_some (definition (text_at program.now number) name)
+        && not (agree same_interface (definition (current_of program.now) name) (definition (text_at program.now number) name))) }
 {
     let name = Name::Struct(tag);
-    program.defines(number, name) && !program.is_right(program.version(), name)
+    program.defines(number, name) && !program.agrees(number, name)
 }
 
-/// The fields of an object of a struct that changes, by its old and its new layout. Fields that aren't those of the old layout,
-/// or more than an object can have, as no text gives a struct, are refused as out of memory.
+/// The fields of an object of a struct that changes, by its new layout.
 fn transformed_fields(
     alloc: Global,
     transform: &Transform,
     fields: &[Field],
-    old: &[Binding],
     new: &[Binding],
 ) -> Result<Vec<Field>, AllocError>
-    ensures { (t : Table) (p q : List BareDef) (tag : Bytes) → IsTransformOf p q tag transform.now
-        → bindings_of t old.now ≡ layout_in p tag → bindings_of t new.now ≡ layout_in q tag
-        → (length fields.now ≡ length old.now → map (λ f. f.name) (fields_of t fields.now) ≡ map (λ b. b.name) (bindings_of t old.now))
+    ensures { (t : Table) (p q : List BareDef) (tag : Bytes) → IsTransformOf p q tag transform.now → bindings_of t new.now ≡ layout_in q tag
+        → map (λ f. f.name) (fields_of t fields.now) ≡ map (λ b. b.name) (layout_in p tag)
         → IfOk result (λ made. fields_of t made.items ≡ transformed p q tag (fields_of t fields.now)) }
 {
-    if fields.len() != old.len() || fields.len() > MOST_FIELDS {
-        return Err(AllocError);
-    }
-    let values = apply(transform, &values_of(fields));
+    let old = values_of(alloc, fields)?;
+    let values = values_by(alloc, transform.as_slice(), old.as_slice())?;
     fields_of(alloc, new, values.as_slice())
 }
 
 /// The values of fields.
-fn values_of(fields: &[Field]) -> Fields
-    requires { length fields.now ≤ most_fields }
-    ensures { result ≡ map (λ f. f.value) fields.now }
+fn values_of(alloc: Global, fields: &[Field]) -> Result<Vec<Value>, AllocError>
+    ensures { IfOk result (λ values. values.items ≡ map (λ f. f.value) fields.now) }
 {
-    let mut values = Fields::new();
+    let mut values = Vec::with_capacity(alloc, fields.len())?;
     for field in fields {
-        values.push(field.value);
+        values.push(field.value)?;
     }
-    values
+    Ok(values)
+}
+
+/// The values of the fields of a new layout, from those of the old one.
+fn values_by(
+    alloc: Global,
+    changes: &[FieldChange],
+    old: &[Value],
+) -> Result<Vec<Value>, AllocError>
+    ensures { IfOk result (λ values. map seen values.items ≡ new_values changes.now (map seen old.now)) }
+{
+    let mut values = Vec::with_capacity(alloc, changes.len())?;
+    for change in changes {
+        values.push(change.value(old))?;
+    }
+    Ok(values)
 }
 
 /// Fields with the names of a layout and some values, item by item.

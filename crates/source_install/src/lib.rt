@@ -3,11 +3,12 @@
 //! [`prepare`] makes the new data beside the old, so that an install that runs out of memory changes nothing;
 //! [`NewData::put_into`] puts it in place.
 //!
-//! Read in this order: `changes` (changes of data by name), `own_names` (names that no struct has), `install`.
+//! Read in this order: `changes` (changes of data by name), `globals` (the new cells of globals), `install` (objects, holders and
+//! the whole).
 #![tactic(auto)]
 
 mod changes;
+mod globals;
 mod install;
-mod own_names;
 
 pub use install::prepare;

@@ -6,4 +6,4 @@ mod Items
 mod Mains
 mod Numbered
 pub mod Placed
-mod Reported
+pub mod Reported

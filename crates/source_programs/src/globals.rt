@@ -30,8 +30,9 @@ pub struct Globals {
     ghost placed: { (name : Bytes) → place_in places name ≡ position (λ g. bytes_eq name g.name) (globals_of list.items) },
 }
 
-/// The globals and arrays of a text with their first values, found by their names.
-pub(crate) fn first_globals(alloc: Global, text: &[Def]) -> Result<Globals, AllocError>
+/// The globals and arrays of a text with their first values, found by their names. It takes time linear in the text and in the
+/// cells. An error is lack of memory, or an array whose length doesn't fit in memory.
+pub fn first_globals(alloc: Global, text: &[Def]) -> Result<Globals, AllocError>
     ensures { IfOk result (λ globals. globals_of globals.list.items ≡ filter_map cells_at_first (map bare_def text.now)) }
 {
     let list = globals_of(alloc, text)?;
@@ -39,7 +40,7 @@ pub(crate) fn first_globals(alloc: Global, text: &[Def]) -> Result<Globals, Allo
 }
 
 /// Globals and arrays, found by their names.
-fn found_by_name(alloc: Global, list: Vec<Cells>) -> Result<Globals, AllocError>
+pub fn found_by_name(alloc: Global, list: Vec<Cells>) -> Result<Globals, AllocError>
     ensures { IfOk result (λ globals. globals.list.items ≡ list.items) }
 {
     let mut places = Places::new(alloc);
@@ -87,8 +88,8 @@ fn cells_if(alloc: Global, definition: &Def) -> Result<Option<Cells>, AllocError
     }
 }
 
-/// The cells of a name.
-fn named_cells(alloc: Global, name: &str, kind: &DefKind) -> Result<Cells, AllocError>
+/// The first cells of a global variable or an array with a name. An error is as that of [`first_globals`].
+pub fn named_cells(alloc: Global, name: &str, kind: &DefKind) -> Result<Cells, AllocError>
     ensures { IfOk result (λ made. cells_of made ≡ record { name = name.now; cells = initial_cells (bare_kind kind.now) }) }
 {
     let name = String::from_str(alloc, name)?;

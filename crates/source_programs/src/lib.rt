@@ -22,6 +22,6 @@ mod resolved;
 mod versions;
 
 pub use definition::{Binding, Definition, Name};
-pub use globals::{Cells, Globals};
+pub use globals::{Cells, Globals, first_globals, found_by_name, named_cells};
 pub use places::Places;
 pub use programs::Programs;

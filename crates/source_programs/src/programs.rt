@@ -125,6 +125,27 @@ impl Programs {
         self.find_in(self.numbered(number), name).is_some()
     }
 
+    /// Whether a text and the version in force both define a name, with one interface.
+    pub fn agrees(&self, number: usize, name: Name) -> bool
+        ensures { ArePrograms self.now → result ≡ agree same_interface
+            (definition (current_of self.now) (name_of (table_of self.now) name))
+            (definition (text_at self.now number) (name_of (table_of self.now) name)) }
+    {
+        let then = self.tree_in(self.in_force(), name);
+        let now = self.tree_in(self.numbered(number), name);
+        have_one_interface(then, now)
+    }
+
+    /// What the version in force defines as a name.
+    pub fn tree(&self, name: &str) -> Option<&Def>
+        ensures { ArePrograms self.now → option_map bare_def (option_copied result) ≡ definition (current_of self.now) name.now }
+    {
+        match self.in_force() {
+            Some(ready) => ready.tree_named(name),
+            None => None,
+        }
+    }
+
     /// Whether a text defines a mutex of that name.
     pub fn has_mutex(&self, number: usize, name: Word) -> bool
         ensures { ArePrograms self.now → result ≡ is_mutex (definition (text_at self.now number) (word (table_of self.now) name)) }

@@ -53,6 +53,26 @@ impl Ready {
         }
     }
 
+    /// The tree of what is defined as a name that has no word.
+    pub(crate) fn tree_named(&self, name: &str) -> Option<&Def>
+        ensures { (t : Table) → IsReady t self.now → option_map bare_def (option_copied result) ≡ definition (text_of self.now) name.now }
+    {
+        match self.named(name) {
+            Some(definition) => self.tree_at(definition.place),
+            None => None,
+        }
+    }
+
+    /// What is defined as a name that has no word.
+    fn named(&self, name: &str) -> Option<&Definition>
+        ensures { (t : Table) → IsReady t self.now → option_copied result ≡ kept t self.now.definitions.items name.now }
+    {
+        match self.names.find(name) {
+            Some(place) => self.at(place),
+            None => None,
+        }
+    }
+
     /// The place of what is defined as a name.
     fn place_of(&self, trees: &Trees, name: Name) -> Option<usize>
         ensures { IsReady (table trees.now) self.now → result

@@ -7,7 +7,6 @@ use Rattle.source_model.specs.Runs.{SourceMove, Install, install}
 use Rattle.source_model.specs.Worlds.{World, Limits, is_over}
 use Rattle.source_model.specs.JournalLaws.{HasMain}
 use Rattle.version_laws.specs.Histories.{last_text, versions_by}
-use Rattle.version_laws.proofs.GlobalsOfRuns.{globals_are_named}
 use Rattle.type_transformers.specs.declared.change.Change.{Change}
 use Rattle.type_transformers.specs.Changes.{IsChange, changing, name_of}
 use Rattle.source_programs.specs.Programs.{text_at, trees_of, versions_of}
@@ -52,10 +51,7 @@ installs texts limits ms k r changes h named are = record {
     are = subst (λ p. All (IsChange p q) changes) older (subst (λ x. All (IsChange p x) changes) newer are);
   };
   shared = h.stands.all.store;
-  fits = record {
-    globals = globals_are_named texts limits ms h.world h.ran;
-    objects = (objects_always_fit texts limits ms h.world (subst (All HasMain) h.loaded (texts_have_main r.machine.program h.stands.all.program)) h.ran).each;
-  };
+  fits = (objects_always_fit texts limits ms h.world (subst (All HasMain) h.loaded (texts_have_main r.machine.program h.stands.all.program)) h.ran).each;
 }
   where
     p : List BareDef

@@ -8,4 +8,3 @@ pub mod TableHistories
 pub mod MovesSustain
 pub mod RunHistories
 pub mod ObjectsOfRuns
-pub mod GlobalsOfRuns

@@ -5,7 +5,7 @@ use Rattle.std.proofs.lemmas.List.{get_or-map, length-map}
 use Rattle.std.proofs.lemmas.List.Elements.{All-nil, All-append, All-map}
 use Rattle.std.proofs.lemmas.Option.{none-some, same_Some}
 use Rattle.c_tree.specs.BareExpr.{Bytes}
-use Rattle.c_tree.specs.BareDef.{BareBinding, BareDef, Struct, Forward, Mutex, Function, Prototype, Global, Array, TransformStruct, TransformGlobal}
+use Rattle.c_tree.specs.BareDef.{BareBinding, BareDef}
 use Rattle.c_semantics.specs.Names.{struct_name}
 use Rattle.c_semantics.specs.Texts.{definition, members_of}
 use Rattle.c_semantics.specs.Changes.{same_interface}
@@ -18,8 +18,7 @@ use Rattle.source_model.specs.Installs.{brought, brought_by}
 use Rattle.version_laws.specs.Histories.{versions_by}
 use Rattle.version_laws.specs.Fitting.{Fits}
 use Rattle.version_laws.specs.HistoryLaws.{ObjectsAlwaysFit}
-use Rattle.version_laws.proofs.Tests.{no}
-use Rattle.version_laws.proofs.SameDefinitions.{layouts_same, members_alike}
+use Rattle.version_laws.proofs.SameDefinitions.{interface_members, members_alike}
 use Rattle.version_laws.proofs.TableHistories.{last_as_current}
 use Rattle.version_laws.proofs.MovesSustain.{shape, ObjectsAfter, moves_sustain}
 use Rattle.version_laws.proofs.RunHistories.{IsOf, has_main_at, move_is_of, install_is_of, first_is_of, holds_in_runs}
@@ -27,8 +26,7 @@ use Rattle.version_laws.proofs.RunHistories.{IsOf, has_main_at, move_is_of, inst
 -- an object fits by its shape
 abbrev FitsShape : List BareDef → Bytes × List Bytes → Type 0
 FitsShape text s =
-    (tag : Bytes) (members : List BareBinding)
-    → definition text (struct_name s.0) ≡ Some (Struct tag members) → s.1 ≡ map (λ (b : BareBinding). b.name) members
+    (d : BareDef) → definition text (struct_name s.0) ≡ Some d → s.1 ≡ map (λ (b : BareBinding). b.name) (members_of (Some d))
 
 all_unmapped : {A B : Type 0} (P : B → Type 0) (f : A → B) (xs : List A) → All P (map f xs) → All (λ x. P (f x)) xs
 all_unmapped P f xs h k d within =
@@ -51,7 +49,7 @@ names_made f (b ∷ bs) = ap (λ ns. b.name ∷ ns) (names_made f bs)
 
 -- a new object fits the current text
 new_fits : (before : List (List BareDef)) (w : World) (tag : Bytes) → IsOf before w → Fits w.text (new_object w tag)
-new_fits before w tag h name members e =
+new_fits before w tag h d e =
     names_made (λ b. zero_of b.declared) (members_of (now w (struct_name tag)))
     ∙ ap (map (λ (b : BareBinding). b.name))
     (members_alike (now w (struct_name tag)) _ (last_as_current before w.table h.history (struct_name tag))
@@ -67,35 +65,23 @@ after_fit before w os h fit (inr (tag, e)) =
 
 -- ---- an install
 
--- where the interface stays, so do the fields
-layout_stays : (a : BareDef) (tag : Bytes) (members : List BareBinding) → same_interface a (Struct tag members) ≡ true
-    → (other : Bytes) × (a ≡ Struct other members)
-layout_stays (Struct other ns) tag members h = (other, ap (Struct other) (layouts_same ns members h))
-layout_stays (Forward other) tag members h = absurd (no h)
-layout_stays (Mutex name) tag members h = absurd (no h)
-layout_stays (Function r name ps body) tag members h = absurd (no h)
-layout_stays (Prototype r name ps) tag members h = absurd (no h)
-layout_stays (Global d) tag members h = absurd (no h)
-layout_stays (Array t name n initial) tag members h = absurd (no h)
-layout_stays (TransformStruct other values) tag members h = absurd (no h)
-layout_stays (TransformGlobal name value) tag members h = absurd (no h)
-
 brought_fits : (p q : List BareDef) (o : Object) (a b : Option BareDef) → definition p (struct_name o.tag) ≡ a
     → definition q (struct_name o.tag) ≡ b → Fits p o → Fits q (brought_by p q o a b)
-brought_fits p q o a None before after h = λ tag members e. absurd (none-some (Struct tag members) (sym after ∙ e))
-brought_fits p q o None (Some d) before after h = λ tag members e.
-    names_made (λ b. zero_of b.declared) (members_of (Some d))
+brought_fits p q o a None before after h = λ d e. absurd (none-some d (sym after ∙ e))
+brought_fits p q o None (Some b) before after h = λ d e.
+    names_made (λ b. zero_of b.declared) (members_of (Some b))
     ∙ ap (λ x. map (λ (b : BareBinding). b.name) (members_of x)) (sym after ∙ e)
 brought_fits p q o (Some a) (Some b) before after h = by (same_interface a b) refl
   where
-    kept : (tag : Bytes) (members : List BareBinding) → same_interface a (Struct tag members) ≡ true
-        → map (λ (f : Variable). f.name) o.fields ≡ map (λ (m : BareBinding). m.name) members
-    kept tag members same = let was = layout_stays a tag members same in h was.0 members (before ∙ ap Some was.1)
+    -- where the interface stays, so do the fields
+    kept : (d : BareDef) → same_interface a d ≡ true
+        → map (λ (f : Variable). f.name) o.fields ≡ map (λ (m : BareBinding). m.name) (members_of (Some d))
+    kept d same = h a before ∙ ap (map (λ (m : BareBinding). m.name)) (interface_members a d same)
 
     by : (stays : Bool) → same_interface a b ≡ stays
         → Fits q (if stays then o else record o { fields = transformed p q o.tag o.fields })
-    by true same tag members e = kept tag members (ap (same_interface a) (sym (same_Some b (Struct tag members) (sym after ∙ e))) ∙ same)
-    by false same tag members e =
+    by true same d e = kept d (ap (same_interface a) (sym (same_Some b d (sym after ∙ e))) ∙ same)
+    by false same d e =
         names_made _ (members_of (definition q (struct_name o.tag))) ∙ ap (λ x. map (λ (m : BareBinding). m.name) (members_of x)) e
 
 all_of_each : {A : Type 0} (P Q : A → Type 0) (xs : List A) → ((x : A) → P x → Q x) → All P xs → All Q xs

@@ -238,6 +238,19 @@ parameters_alike o u h = parameters_by_said o ∙ ap parameters_said (alike_say_
 pub members_alike : (o u : Option BareDef) → Alike o u → members_of o ≡ members_of u
 members_alike o u h = members_by_said o ∙ ap members_said (alike_say_the_same o u h) ∙ sym (members_by_said u)
 
+-- definitions of one interface have the same fields
+pub interface_members : (a b : BareDef) → same_interface a b ≡ true → members_of (Some a) ≡ members_of (Some b)
+interface_members a b h =
+    members_by_said (Some a) ∙ by (said a) (said b) (sym (interface_by_said a b) ∙ h) ∙ sym (members_by_said (Some b))
+  where
+    by : (x y : Said) → same_interface_said x y ≡ true → members_said (Some x) ≡ members_said (Some y)
+    by (SaysStruct ms) (SaysStruct ns) g = layouts_same ms ns g
+    by SaysMutex SaysMutex g = refl
+    by (SaysFunction r ps body) (SaysFunction q qs code) g = refl
+    by (SaysGlobal t) (SaysGlobal u) g = refl
+    by (SaysArray t n) (SaysArray u m) g = refl
+    by _ _ g = absurd (no g)
+
 -- interfaces are compared alike
 pub interfaces_alike : (o u v w : Option BareDef) → Alike o u → Alike v w → agree same_interface o v ≡ agree same_interface u w
 interfaces_alike o u v w h i =

@@ -23,8 +23,8 @@ pub enum FieldChange {
 }
 
 impl FieldChange {
-    /// The new value, from the values of the old fields.
-    fn value(&self, old: &[Value]) -> Value
+    /// The new value, from the values of the old fields in their order.
+    pub fn value(&self, old: &[Value]) -> Value
         ensures { seen result ≡ new_value (map seen old.now) self.now }
     {
         match self {

@@ -1,4 +1,5 @@
 pub mod Stacks
 pub mod Kept
 pub mod Resolved
+pub mod Lengths
 pub mod Performing

@@ -1,5 +1,6 @@
 -- What a stop came to, as the definitions of runs of code have it.
-use Rattle.std.specs.Prelude.{◌≡◌, ℕ, List, []}
+use Rattle.std.specs.Prelude.{◌≡◌, ℕ, ◌+◌, ◌-◌, ◌<◌, List, [], Vec, length, vec_capacity}
+use Rattle.std.specs.declared.alloc.Global.{Global}
 use Rattle.c_tree.specs.BareExpr.{Bytes}
 use Rattle.c_tree.specs.BareDef.{BareDef}
 use Rattle.c_semantics.specs.Stops.{Stop, Lock}
@@ -7,6 +8,7 @@ use Rattle.object_store.specs.Handles.{creation_limit}
 use Rattle.program_locks.specs.declared.answer.LockAnswer.{LockAnswer}
 use Rattle.program_locks.specs.declared.answer.LockAnswer.TheVariants.{Done as LockDone, Waits as LockWaits}
 use Rattle.program_locks.specs.Locking.{holder_of, lock_answer}
+use Rattle.resolved_tree.specs.Nodes.{Table, word}
 use Rattle.code_runs.specs.CodeData.{Data, Names, number_of}
 use Rattle.code_runs.specs.SharedStops as shared
 use Rattle.code_runs.specs.SharedStops.{Answered, Does, Done}
@@ -16,6 +18,7 @@ use Rattle.word_data.specs.declared.stop.Stack.{Stack}
 use Rattle.word_data.specs.declared.stop.Did.{Did}
 use Rattle.word_data.specs.declared.stop.Did.TheVariants.{On, Trap, Waits}
 use Rattle.word_data.specs.Stacks.{stack_at, stack_of}
+use Rattle.word_data.specs.Lengths.{longest_print}
 
 -- a stop was made, and what it came to is as a definition says: with what is shared after it, the words of the frame's stack in a row, and
 -- what it printed
@@ -43,8 +46,15 @@ Performs names text slot stop stack old words (Waits holder) new after printed =
 Performs names text slot stop stack old words did new after printed =
     Made new after stack printed did (Does names text slot stop old (stack_of words stack))
 
--- where a stop may be out of memory: its bytes don't fit, or all handles were given
-abbrev pub MayFail : SharedStop → Data → Type 0
-MayFail (New tag) d = d.objects.created ≡ creation_limit
-MayFail (Print format count) d = Unit {0}
-MayFail _ d = ⊥
+-- a frame that goes on has one word in place of those that were taken; where it doesn't go on no word has changed
+abbrev pub LeavesOne : ℕ → Stack → Did → List ℕ → List ℕ → Type 0
+LeavesOne taken stack (On height) old new = height ≡ stack.height - taken + 1
+LeavesOne taken stack (Trap kind) old new = new ≡ old
+LeavesOne taken stack (Waits holder) old new = new ≡ old
+
+-- when a stop may be out of memory: all handles were given, or where bytes are printed to, there is no room for as many as its print
+-- writes at most
+abbrev pub MayFail : Table → SharedStop → Data → Vec ℕ Global → Type 0
+MayFail t (New tag) d printed = d.objects.created ≡ creation_limit
+MayFail t (Print format count) d printed = vec_capacity printed < length printed.items + longest_print (word t format)
+MayFail t _ d printed = ⊥

@@ -4,7 +4,7 @@ ghost use Rattle.thread_state.specs.Frames.{IsSameOutside};
 ghost use Rattle.code_runs.specs.CodeData.{row, with_row};
 ghost use Rattle.code_runs.specs.SharedStops.{One, Two, goes, read_element, write_element};
 ghost use Rattle.word_data.specs.Stacks.{stack_of};
-ghost use Rattle.word_data.specs.Performing.{Made};
+ghost use Rattle.word_data.specs.Performing.{LeavesOne, Made};
 
 use crate::shared::WordData;
 use crate::stack::{leave, word_under};
@@ -47,6 +47,7 @@ impl WordData {
         ensures made { let d = self.now in Made d words.new stack [] result
             (λ x. x ≡ goes d (slice_index_or (row d n) 0 0 ∷ stack_of words.old stack)) }
         ensures elsewhere { IsSameOutside stack.low (stack.low + stack.height + 1) words.old words.new }
+        ensures keeps { LeavesOne 0 stack result words.old words.new }
     {
         let word = cell(self.cells.as_slice(), n, 0).unwrap_or(0);
         leave(words, stack, 0, word)
@@ -56,8 +57,9 @@ impl WordData {
     pub(crate) fn write_global(&mut self, n: u32, words: &[u64], stack: Stack) -> Did
         requires taken { 1 ≤ stack.height }
         requires space { stack.low + stack.height < length words.now }
-        ensures { let d = self.old in Made self.new words.now stack [] result
+        ensures made { let d = self.old in Made self.new words.now stack [] result
             (λ x. One (stack_of words.now stack) (λ w under. x ≡ goes (with_row d n (slice_set (row d n) 0 w)) (w ∷ under))) }
+        ensures keeps { LeavesOne 1 stack result words.now words.now }
     {
         let word = word_under(words, stack, 0);
         set_cell(&mut self.cells, n, 0, word);
@@ -71,6 +73,7 @@ impl WordData {
         ensures made { let d = self.now in Made d words.new stack [] result
             (λ x. One (stack_of words.old stack) (λ i under. x ≡ read_element d n i under)) }
         ensures elsewhere { IsSameOutside stack.low (stack.low + stack.height + 1) words.old words.new }
+        ensures keeps { LeavesOne 1 stack result words.old words.new }
     {
         let index = word_under(words, stack, 0);
         match cell(self.cells.as_slice(), n, index as usize) {
@@ -86,6 +89,7 @@ impl WordData {
         ensures made { Made self.new words.new stack [] result
             (λ x. Two (stack_of words.old stack) (λ w i under. x ≡ write_element self.old n i w under)) }
         ensures elsewhere { IsSameOutside stack.low (stack.low + stack.height + 1) words.old words.new }
+        ensures keeps { LeavesOne 2 stack result words.old words.new }
     {
         let word = word_under(words, stack, 0);
         let index = word_under(words, stack, 1);

@@ -7,7 +7,7 @@ ghost use Rattle.program_locks.specs.Locking.{holder_of, init_answer, lock_answe
 ghost use Rattle.thread_state.specs.Frames.{IsSameOutside};
 ghost use Rattle.code_runs.specs.CodeData.{Data};
 ghost use Rattle.code_runs.specs.SharedStops.{with_holders};
-ghost use Rattle.word_data.specs.Performing.{Calls, Settles};
+ghost use Rattle.word_data.specs.Performing.{Calls, LeavesOne, Settles};
 
 use crate::shared::WordData;
 use crate::stack::leave;
@@ -30,6 +30,7 @@ fn answered(answer: LockAnswer, words: &mut [u64], stack: Stack) -> Did
     requires { stack.low + stack.height < length words.old }
     ensures calls { (old new : Data) → Settles answer old new → Calls answer old new words.old stack result words.new }
     ensures elsewhere { IsSameOutside stack.low (stack.low + stack.height + 1) words.old words.new }
+    ensures keeps { LeavesOne 0 stack result words.old words.new }
 {
     match answer {
         LockAnswer::Done => leave(words, stack, 0, 0),
@@ -39,11 +40,22 @@ fn answered(answer: LockAnswer, words: &mut [u64], stack: Stack) -> Did
 }
 
 impl WordData {
+    /// The slot of the thread that holds the mutex with a number, if one does.
+    pub fn holder(&self, n: u32) -> Option<u8>
+        ensures { result ≡ holder_of self.now.holders n }
+    {
+        match mutex(self.mutexes, n) {
+            Some(name) => self.locks.holder(name),
+            None => None,
+        }
+    }
+
     /// Makes a mutex free where nobody holds it.
     pub(crate) fn initialise(&self, n: u32, words: &mut [u64], stack: Stack) -> Did
         requires { stack.low + stack.height < length words.old }
         ensures calls { let d = self.now in Calls (init_answer (holder_of d.holders n)) d d words.old stack result words.new }
         ensures elsewhere { IsSameOutside stack.low (stack.low + stack.height + 1) words.old words.new }
+        ensures keeps { LeavesOne 0 stack result words.old words.new }
     {
         let answer = match mutex(self.mutexes, n) {
             Some(name) => self.locks.init(name),
@@ -59,6 +71,7 @@ impl WordData {
         ensures holders { self.new ≡ with_holders self.old (slice_set self.old.holders n (locked (holder_of self.old.holders n) slot)) }
         ensures calls { Calls (lock_answer (holder_of self.old.holders n) slot) self.old self.new words.old stack result words.new }
         ensures elsewhere { IsSameOutside stack.low (stack.low + stack.height + 1) words.old words.new }
+        ensures keeps { LeavesOne 0 stack result words.old words.new }
     {
         let answer = match mutex(self.mutexes, n) {
             Some(name) => self.locks.lock(name, slot),
@@ -73,6 +86,7 @@ impl WordData {
         ensures holders { self.new ≡ with_holders self.old (slice_set self.old.holders n (unlocked (holder_of self.old.holders n) slot)) }
         ensures calls { Calls (unlock_answer (holder_of self.old.holders n) slot) self.old self.new words.old stack result words.new }
         ensures elsewhere { IsSameOutside stack.low (stack.low + stack.height + 1) words.old words.new }
+        ensures keeps { LeavesOne 0 stack result words.old words.new }
     {
         let answer = match mutex(self.mutexes, n) {
             Some(name) => self.locks.unlock(name, slot),

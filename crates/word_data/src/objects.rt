@@ -8,7 +8,7 @@ ghost use Rattle.thread_state.specs.Frames.{IsSameOutside};
 ghost use Rattle.code_runs.specs.CodeData.{new_object};
 ghost use Rattle.code_runs.specs.SharedStops.{One, Two, goes, handle_word, on_object, release, with_objects};
 ghost use Rattle.word_data.specs.Stacks.{stack_of};
-ghost use Rattle.word_data.specs.Performing.{Made};
+ghost use Rattle.word_data.specs.Performing.{LeavesOne, Made};
 
 use crate::shared::WordData;
 use crate::stack::{leave, word_under};
@@ -59,6 +59,7 @@ impl WordData {
         ensures made { let d = self.now in Made d words.new stack [] result
             (λ x. One (stack_of words.old stack) (λ h under. x ≡ on_object d h (λ o. goes d (slice_index_or o.fields n 0 ∷ under)))) }
         ensures elsewhere { IsSameOutside stack.low (stack.low + stack.height + 1) words.old words.new }
+        ensures keeps { LeavesOne 1 stack result words.old words.new }
     {
         let handle = word_under(words, stack, 0);
         if handle == 0 {
@@ -78,6 +79,7 @@ impl WordData {
             (λ x. Two (stack_of words.old stack) (λ w h under. x ≡ on_object d h (λ o.
             goes (with_objects d (with_object d.objects h (record o { fields = slice_set o.fields n w }))) (w ∷ under)))) }
         ensures elsewhere { IsSameOutside stack.low (stack.low + stack.height + 1) words.old words.new }
+        ensures keeps { LeavesOne 2 stack result words.old words.new }
     {
         let word = word_under(words, stack, 0);
         let handle = word_under(words, stack, 1);
@@ -104,6 +106,7 @@ impl WordData {
             (λ x. (handle : Option ℕ) × ((after : Store) × (Creates d.objects (new_object tag) handle after
             × (x ≡ goes (with_objects d after) (handle_word handle ∷ stack_of words.old stack)))))) }
         ensures elsewhere { IsSameOutside stack.low (stack.low + stack.height + 1) words.old words.new }
+        ensures keeps { IfOk result (λ did. LeavesOne 0 stack did words.old words.new) }
         ensures fault { OnErr result ((self.new ≡ self.old) × (words.new ≡ words.old)) }
         ensures cause { OnErr result (self.old.objects.created ≡ creation_limit) }
     {
@@ -124,6 +127,7 @@ impl WordData {
         ensures made { Made self.new words.new stack [] result
             (λ x. One (stack_of words.old stack) (λ h under. x ≡ release self.old h under)) }
         ensures elsewhere { IsSameOutside stack.low (stack.low + stack.height + 1) words.old words.new }
+        ensures keeps { LeavesOne 1 stack result words.old words.new }
     {
         let handle = word_under(words, stack, 0);
         if handle != 0 && !self.objects.end(Handle::new(handle)) {

@@ -1,5 +1,5 @@
 //! What is kept, and which stop does what.
-ghost use Rattle.std.specs.Prelude.{◌≡◌, ◌+◌, ◌++◌, ◌<◌, ◌≤◌, IfOk, List, None, OnErr, length, map, replicate, ℕ};
+ghost use Rattle.std.specs.Prelude.{◌≡◌, ◌+◌, ◌++◌, ◌<◌, ◌≤◌, IfOk, List, None, OnErr, OnOk, length, map, replicate, vec_capacity, ℕ};
 ghost use Rattle.std.specs.FinMap.{empty};
 ghost use Rattle.name_sets.specs.Limit.{most_names};
 ghost use Rattle.c_tree.specs.BareDef.{BareDef};
@@ -9,7 +9,8 @@ ghost use Rattle.resolved_tree.specs.Trees.{table};
 ghost use Rattle.thread_state.specs.Frames.{IsSameOutside};
 ghost use Rattle.code_runs.specs.CodeData.{Names};
 ghost use Rattle.word_data.specs.Resolved.{Resolves, takes};
-ghost use Rattle.word_data.specs.Performing.{MayFail, Performs};
+ghost use Rattle.word_data.specs.Lengths.{longest_of};
+ghost use Rattle.word_data.specs.Performing.{LeavesOne, MayFail, Performs};
 
 use crate::print::print_newest;
 use crate::stop::{Did, SharedStop, Stack};
@@ -69,11 +70,12 @@ impl WordData {
     }
 
     /// Makes a stop of the thread in a slot. It takes its words from the top of the stack, which is a part of `words`, and leaves its own
-    /// there, for which there is room for one more; its bytes are added to `printed`. `trees` has the text of its format.
+    /// there, for which there is room for one more; its bytes are added to `printed`. `trees` has the text of its format. Where it traps
+    /// or waits, no word has changed.
     ///
     /// It takes the same time whatever the number of globals, objects, mutexes and slots; a print takes time linear in its bytes. Out of
-    /// memory only where a print's bytes don't fit into `printed`, which has a prefix of them then, or where a creation would be the
-    /// one after 2^32 - 1 others; nothing else has changed then.
+    /// memory only where `printed` has no room for as many bytes as the print writes at most ([`longest_print`]), and then it may have
+    /// got a prefix of them; or where a creation would be the one after 2^32 - 1 others. Nothing else has changed then.
     pub fn perform(
         &mut self,
         trees: &Trees,
@@ -90,8 +92,11 @@ impl WordData {
             → IfOk result (λ did. (bytes : List ℕ) × ((printed.new.items ≡ printed.old.items ++ bytes)
             × Performs names text slot seen stack self.old words.old did self.new words.new bytes)) }
         ensures elsewhere { IsSameOutside stack.low (stack.low + stack.height + 1) words.old words.new }
+        ensures keeps { IfOk result (λ did. LeavesOne (takes stop) stack did words.old words.new) }
+        ensures long { OnOk result (length printed.new.items ≤ length printed.old.items + longest_of (table trees.now) stop) }
+        ensures capacity { vec_capacity printed.old ≤ vec_capacity printed.new }
         ensures fault { OnErr result ((self.new ≡ self.old) × (words.new ≡ words.old)) }
-        ensures cause { OnErr result (MayFail stop self.old) }
+        ensures cause { OnErr result (MayFail (table trees.now) stop self.old printed.old) }
     {
         match stop {
             SharedStop::ReadGlobal(n) => Ok(self.read_global(n, words, stack)),

@@ -2,6 +2,7 @@
 ghost use Rattle.std.specs.Prelude.{◌≡◌, ◌+◌, ◌<◌, ◌≤◌, ◌∷◌, Some, drop, length, slice_get};
 ghost use Rattle.thread_state.specs.Frames.{IsSameOutside};
 ghost use Rattle.word_data.specs.Stacks.{Leaves, stack_of};
+ghost use Rattle.word_data.specs.Performing.{LeavesOne};
 
 use crate::stop::{Did, Stack};
 
@@ -22,6 +23,7 @@ pub(crate) fn leave(words: &mut [u64], stack: Stack, taken: usize, word: u64) ->
     requires space { stack.low + stack.height < length words.old }
     ensures leaves { Leaves words.new stack result (word ∷ drop taken (stack_of words.old stack)) }
     ensures elsewhere { IsSameOutside stack.low (stack.low + stack.height + 1) words.old words.new }
+    ensures keeps { LeavesOne taken stack result words.old words.new }
 {
     let height = stack.height - taken;
     words[stack.low + height] = word;

@@ -1,5 +1,6 @@
 //! Prints.
 use crate::Bench;
+use word_data::longest_print;
 
 /// The word of -1, and of the least `int` and the least `long`.
 const MINUS_ONE: u64 = u64::MAX;
@@ -46,4 +47,13 @@ fn bytes_are_added_to_those_before(rt: HostRuntime) {
     assert!(rt; bench.prints("%d ", 1, &[41], "41 "));
     assert!(rt; bench.print_more("and 42"));
     assert!(rt; bench.printed() == b"41 and 42".as_slice());
+}
+
+#[test]
+fn the_longest_print_of_a_format(rt: HostRuntime) {
+    assert!(rt; longest_print("") == Some(0));
+    assert!(rt; longest_print("no word\n") == Some(8));
+    assert!(rt; longest_print("%d") == Some(20));
+    assert!(rt; longest_print("%%%%") == Some(2));
+    assert!(rt; longest_print("a%ld, %lu%% %u\n") == Some(66));
 }

@@ -65,10 +65,10 @@ pub record HasArguments (s : Frames) (count : ℕ) : Type 0 where
   pub few : count ≤ most_variables
   pub inside : arguments_at (depth_of s) s.frames.items + count ≤ base_of (depth_of s)
 
--- the words of each frame are there, no stack is too high, and there is memory for as many frames as a thread may have
+-- the words of each frame are there and one more after them, no stack is too high, and there is memory for as many frames as a thread may have
 pub record IsKept (s : Frames) : Type 0 where
   pub few : depth_of s ≤ frame_count
-  pub words : base_of (depth_of s) ≤ length s.words.items
+  pub words : base_of (depth_of s) < length s.words.items
   pub low : (n : ℕ) → n < depth_of s → (frame_at s n).height ≤ most_words
-  pub words_fit : base_of frame_count ≤ vec_capacity s.words
+  pub words_fit : base_of frame_count < vec_capacity s.words
   pub frames_fit : frame_count ≤ vec_capacity s.frames

@@ -43,7 +43,7 @@ impl Frames {
     {
         let from = self.arguments();
         let to = base(self.frames.len());
-        fill(&mut self.words, to + BLOCK);
+        fill(&mut self.words, to + BLOCK + 1);
         copy_reversed(&mut self.words, from, to, count);
         self.frames.push_reserved(Frame {
             function,

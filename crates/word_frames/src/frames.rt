@@ -13,7 +13,7 @@ pub const MOST_FRAMES: usize = 256;
 
 /// The frames of a thread, the innermost last, and their words: first the argument with which the thread starts, and then a block
 /// for each frame, the outermost first. A block has the words of the variables, and after them those of the stack, the newest
-/// last. Words above a stack mean nothing, but for the arguments of a function that is to be entered.
+/// last. Words above a stack mean nothing, but for the arguments of a function that is to be entered; one follows the last block.
 #[derive(Drop)]
 pub struct Frames {
     pub words: Vec<u64>,
@@ -26,7 +26,8 @@ impl Frames {
         ensures kept { IfOk result (λ s. IsKept s) }
         ensures empty { IfOk result (λ s. s.frames.items ≡ []) }
     {
-        let mut words = Vec::with_capacity(alloc, 1 + MOST_FRAMES * BLOCK)?;
+        let mut words = Vec::with_capacity(alloc, 2 + MOST_FRAMES * BLOCK)?;
+        words.push_reserved(0);
         words.push_reserved(0);
         let frames = Vec::with_capacity(alloc, MOST_FRAMES)?;
         Ok(Frames { words, frames })
@@ -60,7 +61,7 @@ impl Frames {
         ensures low { result.0 ≡ stack_base self.now }
         ensures height { result.1 ≡ (innermost self.now).height }
         ensures few { result.1 ≤ most_words }
-        ensures space { result.0 + most_words ≤ length self.now.words.items }
+        ensures space { result.0 + most_words < length self.now.words.items }
     {
         let last = self.frames.len() - 1;
         (base(last) + variables(), self.frames[last].height)

@@ -1,21 +1,21 @@
 use crate::driver::{Ending, run};
 use word_frames::{Frames, MOST_FRAMES};
 
-/// The words of a thread as deep as may be: the first, and 130 for each frame.
-const MOST: usize = 1 + MOST_FRAMES * 130;
+/// The words of a thread as deep as may be: the first, 130 for each frame, and the spare one.
+const MOST: usize = 2 + MOST_FRAMES * 130;
 
 #[test]
 fn arguments_come_in_order(rt: HostRuntime) {
     let mut frames = Frames::new(rt.alloc()).expect(&rt, "memory");
     assert_eq!(rt; run(&mut frames, 0, None), Ending::Returned(753));
     assert_eq!(rt; frames.depth(), 1);
-    assert_eq!(rt; frames.words.len(), 1 + 2 * 130);
+    assert_eq!(rt; frames.words.len(), 2 + 2 * 130);
 }
 
 #[test]
 fn calls_are_as_deep_as_may_be(rt: HostRuntime) {
     let mut frames = Frames::new(rt.alloc()).expect(&rt, "memory");
-    assert_eq!(rt; frames.words.len(), 1);
+    assert_eq!(rt; frames.words.len(), 2);
     assert_eq!(rt; run(&mut frames, 2, Some(255)), Ending::Returned(32_640));
     assert_eq!(rt; frames.words.len(), MOST);
     assert_eq!(rt; frames.words.capacity(), MOST);

@@ -18,7 +18,7 @@ loop-place-preserved c = λ w install.
     ap (λ news. objects_of t (with_new news os)) c.in_ok-add_new.ensures
     ∙ brought_more t (brought w.text (text_at c.args.program.now c.args.number)) os c.loop-place.news.items c.loop-place.place o c.in_ok-fields.fields
     within c.index-objects-place.is (c.loop-place.invariant w install)
-    (c.in_ok-fields.ensures w install.follows (holds_of (Fits w.text) t os w.objects c.loop-place.place o shared install.fits.objects within c.index-objects-place.is))
+    (c.in_ok-fields.ensures w install.follows (holds_of (Fits w.text) t os w.objects c.loop-place.place o shared install.fits within c.index-objects-place.is))
 
 pub returns : goal.returns
 returns c = λ w install.

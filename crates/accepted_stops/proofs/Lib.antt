@@ -1,0 +1,5 @@
+pub mod Fitting
+pub mod TreeStops
+pub mod FewNames
+pub mod FoundNames
+pub mod Stops

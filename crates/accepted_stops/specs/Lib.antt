@@ -1,0 +1,2 @@
+pub mod StopNames
+pub mod FittingCode

@@ -1,0 +1,3 @@
+pub mod StopHeights
+pub mod Acts
+pub mod Images

@@ -1,0 +1,271 @@
+-- What a machine's slot has of the thread in it.
+use Rattle.std.proofs.Common.{◌≡◌, ℕ, zero, suc, ◌-◌, ◌<◌, ◌≤◌, true, false, List, [], ◌∷◌, map, length, drop, inl, inr, option_map, slice_get, Option, Some, None, All, refl, sym, ap, subst, ◌∙◌, arith}
+use Rattle.std.specs.Prelude.{MatchOption, slice_index_or, unwrap_or}
+use Rattle.std.specs.Option.{option_flatten}
+use Rattle.std.proofs.lemmas.List.Elements.{All-get_or}
+use Rattle.std.proofs.lemmas.Option.{get_or_from_slice_get, slice_get-map, slice_get_within}
+use Rattle.run_types.specs.declared.trap.TrapKind.{TrapKind}
+use Rattle.c_tree.specs.BareDef.{BareDef}
+use Rattle.resolved_tree.specs.Nodes.{Table, word}
+use Rattle.local_evaluation.specs.Pieces.{stop_of}
+use Rattle.bytecode.specs.Meaning.{Traps, step}
+use Rattle.bytecode.specs.Seen.{code_of}
+use Rattle.tree_code.specs.CodedPieces.{Stops}
+use Rattle.thread_state.specs.declared.steps.End.{End}
+use Rattle.thread_state.specs.declared.steps.End.TheVariants.{Rests as RestsThere, Traps as TrapsThere}
+use Rattle.code_runs.specs.CodeThreads.{CodeEnter, CodeFrame, CodeSlot, CodeThread, CodeWorld}
+use Rattle.code_runs.specs.CodeThreads as seen
+use Rattle.code_runs.specs.CodeMoves.{frame_code}
+use Rattle.code_runs.specs.CodeWaits.{in_slot}
+use Rattle.word_frames.specs.declared.frame.Frame.{Frame}
+use Rattle.word_frames.specs.Seen.{depth_of, frame_of, frames_below, frames_of, innermost, stack_of}
+use Rattle.word_frames.specs.Seen as frames
+use Rattle.word_frames.proofs.FrameLists.{innermost_first}
+use Rattle.code_image.specs.declared.act.StopPlace.{StopPlace}
+use Rattle.code_image.specs.declared.function.CodeFunction.{CodeFunction}
+use Rattle.code_image.specs.declared.image.CodeImage.{CodeImage}
+use Rattle.code_image.specs.Acts.{IsStopPlace}
+use Rattle.code_image.specs.Images.{IsFunctionOf, IsImage, names_of}
+use Rattle.code_machine.specs.declared.running.Next.{Next}
+use Rattle.code_machine.specs.declared.running.Next.TheVariants.{Enters, Stands}
+use Rattle.code_machine.specs.declared.running.Running.{Running}
+use Rattle.code_machine.specs.Kept.{Fits, Stood, end_of}
+use Rattle.code_machine.specs.Queries.{HasNoStop, IsNextStop, RestsIn, entered_by, entering_in, frames_by, frames_in, in_transaction, is_live}
+use Rattle.code_machine.specs.Seen.{enter_of, no_frame, thread_by, thread_of, words_of}
+use Rattle.code_machine.proofs.Fitting.{traps_is}
+use Rattle.code_machine.proofs.Going.{code_is}
+
+-- ---- what is in a slot
+
+pub in_there : (f : Running → CodeSlot) (slots : List Running) (t : ℕ) (r : Running) → slice_get slots t ≡ Some r
+    → slice_index_or (map f slots) t seen.Free ≡ f r
+in_there f slots t r e =
+    get_or_from_slice_get (map f slots) t (f r) seen.Free (slice_get-map f slots t ∙ ap (option_map f) e)
+
+pub none_in : (f : Running → CodeSlot) (slots : List Running) (t : ℕ) → slice_get slots t ≡ None
+    → slice_index_or (map f slots) t seen.Free ≡ seen.Free
+none_in f [] t e = refl
+none_in f (s ∷ slots) zero e = cc
+none_in f (s ∷ slots) (suc t) e = none_in f slots t e
+
+pub some_at : {X : Type 0} (xs : List X) (i : ℕ) → i < length xs → (x : X) × (slice_get xs i ≡ Some x)
+some_at [] i h = absurd (omega (arith, h))
+some_at (x ∷ xs) zero h = (x, refl)
+some_at (x ∷ xs) (suc i) h = let within : i < length xs = omega (arith, h) in some_at xs i within
+
+-- where no thread lives
+pub no_frames : (x : CodeSlot) → is_live x ≡ false → frames_in x ≡ []
+no_frames seen.Free e = refl
+no_frames (seen.Live th) e = cc
+no_frames (seen.Over serial w) e = refl
+
+pub no_enter : (x : CodeSlot) → is_live x ≡ false → entering_in x ≡ None
+no_enter seen.Free e = refl
+no_enter (seen.Live th) e = cc
+no_enter (seen.Over serial w) e = refl
+
+pub no_transaction : (x : CodeSlot) → is_live x ≡ false → in_transaction x ≡ false
+no_transaction seen.Free e = refl
+no_transaction (seen.Live th) e = cc
+no_transaction (seen.Over serial w) e = refl
+
+pub rests_nowhere : (text : List BareDef) (w : CodeWorld) (slot : ℕ) → is_live (in_slot w slot) ≡ false → HasNoStop text w slot
+rests_nowhere text w slot e f h = absurd (no (sym (ap is_live h.lives) ∙ e))
+  where
+    no : true ≡ false → ⊥
+    no e = cc
+
+pub never_rests : (w : CodeWorld) (slot : ℕ) (f : CodeFrame) → is_live (in_slot w slot) ≡ false → RestsIn w slot f → ⊥
+never_rests w slot f e h = no (sym (ap is_live h.lives) ∙ e)
+  where
+    no : true ≡ false → ⊥
+    no e = cc
+
+-- ---- frames by how many calls they are above the innermost
+
+module _ (t : Table) (words : List ℕ) (all : List Frame) where
+  abbrev numbered : ℕ → CodeFrame
+  numbered k = frame_of t words k (slice_index_or all k frames.no_frame)
+
+  pub frame_up_is : (n up : ℕ) → up < n → slice_get (frames_below t words all n) up ≡ Some (numbered (n - 1 - up))
+  frame_up_is zero up h = absurd (omega (arith, h))
+  frame_up_is (suc n) zero h = let same : n ≡ suc n - 1 - 0 = omega arith in ap (λ k. Some (numbered k)) same
+  frame_up_is (suc n) (suc up) h =
+      let within : up < n = omega (arith, h) in
+      let same : n - 1 - up ≡ suc n - 1 - suc up = omega (arith, h) in
+      frame_up_is n up within ∙ ap (λ k. Some (numbered k)) same
+
+  pub no_frame_up : (n up : ℕ) → n ≤ up → slice_get (frames_below t words all n) up ≡ None
+  no_frame_up zero up h = refl
+  no_frame_up (suc n) zero h = absurd (omega (arith, h))
+  no_frame_up (suc n) (suc up) h = let past : n ≤ up = omega (arith, h) in no_frame_up n up past
+
+-- ---- the innermost frame
+
+at_function : (P : CodeFunction → Type 0) (functions : List CodeFunction) (n : ℕ) (g : CodeFunction) → All P functions
+    → slice_get functions n ≡ Some g → P g
+at_function P functions n g all e =
+    subst P (get_or_from_slice_get functions n g g e) (All-get_or P functions n g (slice_get_within functions n g e) all)
+
+found : (o : Option (Option StopPlace)) (x : StopPlace) → option_flatten o ≡ Some x → o ≡ Some (Some x)
+found None x e = cc
+found (Some None) x e = cc
+found (Some (Some y)) x e = ap Some e
+
+-- ---- a thread, by what it does next
+
+pub depth_is : (image : CodeImage) (r : Running) → (thread_of image r).depth ≡ r.depth
+depth_is image r = by r.next
+  where
+    by : (x : Next) → (thread_by image r x).depth ≡ r.depth
+    by (Enters n count) = refl
+    by (Stands end) = refl
+
+pub enters_name : (image : CodeImage) (r : Running) (n count : ℕ) (g : CodeFunction) → r.next ≡ Enters n count
+    → slice_get image.functions.items n ≡ Some g → Some (word (words_of image) g.name) ≡ entered_by (thread_of image r).next
+enters_name image r n count g is there =
+    sym (ap (λ x. entered_by (thread_by image r x).next) is
+    ∙ ap (λ o. Some (unwrap_or (option_map (λ (f : CodeFunction). word (words_of image) f.name) o) [])) there)
+
+pub stands_none : (image : CodeImage) (r : Running) (end : End) → r.next ≡ Stands end → entered_by (thread_of image r).next ≡ None
+stands_none image r end is = ap (λ x. entered_by (thread_by image r x).next) is
+
+module _ (image : CodeImage) (r : Running) (fits : Fits image.functions.items r) where
+  abbrev t : Table
+  t = words_of image
+
+  abbrev all_frames : List CodeFrame
+  all_frames = frames_of t r.frames
+
+  -- its frames, whatever it does next
+  whole : 0 < depth_of r.frames → slice_index_or all_frames 0 no_frame ∷ drop 1 all_frames ≡ all_frames
+  whole some =
+      let first = innermost_first t r.frames.words.items r.frames.frames.items (depth_of r.frames) some in
+      ap (λ fs. slice_index_or fs 0 no_frame ∷ drop 1 fs) first ∙ sym first
+
+  pub thread_frames : frames_by (thread_of image r).next (thread_of image r).below ≡ all_frames
+  thread_frames = by r.next refl
+    where
+      by : (x : Next) → r.next ≡ x → frames_by (thread_by image r x).next (thread_by image r x).below ≡ all_frames
+      by (Enters n count) is = refl
+      by (Stands end) is = whole (fits.stood end is).some
+
+  -- the innermost one, where it doesn't enter
+  module _ (end : End) (stands : r.next ≡ Stands end) where
+    stood : Stood image.functions.items r.frames end
+    stood = fits.stood end stands
+
+    pub some_frame : 0 < depth_of r.frames
+    some_frame = stood.some
+
+    abbrev pub last : CodeFrame
+    last = frame_of t r.frames.words.items (depth_of r.frames - 1) (innermost r.frames)
+
+    abbrev pub under : List CodeFrame
+    under = frames_below t r.frames.words.items r.frames.frames.items (depth_of r.frames - 1)
+
+    all_are : all_frames ≡ last ∷ under
+    all_are = innermost_first t r.frames.words.items r.frames.frames.items (depth_of r.frames) some_frame
+
+    pub rests : (thread_of image r).next ≡ seen.Rests last
+    rests = ap (λ x. (thread_by image r x).next) stands ∙ ap (λ fs. seen.Rests (slice_index_or fs 0 no_frame)) all_are
+
+    module _ (text : List BareDef) (is : IsImage text image) (g : CodeFunction) (there : slice_get image.functions.items (innermost r.frames).unit ≡ Some g) where
+      pub function : IsFunctionOf t text image.functions.items g
+      function =
+          at_function (IsFunctionOf t text image.functions.items) image.functions.items (innermost r.frames).unit g is.functions there
+
+      pub same_code : frame_code (text ∷ []) last ≡ code_of t g.verified.body.code.items
+      same_code =
+          let last_one : depth_of r.frames - 1 < depth_of r.frames = let some = some_frame in omega (arith, some) in
+          code_is text image r.frames g last under is some_frame (fits.frames (depth_of r.frames - 1) last_one) there all_are
+
+      -- how its private instructions ended
+      pub ended : end_of (step (frame_code (text ∷ []) last) last.state) ≡ Some end
+      ended = subst (λ code. end_of (step code last.state) ≡ Some end) (sym same_code) (stood.ends t g last under there all_are)
+
+  -- ---- where it rests
+
+  module _ (w : CodeWorld) (slot : ℕ) (lives : in_slot w slot ≡ seen.Live (thread_of image r)) where
+    -- the thread there, and its innermost frame, are these
+    same_thread : (th other : CodeThread) → seen.Live th ≡ seen.Live other → th ≡ other
+    same_thread th other e = cc
+
+    same_frame : (f other : CodeFrame) → seen.Rests f ≡ seen.Rests other → f ≡ other
+    same_frame f other e = cc
+
+    enters_not : (e : CodeEnter) (f : CodeFrame) → seen.Enters e ≡ seen.Rests f → ⊥
+    enters_not e f is = cc
+
+    next_of_it : (f : CodeFrame) → RestsIn w slot f → (thread_of image r).next ≡ seen.Rests f
+    next_of_it f h =
+        ap (λ (th : CodeThread). th.next) (same_thread (thread_of image r) h.thread (sym lives ∙ h.lives)) ∙ h.next
+
+    pub last_is : (end : End) (stands : r.next ≡ Stands end) (f : CodeFrame) → RestsIn w slot f → last end stands ≡ f
+    last_is end stands f h = same_frame (last end stands) f (sym (rests end stands) ∙ next_of_it f h)
+
+    -- it rests nowhere where it enters
+    pub never_enters : (n count : ℕ) → r.next ≡ Enters n count → (f : CodeFrame) → RestsIn w slot f → ⊥
+    never_enters n count enters f h =
+        enters_not (enter_of image r.frames n count) f (sym (ap (λ x. (thread_by image r x).next) enters) ∙ next_of_it f h)
+
+    -- the stack of the frame that rests
+    pub stack_is : (f : CodeFrame) → RestsIn w slot f → (0 < depth_of r.frames) × (f.state.stack ≡ stack_of r.frames (innermost r.frames).height)
+    stack_is f h = by r.next refl
+      where
+        by : (x : Next) → r.next ≡ x → (0 < depth_of r.frames) × (f.state.stack ≡ stack_of r.frames (innermost r.frames).height)
+        by (Enters n count) is = absurd (never_enters n count is f h)
+        by (Stands end) is = (some_frame end is, ap (λ (g : CodeFrame). g.state.stack) (sym (last_is end is f h)))
+
+    module _ (text : List BareDef) (is : IsImage text image) (g : CodeFunction)
+        (there : slice_get image.functions.items (innermost r.frames).unit ≡ Some g) where
+      -- a stop is there
+      pub next_stop_is : r.next ≡ Stands RestsThere → (x : StopPlace)
+          → option_flatten (slice_get g.stops.items (innermost r.frames).place) ≡ Some x → IsNextStop text image w slot x
+      next_stop_is stands x e =
+          let at : IsStopPlace t (names_of text) text image.functions.items (code_of t g.verified.body.code.items) (innermost r.frames).place x =
+          (function RestsThere stands text is g there).stops (innermost r.frames).place x
+          (found (slice_get g.stops.items (innermost r.frames).place) x e) in
+          record {
+            frame = last RestsThere stands;
+            rests = record { thread = thread_of image r; lives = lives; next = rests RestsThere stands };
+            stops =
+                subst (λ code. Stops code (stop_of t x.stop) x.point (innermost r.frames).place x.after)
+                (sym (same_code RestsThere stands text is g there)) at.stops;
+            acts = at.acts;
+          }
+
+      -- none is
+      pub none_there : r.next ≡ Stands RestsThere → option_flatten (slice_get g.stops.items (innermost r.frames).place) ≡ None
+          → HasNoStop text w slot
+      none_there stands e f h =
+          inr (λ s n after stops.
+          (function RestsThere stands text is g there).others (innermost r.frames).place s n after e
+          (subst (λ code. Stops code s n (innermost r.frames).place after) (same_code RestsThere stands text is g there)
+          (subst (λ y. Stops (frame_code (text ∷ []) y) s n y.state.place after) (sym (last_is RestsThere stands f h)) stops)))
+
+      pub stop_or_none : r.next ≡ Stands RestsThere → (o : Option StopPlace) → o ≡ option_flatten (slice_get g.stops.items (innermost r.frames).place)
+          → MatchOption o (HasNoStop text w slot) (IsNextStop text image w slot)
+      stop_or_none stands None e = none_there stands (sym e)
+      stop_or_none stands (Some x) e = next_stop_is stands x (sym e)
+
+      -- an operator traps
+      pub traps_there : (kind : TrapKind) → r.next ≡ Stands (TrapsThere kind) → HasNoStop text w slot
+      traps_there kind stands f h =
+          inl (
+            kind,
+            subst (λ y. step (frame_code (text ∷ []) y) y.state ≡ Traps kind) (last_is (TrapsThere kind) stands f h)
+                (traps_is (step (frame_code (text ∷ []) (last (TrapsThere kind) stands)) (last (TrapsThere kind) stands).state) kind (ended (TrapsThere kind) stands text is g there)),
+          )
+
+    -- the same, of a function that is there
+    pub none_traps : (kind : TrapKind) → r.next ≡ Stands (TrapsThere kind) → (text : List BareDef) → IsImage text image → HasNoStop text w slot
+    none_traps kind stands text is =
+        let some = some_frame (TrapsThere kind) stands in
+        let last_one : depth_of r.frames - 1 < depth_of r.frames = omega (arith, some) in
+        let own = fits.frames (depth_of r.frames - 1) last_one in
+        let g = some_at image.functions.items (innermost r.frames).unit own.inside in traps_there text is g.0 g.1 kind stands
+
+    -- it rests at no stop where it enters
+    pub none_enters : (n count : ℕ) → r.next ≡ Enters n count → (text : List BareDef) → HasNoStop text w slot
+    none_enters n count enters text f h = absurd (never_enters n count enters f h)

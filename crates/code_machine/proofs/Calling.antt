@@ -1,0 +1,132 @@
+-- What is kept of a thread that calls and returns.
+use Rattle.std.proofs.Common.{◌≡◌, inl, inr, ℕ, suc, ◌+◌, ◌-◌, ◌<◌, ◌≤◌, List, length, take, false, Some, sym, subst, ap, ◌∙◌, arith}
+use Rattle.std.specs.Prelude.{slice_get, slice_index_or, slice_set}
+use Rattle.std.proofs.lemmas.Bool.{cases_eq}
+use Rattle.code_kinds.specs.WellFormed.{most_variables}
+use Rattle.thread_state.specs.declared.steps.End.TheVariants.{Rests as RestsThere}
+use Rattle.thread_state.specs.Frames.{most_words}
+use Rattle.thread_state.specs.Turns.{no_names}
+use Rattle.word_frames.specs.declared.frame.Frame.{Frame}
+use Rattle.word_frames.specs.declared.frames.Frames.{Frames}
+use Rattle.word_frames.specs.Changes.{with_innermost}
+use Rattle.word_frames.specs.Seen.{HasArguments, IsKept, depth_of, frame_at, innermost, no_frame}
+use Rattle.word_frames.proofs.FrameLists.{Replaces, popped}
+use Rattle.code_image.specs.declared.act.Act.TheVariants.{Call as CallAct}
+use Rattle.code_image.specs.declared.act.StopPlace.{StopPlace}
+use Rattle.code_image.specs.declared.function.CodeFunction.{CodeFunction}
+use Rattle.code_image.specs.declared.image.CodeImage.{CodeImage}
+use Rattle.code_image.specs.StopHeights.{LeadsTo, act_leaves, act_takes, returns}
+use Rattle.code_machine.specs.declared.running.Next.TheVariants.{Enters}
+use Rattle.code_machine.specs.declared.running.Running.{Running}
+use Rattle.code_machine.specs.Kept.{Fits, HasHeightAt, IsFrame, Stood, Wait}
+use Rattle.code_machine.specs.Stops.{CanGoOn, RestsAt}
+use Rattle.code_machine.proofs.Lists.{some}
+use Rattle.code_machine.proofs.Fitting.{are_frames, depth_is, frame_moved, innermost_is, moved, wait_still}
+use Rattle.code_machine.proofs.Resuming.{frame_there, height_after, stood_there, words_there}
+use Rattle.code_machine.proofs.Starting.{first_of, not_stands, second_of}
+
+-- what an act leads to
+pub leads_so : (image : CodeImage) (r : Running) (x : StopPlace) → RestsAt image.functions.items r x → LeadsTo (length image.functions.items) x.act
+leads_so image r x rests =
+    let here : IsFrame image.functions.items (innermost r.frames) = frame_there image.functions.items r x rests in
+    let found : (g : CodeFunction) × (slice_get image.functions.items (innermost r.frames).unit ≡ Some g) = some image.functions.items (innermost r.frames).unit here.inside in
+    image.leads (innermost r.frames).unit found.0 found.1 (innermost r.frames).place x (rests.there found.0 found.1)
+
+-- ---- a call
+module _ (image : CodeImage) (r : Running) (x : StopPlace) (n count : ℕ) (rests : RestsAt image.functions.items r x) (act : x.act ≡ CallAct n count) where
+  pub takes_so : count ≤ (innermost r.frames).height
+  takes_so = subst (λ a. act_takes a ≤ (innermost r.frames).height) act (words_there image.functions.items r x rests)
+
+  pub calls_one : n < length image.functions.items
+  calls_one = (subst (LeadsTo (length image.functions.items)) act (leads_so image r x rests)).within
+
+  pub few_arguments : count ≤ most_variables
+  few_arguments = (subst (LeadsTo (length image.functions.items)) act (leads_so image r x rests)).few
+
+  pub call_fits : (mid : Frames) → mid.frames.items ≡ with_innermost r.frames (moved (innermost r.frames) x.point x.after ((innermost r.frames).height - count))
+      → IsKept mid → HasArguments mid count → Fits image.functions.items (record r { frames = mid; next = Enters n count })
+  call_fits mid frames kept there =
+      let functions : List CodeFunction = image.functions.items in
+      let stood : Stood functions r.frames RestsThere = stood_there functions r x rests in
+      let h : ℕ = (innermost r.frames).height - count in
+      let f : Frame = moved (innermost r.frames) x.point x.after h in
+      let deep : depth_of mid ≡ depth_of r.frames = depth_is functions r.frames mid f stood.some frames in
+      let last : ◌≡◌ {A = Frame} (innermost mid) f = innermost_is functions r.frames mid f stood.some frames in
+      let height : suc h ≡ (innermost r.frames).height - act_takes x.act + act_leaves x.act =
+      rw act (omega arith) in
+      let goes : returns x.act ≡ false = ap returns act in
+      let after : HasHeightAt functions (innermost r.frames) x.after (suc h) = height_after functions r x rests (suc h) goes height in
+      let here : HasHeightAt functions (innermost mid) (innermost mid).place (suc (innermost mid).height) =
+      subst (λ (q : Frame). HasHeightAt functions q q.place (suc q.height)) (sym last) after in
+      let still : Wait functions mid (depth_of r.frames - 1) = wait_still functions r.frames mid f stood.some frames stood.wait in
+      let end_at : depth_of r.frames - 1 ≡ depth_of mid - 1 = ap (λ (k : ℕ). k - 1) (sym deep) in
+      let all : Wait functions mid (depth_of mid) =
+      λ k p. elim (cases_eq k (depth_of mid - 1)) [
+        | inl same ↦ subst (λ (i : ℕ). HasHeightAt functions (frame_at mid i) (frame_at mid i).place (suc (frame_at mid i).height)) (sym same) here
+        | inr differs ↦ still k (omega (arith, p, differs, deep))
+      ] in
+      record {
+        kept = kept;
+        serial = rests.fits.serial;
+        frames = are_frames functions r.frames mid f stood.some frames (frame_moved functions (innermost r.frames) x.point x.after h (frame_there functions r x rests)) rests.fits.frames;
+        due = λ m c e. record {
+          inside = subst (λ (k : ℕ). k < length functions) (first_of n m count c e) calls_one;
+          there = subst (HasArguments mid) (second_of n m count c e) there;
+          wait = all;
+        };
+        stood = λ end e. absurd (not_stands n count end e);
+      }
+
+-- ---- a return to the frame that called
+module _ (functions : List CodeFunction) (r : Running) (x : StopPlace) (rests : RestsAt functions r x) (called : 1 < depth_of r.frames) where
+  waits_so : HasHeightAt functions (frame_at r.frames (depth_of r.frames - 2)) (frame_at r.frames (depth_of r.frames - 2)).place (suc (frame_at r.frames (depth_of r.frames - 2)).height)
+  waits_so = (stood_there functions r x rests).wait (depth_of r.frames - 2) (omega arith)
+
+  is_caller : IsFrame functions (frame_at r.frames (depth_of r.frames - 2))
+  is_caller = rests.fits.frames (depth_of r.frames - 2) (omega arith)
+
+  -- there is room for its word
+  pub room_for_it : (frame_at r.frames (depth_of r.frames - 2)).height < most_words
+  room_for_it =
+      let found : (g : CodeFunction) × (slice_get functions (frame_at r.frames (depth_of r.frames - 2)).unit ≡ Some g) = some functions (frame_at r.frames (depth_of r.frames - 2)).unit is_caller.inside in
+      let low : suc (frame_at r.frames (depth_of r.frames - 2)).height ≤ most_words =
+      ((found.0).fits.sound no_names).low (frame_at r.frames (depth_of r.frames - 2)).place (suc (frame_at r.frames (depth_of r.frames - 2)).height) (waits_so found.0 found.1) in
+      omega (arith, low)
+
+  module _ (mid : Frames) (kept : IsKept mid)
+      (frames : (let f = frame_at r.frames (depth_of r.frames - 2) in mid.frames.items ≡ slice_set (take (depth_of r.frames - 1) r.frames.frames.items) (depth_of r.frames - 2) (record f { height = f.height + 1 }))) where
+    made : Replaces r.frames.frames.items mid.frames.items (depth_of r.frames - 2)
+        (record (frame_at r.frames (depth_of r.frames - 2)) { height = (frame_at r.frames (depth_of r.frames - 2)).height + 1 })
+    made =
+        let high : depth_of r.frames - 1 ≡ suc (depth_of r.frames - 2) = omega (arith, called) in
+        let deep : suc (depth_of r.frames - 2) ≤ length r.frames.frames.items = omega (arith, called) in
+        rw (frames, high) (popped r.frames.frames.items (record (frame_at r.frames (depth_of r.frames - 2)) { height = (frame_at r.frames (depth_of r.frames - 2)).height + 1 }) (depth_of r.frames - 2) deep)
+
+    pub caller_there : 0 < depth_of mid
+    caller_there = omega (arith, made.long)
+
+    -- which goes on where it waits
+    pub caller_can : CanGoOn functions (record r { frames = mid }) (innermost mid).place (innermost mid).height
+    caller_can =
+        let n : ℕ = depth_of r.frames - 2 in
+        let f : Frame = frame_at r.frames (depth_of r.frames - 2) in
+        let g : Frame = record f { height = f.height + 1 } in
+        let deep : depth_of mid - 1 ≡ depth_of r.frames - 2 = omega (arith, made.long) in
+        let last : ◌≡◌ {A = Frame} (innermost mid) g = ap (λ (k : ℕ). slice_index_or mid.frames.items k no_frame) deep ∙ made.last in
+        let one : suc f.height ≡ f.height + 1 = omega arith in
+        let here : IsFrame functions g = record { version = is_caller.version; inside = is_caller.inside; function = is_caller.function } in
+        record {
+          kept = kept;
+          serial = rests.fits.serial;
+          frames = λ k p. elim (cases_eq k (depth_of r.frames - 2)) [
+            | inl same ↦ rw (same, made.last) here
+            | inr differs ↦ let h : k < depth_of r.frames - 2 = omega (arith, made.long, differs, p) in rw (made.others k h) (rests.fits.frames k (omega (arith, h)))
+          ];
+          some = caller_there;
+          high =
+              subst (λ (q : Frame). HasHeightAt functions q q.place q.height) (sym last)
+              (subst (λ (k : ℕ). HasHeightAt functions f f.place k) one waits_so);
+          wait = λ k p.
+              let h : k < depth_of r.frames - 2 = omega (arith, deep, p) in
+              rw (made.others k h) ((stood_there functions r x rests).wait k (omega (arith, h)));
+        }

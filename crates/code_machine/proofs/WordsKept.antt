@@ -1,0 +1,67 @@
+-- A thread whose words are kept elsewhere, and are the same or changed on its stack alone.
+use Rattle.std.proofs.Common.{◌≡◌, ℕ, ◌<◌, List, length, vec_capacity, refl, sym, subst, ap, ◌∙◌}
+use Rattle.std.specs.Prelude.{Vec}
+use Rattle.std.specs.declared.alloc.Global.{Global}
+use Rattle.source_model.specs.Moves.{frame_count}
+use Rattle.code_runs.specs.CodeThreads.{Live as LiveSlot}
+use Rattle.thread_state.specs.Frames.{upward}
+use Rattle.word_frames.specs.declared.frames.Frames.{Frames}
+use Rattle.word_frames.specs.Blocks.{base_of}
+use Rattle.word_frames.specs.Seen.{IsKept, arguments_at, depth_of, frames_below}
+use Rattle.code_image.specs.declared.function.CodeFunction.{CodeFunction}
+use Rattle.code_image.specs.declared.image.CodeImage.{CodeImage}
+use Rattle.code_machine.specs.declared.running.Next.{Next}
+use Rattle.code_machine.specs.declared.running.Next.TheVariants.{Enters, Stands}
+use Rattle.code_machine.specs.declared.running.Running.{Running}
+use Rattle.code_machine.specs.declared.running.Stand.{Stand}
+use Rattle.code_machine.specs.declared.running.Stand.TheVariants.{Free, Live, Over}
+use Rattle.code_machine.specs.Kept.{Due, Fits, Stood}
+use Rattle.code_machine.specs.Seen.{entering_with, name_at, slot_by, slot_of, standing_with, thread_by, words_of}
+
+-- as many words, with as much memory
+pub kept_words : (s : Frames) (v : Vec ℕ Global) → IsKept s → length v.items ≡ length s.words.items → vec_capacity v ≡ vec_capacity s.words
+    → IsKept (record s { words = v })
+kept_words s v kept long room = record {
+  few = kept.few;
+  words = subst (λ (n : ℕ). base_of (depth_of s) < n) (sym long) kept.words;
+  low = kept.low;
+  words_fit = subst (λ (n : ℕ). base_of frame_count < n) (sym room) kept.words_fit;
+  frames_fit = kept.frames_fit;
+}
+
+module _ (r : Running) (v : Vec ℕ Global) (same : v.items ≡ r.frames.words.items) where
+  -- the same words fit
+  pub fits_words : (functions : List CodeFunction) → IsKept (record r.frames { words = v }) → Fits functions r
+      → Fits functions (record r { frames = record r.frames { words = v } })
+  fits_words functions kept fits = record {
+    kept = kept;
+    serial = fits.serial;
+    frames = fits.frames;
+    due = λ n count e.
+        let d : Due functions r.frames n count = fits.due n count e in
+        record { inside = d.inside; there = record { few = d.there.few; inside = d.there.inside }; wait = d.wait };
+    stood = λ end e.
+        let s : Stood functions r.frames end = fits.stood end e in
+        record {
+          some = s.some;
+          height = s.height;
+          ends = λ t g f below found seen.
+              s.ends t g f below found (sym (ap (λ (ws : List ℕ). frames_below t ws r.frames.frames.items (depth_of r.frames)) same) ∙ seen);
+          wait = s.wait;
+        };
+  }
+
+  same_thread : (image : CodeImage) (n : Next) → thread_by image (record r { frames = record r.frames { words = v } }) n ≡ thread_by image r n
+  same_thread image (Enters n count) =
+      ap (λ (ws : List ℕ). entering_with r (record { function = name_at image n; arguments = upward ws (arguments_at (depth_of r.frames) r.frames.frames.items) count; version = 1 })
+      (frames_below (words_of image) ws r.frames.frames.items (depth_of r.frames))) same
+  same_thread image (Stands end) = ap (λ (ws : List ℕ). standing_with r (frames_below (words_of image) ws r.frames.frames.items (depth_of r.frames))) same
+
+  same_slot : (image : CodeImage) (s : Stand) → slot_by image (record r { frames = record r.frames { words = v } }) s ≡ slot_by image r s
+  same_slot image Free = refl
+  same_slot image Live = ap LiveSlot (same_thread image r.next)
+  same_slot image (Over word) = refl
+
+  -- and are seen as before
+  pub slot_words : (image : CodeImage) → slot_of image (record r { frames = record r.frames { words = v } }) ≡ slot_of image r
+  slot_words image = same_slot image r.stand

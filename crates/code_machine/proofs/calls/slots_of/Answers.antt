@@ -1,0 +1,27 @@
+use Rattle.std.proofs.Common.{◌≡◌, ◌+◌, [], ◌∷◌, ◌++◌, ℕ, List, length, map, Some, subst, ap, ◌∙◌, arith}
+use Rattle.std.specs.Prelude.{slice_get}
+use Rattle.std.proofs.lemmas.List.{length_push}
+use Rattle.code_runs.specs.CodeThreads.{Live, starting}
+use Rattle.code_machine.specs.declared.running.Running.{Running}
+use Rattle.code_machine.specs.Kept.{Fits}
+use Rattle.code_machine.specs.Seen.{name_at, slot_of}
+use Rattle.code_machine.proofs.Beginning.{one_fits, one_more}
+use Rattle.code_machine.proofs.calls.slots_of.Goals as goal
+
+pub loop-preserved : goal.loop-preserved
+loop-preserved c =
+    let i = c.loop.invariant in
+    let r = c.in_ok-new.field-0 in
+    let e : c.push-in-loop.new.self.items ≡ c.loop.slots.items ++ c.in_ok-new.field-0 ∷ [] = c.in_ok-push-2.ensures.items in
+    record {
+      some = omega arith;
+      few = omega (arith, c.loop-test.true, i.some);
+      long = ap length e ∙ length_push c.loop.slots.items r ∙ ap (λ (n : ℕ). n + 1) i.long;
+      fit = λ functions inside n x there.
+          one_fits (Fits functions) c.loop.slots.items r (i.fit functions inside) (c.in_ok-new.ensures.fits functions inside) n x
+          (subst (λ (rs : List Running). slice_get rs n ≡ Some x) e there);
+      seen = λ image.
+          ap (map (slot_of image)) e
+          ∙ one_more image c.loop.slots.items (Live (starting 0 (record { function = name_at image c.args.main; arguments = []; version = 1 }))) r c.loop.counter i.some
+          (i.seen image) c.in_ok-new.ensures.free;
+    }

@@ -1,0 +1,42 @@
+use Rattle.std.proofs.Common.{◌≡◌, ℕ, List, Option, Some, subst, sym}
+use Rattle.std.specs.Prelude.{slice_get}
+use Rattle.bytecode.specs.declared.instr.Instr.{Instr}
+use Rattle.bytecode.specs.Seen.{code_of}
+use Rattle.code_kinds.specs.WellFormed.{most_variables}
+use Rattle.thread_state.specs.Heights.{HasHeight, Sound}
+use Rattle.word_frames.specs.declared.frame.Frame.{Frame}
+use Rattle.word_frames.specs.Seen.{innermost}
+use Rattle.word_frames.specs.Changes as change
+use Rattle.code_machine.specs.Seen.{words_of}
+use Rattle.code_machine.proofs.Going.{fits_on, went_on}
+use Rattle.code_machine.proofs.running.Running.go_on.Goals as goal
+
+pub go_on-end-requires-clause-sound : goal.go_on-end-requires-clause-sound
+go_on-end-requires-clause-sound c = λ t.
+    let g = c.function-function.result.now in
+    subst (λ (hs : List (Option ℕ)). Sound (code_of t c.as_slice.result.now) most_variables hs) (sym c.as_slice-2.ensures.value)
+    (subst (λ (is : List Instr). Sound (code_of t is) most_variables g.verified.heights.items) (sym c.as_slice.ensures.value) (g.fits.sound t))
+
+pub returns-clause-fits : goal.returns-clause-fits
+returns-clause-fits c =
+    let g = c.function-function.result.now in
+    let functions = c.args.image.now.functions.items in
+    let old = c.args.self.now in
+    let new = c.go_on-end.new.self in
+    let found : slice_get functions (innermost old.frames).unit ≡ Some g =
+    subst (λ (f : Frame). slice_get functions f.unit ≡ Some g) c.innermost.ensures c.function-function.ensures in
+    let low : HasHeight g.verified.heights.items (innermost new).place (innermost new).height =
+    subst (λ (hs : List (Option ℕ)). HasHeight hs (innermost new).place (innermost new).height) c.as_slice-2.ensures.value c.go_on-end.ensures.height in
+    fits_on functions g old new c.args.point c.args.place c.args.height c.go_on-end.result c.requires found c.go_on-end.ensures.frames c.go_on-end.ensures.kept low
+    (λ t. subst (λ (is : List Instr). change.WentOn t is old.frames new c.args.point c.args.place c.args.height c.go_on-end.result) c.as_slice.ensures.value (c.go_on-end.ensures.goes t))
+
+pub returns-clause-went : goal.returns-clause-went
+returns-clause-went c = λ text is.
+    let g = c.function-function.result.now in
+    let functions = c.args.image.now.functions.items in
+    let old = c.args.self.now in
+    let new = c.go_on-end.new.self in
+    let found : slice_get functions (innermost old.frames).unit ≡ Some g =
+    subst (λ (f : Frame). slice_get functions f.unit ≡ Some g) c.innermost.ensures c.function-function.ensures in
+    went_on text c.args.image.now g old new c.args.point c.args.place c.args.height c.go_on-end.result is c.requires found
+    (subst (λ (is : List Instr). change.WentOn (words_of c.args.image.now) is old.frames new c.args.point c.args.place c.args.height c.go_on-end.result) c.as_slice.ensures.value (c.go_on-end.ensures.goes (words_of c.args.image.now)))

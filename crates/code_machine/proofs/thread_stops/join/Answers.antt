@@ -1,0 +1,88 @@
+use Rattle.std.proofs.Common.{◌≡◌, ℕ, List, map, true, false, Option, Some, None, refl, sym, subst, ap, ◌∙◌}
+use Rattle.std.specs.Prelude.{is_some, option_map}
+use Rattle.source_model.specs.Waits.{ForThread}
+use Rattle.code_runs.specs.CodeMoves.{left_from}
+use Rattle.code_runs.specs.CodeWaits.{joined_from}
+use Rattle.code_image.specs.StopHeights.{act_takes}
+use Rattle.code_machine.specs.declared.running.Running.{Running}
+use Rattle.code_machine.specs.Seen.{slot_of, world_of}
+use Rattle.code_machine.specs.Stops.{RestsAt}
+use Rattle.code_machine.proofs.Resuming.{stood_there}
+use Rattle.code_machine.proofs.Joining.{none_joined, one_joined, waits_for_it}
+use Rattle.code_machine.proofs.ThreadSlots.{HasNewest, newest_rest, newest_there, there_as}
+use Rattle.code_machine.proofs.thread_stops.join.Goals as goal
+
+pub newest-word-requires : goal.newest-word-requires
+newest-word-requires c =
+    let x = c.args.spot.stop in
+    let functions = c.args.image.now.functions.items in
+    let lives = c.requires.lives in
+    let rests = subst (λ (r : Running). RestsAt functions r x) (there_as c.args.run.now.slots.items c.args.spot.slot lives.running c.index.result.now lives.there c.index.ensures) lives.rests in
+    record {
+      kept = rests.fits.kept;
+      frame = (stood_there functions c.index.result.now x rests).some;
+      word = newest_there functions c.index.result.now x rests (ap act_takes c.requires.act);
+    }
+
+some_of : (o : Option ℕ) → is_some o ≡ true → (n : ℕ) × (o ≡ Some n)
+some_of None e = absurd (cc)
+some_of (Some n) e = (n, refl)
+
+none_of : (o : Option ℕ) → is_some o ≡ false → o ≡ None
+none_of None e = refl
+none_of (Some n) e = absurd (cc)
+
+pub returns-then-is_some-clause-came : goal.returns-then-is_some-clause-came
+returns-then-is_some-clause-came c = λ text is.
+    let image = c.args.image.now in
+    let old = c.args.run.now in
+    let slot = c.args.spot.slot in
+    let word = c.newest-word.result in
+    let lives = c.requires.lives in
+    let r = lives.running in
+    let first : r ≡ c.index.result.now = there_as old.slots.items slot r c.index.result.now lives.there c.index.ensures in
+    let read : HasNewest r word = subst (λ (y : Running). HasNewest y word) (sym first) c.newest-word.ensures in
+    let found = some_of c.live_slot.result (sym c.is_some.ensures ∙ c.if-is_some.true) in
+    let live : joined_from word 0 (world_of image old).slots ≡ Some (ForThread found.0) =
+    ap (λ (rs : List Running). joined_from word 0 (map (slot_of image) rs)) (sym c.as_slice.ensures.value)
+    ∙ sym (c.live_slot.ensures.live image) ∙ ap (option_map ForThread) found.1 in
+    record {
+      world = refl;
+      output = refl;
+      cannot = waits_for_it text image old slot word (newest_rest r) c.args.spot.stop r is lives.there lives.rests lives.going c.requires.act read found.0 live;
+    }
+
+pub returns-in-Some-clause-came : goal.returns-in-Some-clause-came
+returns-in-Some-clause-came c = λ text is.
+    let image = c.args.image.now in
+    let old = c.args.run.now in
+    let slot = c.args.spot.slot in
+    let word = c.newest-word.result in
+    let lives = c.requires.lives in
+    let r = lives.running in
+    let first : r ≡ c.index.result.now = there_as old.slots.items slot r c.index.result.now lives.there c.index.ensures in
+    let read : HasNewest r word = subst (λ (y : Running). HasNewest y word) (sym first) c.newest-word.ensures in
+    let none : joined_from word 0 (world_of image old).slots ≡ None =
+    ap (λ (rs : List Running). joined_from word 0 (map (slot_of image) rs)) (sym c.as_slice.ensures.value)
+    ∙ sym (c.live_slot.ensures.live image) ∙ ap (option_map ForThread) (none_of c.live_slot.result (sym c.is_some.ensures ∙ c.if-is_some.false)) in
+    let found : left_from word 0 (world_of image old).slots ≡ Some (c.in-Some.left.place, c.in-Some.left.word) =
+    ap (λ (rs : List Running). left_from word 0 (map (slot_of image) rs)) (sym c.as_slice-2.ensures.value) ∙ sym (c.in-Some.ensures.left image) in
+    one_joined text image old slot word (newest_rest r) c.args.spot.stop r is lives.there lives.rests lives.going c.requires.act read
+    c.take.new.run c.in-Some.left.place c.in-Some.left.word none found (c.take.ensures.taken text r is lives.there)
+
+pub returns-in-None-clause-came : goal.returns-in-None-clause-came
+returns-in-None-clause-came c = λ text is.
+    let image = c.args.image.now in
+    let old = c.args.run.now in
+    let slot = c.args.spot.slot in
+    let word = c.newest-word.result in
+    let lives = c.requires.lives in
+    let r = lives.running in
+    let first : r ≡ c.index.result.now = there_as old.slots.items slot r c.index.result.now lives.there c.index.ensures in
+    let read : HasNewest r word = subst (λ (y : Running). HasNewest y word) (sym first) c.newest-word.ensures in
+    let none : joined_from word 0 (world_of image old).slots ≡ None =
+    ap (λ (rs : List Running). joined_from word 0 (map (slot_of image) rs)) (sym c.as_slice.ensures.value)
+    ∙ sym (c.live_slot.ensures.live image) ∙ ap (option_map ForThread) (none_of c.live_slot.result (sym c.is_some.ensures ∙ c.if-is_some.false)) in
+    let nothing : left_from word 0 (world_of image old).slots ≡ None =
+    ap (λ (rs : List Running). left_from word 0 (map (slot_of image) rs)) (sym c.as_slice-2.ensures.value) ∙ sym (c.in-None.ensures.left image) in
+    none_joined text image old slot word (newest_rest r) c.args.spot.stop r is lives.there lives.rests lives.going c.requires.act read none nothing

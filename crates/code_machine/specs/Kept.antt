@@ -1,0 +1,71 @@
+-- What is kept of threads, whatever the text and its names are: each step finds what it needs.
+use Rattle.std.specs.Prelude.{◌≡◌, ℕ, suc, ◌-◌, ◌<◌, ◌≤◌, ◌^◌, List, ◌∷◌, length, slice_get, Option, Some, None}
+use Rattle.resolved_tree.specs.Nodes.{Table}
+use Rattle.bytecode.specs.Meaning.{Step, Goes, Traps, Rests, Lost, step}
+use Rattle.bytecode.specs.Seen.{code_of}
+use Rattle.thread_state.specs.declared.steps.End.{End}
+use Rattle.thread_state.specs.declared.steps.End.TheVariants.{Rests as RestsThere, Traps as TrapsThere}
+use Rattle.thread_state.specs.Heights.{HasHeight}
+use Rattle.program_locks.specs.Slots.{most_slots}
+use Rattle.code_runs.specs.CodeThreads.{CodeFrame}
+use Rattle.word_frames.specs.declared.frame.Frame.{Frame}
+use Rattle.word_frames.specs.declared.frames.Frames.{Frames}
+use Rattle.word_frames.specs.Seen.{HasArguments, IsKept, depth_of, frame_at, frames_of, innermost}
+use Rattle.code_image.specs.declared.function.CodeFunction.{CodeFunction}
+use Rattle.code_machine.specs.declared.running.Next.TheVariants.{Enters, Stands}
+use Rattle.code_machine.specs.declared.running.Running.{Running}
+
+-- how many threads a run may start, so that their words have 64 bits
+abbrev pub most_threads : ℕ
+most_threads = 2 ^ 48
+
+-- a frame is one of the function with the number of its unit, in the first version
+pub record IsFrame (functions : List CodeFunction) (f : Frame) : Type 0 where
+  pub version : f.version ≡ 1
+  pub inside : f.unit < length functions
+  pub function : (g : CodeFunction) → slice_get functions f.unit ≡ Some g → f.function ≡ g.name
+
+-- at a place the stack of a frame's function has a height
+abbrev pub HasHeightAt : List CodeFunction → Frame → ℕ → ℕ → Type 0
+HasHeightAt functions f place height =
+    (g : CodeFunction) → slice_get functions f.unit ≡ Some g → HasHeight g.verified.heights.items place height
+
+-- the outermost frames, as many as are asked for, wait for the word of a call
+abbrev pub Wait : List CodeFunction → Frames → ℕ → Type 0
+Wait functions s count =
+    (n : ℕ) → n < count → HasHeightAt functions (frame_at s n) (frame_at s n).place (suc (frame_at s n).height)
+
+-- how a burst ended, if it did
+abbrev pub end_of : Step → Option End
+end_of (Goes s) = None
+end_of (Traps kind) = Some (TrapsThere kind)
+end_of Rests = Some RestsThere
+end_of Lost = None
+
+-- the innermost frame is where its burst ended, and the others wait
+pub record Stood (functions : List CodeFunction) (s : Frames) (end : End) : Type 0 where
+  pub some : 0 < depth_of s
+  pub height : HasHeightAt functions (innermost s) (innermost s).place (innermost s).height
+  pub ends : (t : Table) (g : CodeFunction) (f : CodeFrame) (below : List CodeFrame) → slice_get functions (innermost s).unit ≡ Some g
+      → frames_of t s ≡ f ∷ below → end_of (step (code_of t g.verified.body.code.items) f.state) ≡ Some end
+  pub wait : Wait functions s (depth_of s - 1)
+
+-- an enter is due, and all frames wait
+pub record Due (functions : List CodeFunction) (s : Frames) (n count : ℕ) : Type 0 where
+  pub inside : n < length functions
+  pub there : HasArguments s count
+  pub wait : Wait functions s (depth_of s)
+
+-- the frames of a slot fit its functions, and what its thread does next
+pub record Fits (functions : List CodeFunction) (r : Running) : Type 0 where
+  pub kept : IsKept r.frames
+  pub serial : r.serial < most_threads
+  pub frames : (n : ℕ) → n < depth_of r.frames → IsFrame functions (frame_at r.frames n)
+  pub due : (n count : ℕ) → r.next ≡ Enters n count → Due functions r.frames n count
+  pub stood : (end : End) → r.next ≡ Stands end → Stood functions r.frames end
+
+-- all slots do; there aren't many, nor were too many threads started
+pub record AreKept (functions : List CodeFunction) (slots : List Running) (threads : ℕ) : Type 0 where
+  pub fit : (n : ℕ) (r : Running) → slice_get slots n ≡ Some r → Fits functions r
+  pub few : length slots ≤ most_slots
+  pub counted : threads ≤ most_threads

@@ -1,0 +1,25 @@
+//! The state of a run.
+use crate::running::Running;
+use run_types::TrapKind;
+use word_data::WordData;
+
+/// How a run has ended.
+#[derive(Clone, Copy, Debug, PartialEq, Eq)]
+pub enum Finish {
+    /// The first call of `main` returned this.
+    Finished(i32),
+    /// The thread in a slot trapped.
+    Trapped(TrapKind, u8),
+}
+
+/// The state of a run, but for its code.
+#[derive(Drop)]
+pub(crate) struct RunState {
+    pub shared: WordData,
+    pub slots: Vec<Running>,
+    /// How many threads were started.
+    pub threads: u64,
+    pub finish: Option<Finish>,
+    /// What was printed and not taken yet.
+    pub output: Vec<u8>,
+}

@@ -1,0 +1,11 @@
+pub mod NumberedNames
+pub mod OneTextRuns
+pub mod UsedByMoves
+pub mod Starting
+pub mod Moving
+pub mod Resting
+pub mod SlotsAlike
+pub mod NextStops
+pub mod Stepping
+pub mod Asking
+pub mod Lasting

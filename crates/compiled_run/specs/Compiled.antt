@@ -1,0 +1,68 @@
+-- What is said of a run of one text by its code.
+use Rattle.std.specs.Prelude.{◌≡◌, ℕ, ◌+◌, ◌≤◌, Bool, true, false, List, [], ◌∷◌, length, slice_index_or, Some}
+use Rattle.std.proofs.Common.{ap, sym, ◌∙◌}
+use Rattle.std.proofs.lemmas.Option.{same_Some}
+use Rattle.c_tree.specs.BareDef.{BareDef}
+use Rattle.c_semantics.specs.Stops.{Stop, Return, Begin, End, Update}
+use Rattle.source_model.specs.Versions.{current}
+use Rattle.source_model.specs.Worlds.{World, Limits}
+use Rattle.source_model.specs.Runs.{SourceMove}
+use Rattle.version_laws.specs.Histories.{versions_by}
+use Rattle.object_store.specs.Handles.{creation_limit}
+use Rattle.source_runner.specs.Queries.{Place}
+use Rattle.source_runner.specs.SourceRuns.{world_after}
+use Rattle.run_machine.specs.Machines.{Shown}
+use Rattle.code_machine.specs.Queries as asked
+use Rattle.code_machine.specs.Seen.{code_world, image_of, output_of, words_of}
+use Rattle.compiled_run.specs.declared.run.CompiledRun.{CompiledRun}
+use Rattle.compiled_run.specs.CodeOfRuns.{IsRunOf}
+
+abbrev pub IsCompiledRun : List (List BareDef) → Limits → List SourceMove → CompiledRun → Type 0
+IsCompiledRun texts limits moves r = IsRunOf texts limits moves (image_of r.machine) (code_world r.machine) (output_of r.machine) r.kept
+
+-- there is one version
+pub counted : (texts : List (List BareDef)) (limits : Limits) (moves : List SourceMove) (r : CompiledRun) (w : World)
+    → IsCompiledRun texts limits moves r → world_after texts limits moves ≡ Some w → current w.table ≡ length (versions_by texts moves)
+counted texts limits moves r w is reached =
+    ap (λ (w : World). current w.table) (same_Some w is.world (sym reached ∙ is.ran))
+    ∙ is.stands.of.history.count
+    ∙ sym (ap (λ (ts : List (List BareDef)). length (slice_index_or texts 0 [] ∷ ts)) is.none_installed)
+
+abbrev pub compiled_shown : CompiledRun → Shown
+compiled_shown r = record {
+  is_run = λ texts limits moves. IsCompiledRun texts limits moves r;
+  trees = r.text ∷ [];
+  words = words_of (image_of r.machine);
+  kept = r.kept;
+  reached = λ texts limits moves is. (is.world, is.ran);
+  counted = λ texts limits moves w is reached. counted texts limits moves r w is reached;
+}
+
+-- ---- moves that want no memory
+
+-- it works, and it has numbers for so many moves more: all its moves together are 2^32 - 1 at most
+pub record Spent (n : ℕ) (r : CompiledRun) : Type 0 where
+  pub texts : List (List BareDef)
+  pub limits : Limits
+  pub moves : List SourceMove
+  pub run : IsCompiledRun texts limits moves r
+  pub within : length moves + n ≤ creation_limit
+  pub works : r.failed ≡ false
+
+-- and its output is forgotten
+pub record Lasts (n : ℕ) (r : CompiledRun) : Type 0 where
+  pub spent : Spent n r
+  pub emptied : output_of r.machine ≡ []
+
+-- ---- what is asked of code, as of the source machine
+
+abbrev pub seen_place : asked.Place → Place
+seen_place p = record { function = p.function; version = p.version; point = p.point }
+
+-- whether a stop leads to a check-in, by whether a frame called the one that stops
+abbrev pub stop_leads : Stop → Bool → Bool
+stop_leads Return is_called = is_called
+stop_leads Begin is_called = true
+stop_leads End is_called = true
+stop_leads Update is_called = true
+stop_leads _ is_called = false

@@ -1,0 +1,3 @@
+pub mod NumbersUsed
+pub mod CodeOfRuns
+pub mod Compiled

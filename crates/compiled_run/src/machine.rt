@@ -1,0 +1,192 @@
+//! What an engine asks of a run.
+ghost use Rattle.std.specs.Prelude.{◌≡◌, option_map};
+ghost use Rattle.resolved_tree.specs.Nodes.{Table};
+ghost use Rattle.local_evaluation.specs.Pieces.{stop_of};
+ghost use Rattle.code_machine.specs.Queries.{place_seen, waiting_of as code_waiting_of};
+ghost use Rattle.code_machine.specs.Seen.{finish_of};
+ghost use Rattle.source_runner.specs.Queries.{place_at};
+ghost use Rattle.source_runner.specs.States.{ending_of};
+ghost use Rattle.source_runner.specs.Waits.{waiting_of};
+ghost use Rattle.compiled_run.specs.Compiled.{seen_place, stop_leads};
+
+use crate::run::CompiledRun;
+use c_types::Typed;
+use code_machine::{CodeWait, Finish, FramePlace};
+use code_run_laws::code_moves_as_the_source_machine;
+use local_evaluation::Stop;
+use progress_laws::threads_of_runs_go_on;
+use resolved_tree::Word;
+use run_machine::Machine;
+use run_types::Ending;
+use source_runner::{FrameAt, SourceMove, SourceWait, Stepped};
+use std::alloc::AllocError;
+use type_transformers::Change;
+
+/// Where a frame is.
+fn frame_at(place: Option<FramePlace>) -> Option<FrameAt>
+    ensures { (t : Table) → option_map (place_at t) result ≡ option_map seen_place (option_map (place_seen t) place) }
+{
+    match place {
+        Some(place) => Some(FrameAt {
+            function: place.function,
+            version: place.version,
+            point: place.point,
+        }),
+        None => None,
+    }
+}
+
+/// What a thread waits for.
+fn awaited(wait: Option<CodeWait<'_>>) -> Option<SourceWait<'_>>
+    ensures { option_map waiting_of result ≡ option_map code_waiting_of wait.entry }
+{
+    match wait {
+        Some(CodeWait::Mutex(name, holder)) => Some(SourceWait::Mutex(name, holder as usize)),
+        Some(CodeWait::Thread(slot)) => Some(SourceWait::Thread(slot as usize)),
+        None => None,
+    }
+}
+
+/// How a run has ended.
+fn ending(finish: Option<Finish>) -> Option<Ending>
+    ensures { result ≡ ending_of (option_map finish_of finish) }
+{
+    match finish {
+        Some(Finish::Finished(n)) => Some(Ending::Finished(n)),
+        Some(Finish::Trapped(kind, slot)) => Some(Ending::Trap(kind, slot)),
+        None => None,
+    }
+}
+
+/// Whether a stop leads to a check-in, by whether a frame called the one that stops.
+fn leads(stop: Stop, is_called: bool) -> bool
+    ensures { (t : Table) → result ≡ stop_leads (stop_of t stop) is_called }
+{
+    match stop {
+        Stop::Return => is_called,
+        Stop::Begin | Stop::End | Stop::Update => true,
+        _ => false,
+    }
+}
+
+impl Machine for CompiledRun {
+    ghost use Rattle.compiled_run.specs.Compiled.{Lasts, Spent, compiled_shown};
+
+    ghost shown = { compiled_shown };
+
+    ghost lasts = { Lasts };
+
+    ghost spent = { Spent };
+
+    fn step(&mut self, m: SourceMove) -> Result<Stepped, AllocError> {
+        if self.failed {
+            return Err(AllocError);
+        }
+        match self.make(m) {
+            Ok(stepped) => Ok(stepped),
+            Err(error) => {
+                self.failed = true;
+                Err(error)
+            }
+        }
+    }
+
+    // There is one text, which has the number 0.
+    fn install(&mut self, _: usize, _: &[Change]) -> Result<Stepped, AllocError> {
+        Ok(Stepped::CannotMove)
+    }
+
+    fn output_from(&self, from: usize) -> &[u8] {
+        let output = self.machine.output();
+        if from < self.kept {
+            return output;
+        }
+        let start = from - self.kept;
+        // An output never shrinks.
+        if output.len() < start {
+            return output;
+        }
+        &output[start..]
+    }
+
+    fn forget(&mut self) {
+        if let Some(kept) = self.kept.checked_add(self.machine.output().len()) {
+            self.kept = kept;
+            self.machine.forget();
+        }
+    }
+
+    fn misused(&self) -> bool {
+        false
+    }
+
+    fn threads(&self) -> usize {
+        self.machine.threads() as usize
+    }
+
+    fn ending(&self) -> Option<Ending> {
+        ending(self.machine.finish())
+    }
+
+    fn is_live(&self, slot: u8) -> bool {
+        self.machine.is_live(slot)
+    }
+
+    fn can_move(&self, slot: u8) -> bool {
+        code_moves_as_the_source_machine();
+        threads_of_runs_go_on();
+        if self.machine.finish().is_some() {
+            return false;
+        }
+        if !self.machine.is_live(slot) {
+            return false;
+        }
+        self.machine.waits(slot).is_none()
+    }
+
+    fn leads(&self, slot: u8) -> bool {
+        if self.machine.entering(slot).is_some() {
+            return true;
+        }
+        match self.machine.next_stop(slot) {
+            Some(next) => leads(next.stop, self.machine.frame_up(slot, 1).is_some()),
+            None => false,
+        }
+    }
+
+    fn waits(&self, slot: u8) -> Option<SourceWait<'_>> {
+        code_moves_as_the_source_machine();
+        awaited(self.machine.waits(slot))
+    }
+
+    fn text(&self, number: usize) -> Option<&Typed> {
+        if number == 0 { Some(&self.text) } else { None }
+    }
+
+    fn word(&self, word: Word) -> &str {
+        self.machine.image().word(word)
+    }
+
+    fn in_transaction(&self, slot: u8) -> bool {
+        self.machine.in_transaction(slot)
+    }
+
+    fn frame(&self, slot: u8) -> Option<FrameAt> {
+        frame_at(self.machine.frame_up(slot, 0))
+    }
+
+    fn frame_up(&self, slot: u8, up: usize) -> Option<FrameAt> {
+        frame_at(self.machine.frame_up(slot, up))
+    }
+
+    fn next_point(&self, slot: u8) -> Option<u32> {
+        match self.machine.next_stop(slot) {
+            Some(next) => Some(next.point),
+            None => None,
+        }
+    }
+
+    fn entering(&self, slot: u8) -> Option<Word> {
+        self.machine.entering(slot)
+    }
+}

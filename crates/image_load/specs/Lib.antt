@@ -1,0 +1,5 @@
+pub mod Numbering
+pub mod Doing
+pub mod Loaded
+pub mod FirstCells
+pub mod OwnBodies
