@@ -1,46 +1,48 @@
 //! How many rows admit.
-ghost use Rattle.std.specs.Prelude.{◌≡◌, ◌+◌, ◌≤◌, [], ◌∷◌, length, count_by, map, IfOk, OnOk};
+ghost use Rattle.std.specs.Prelude.{◌≡◌, ◌+◌, ◌^◌, ◌≤◌, [], ◌∷◌, length, count_by, map};
 ghost use Rattle.std.specs.List.{flat_map};
 ghost use Rattle.std.specs.Option.{is_none};
 ghost use Rattle.admits_report.specs.Shown.{ids_of, ids_of_line};
 
 use crate::answers::{CheckInAnswer, FunctionAnswers};
 use con_freeness::Effect;
-use std::alloc::AllocError;
 
-/// How many answers there are, and how many of them admit.
+/// How many answers there are, and how many of them admit. Each of up to 2^64 functions may have 2^64, so that the sums have room.
 #[derive(Clone, Copy)]
 pub(crate) struct Counts {
-    pub admitted: usize,
-    pub all: usize,
+    pub admitted: u128,
+    pub all: u128,
 }
 
-/// Those of some functions. More than a number holds are answered as lack of memory.
-pub(crate) fn counts_of(functions: &[FunctionAnswers]) -> Result<Counts, AllocError>
-    ensures admitted { IfOk result (λ counts. counts.admitted ≡ count_by is_none (flat_map ids_of functions.now)) }
-    ensures all { IfOk result (λ counts. counts.all ≡ length (flat_map ids_of functions.now)) }
+/// Those of some functions.
+pub(crate) fn counts_of(functions: &[FunctionAnswers]) -> Counts
+    ensures admitted { result.admitted ≡ count_by is_none (flat_map ids_of functions.now) }
+    ensures all { result.all ≡ length (flat_map ids_of functions.now) }
 {
     let mut counts = Counts {
         admitted: 0,
         all: 0,
     };
     for function in functions {
-        add_function(&mut counts, function)?;
+        add_function(&mut counts, function);
     }
-    Ok(counts)
+    counts
 }
 
 /// Adds those of a function.
-fn add_function(counts: &mut Counts, function: &FunctionAnswers) -> Result<(), AllocError>
-    ensures admitted { OnOk result (counts.new.admitted ≡ counts.old.admitted + count_by is_none (ids_of function.now)) }
-    ensures all { OnOk result (counts.new.all ≡ counts.old.all + length (ids_of function.now)) }
+fn add_function(counts: &mut Counts, function: &FunctionAnswers)
+    requires admitted { counts.old.admitted + 2 ^ 64 ≤ 2 ^ 128 }
+    requires all { counts.old.all + 2 ^ 64 ≤ 2 ^ 128 }
+    ensures admitted { counts.new.admitted ≡ counts.old.admitted + count_by is_none (ids_of function.now) }
+    ensures all { counts.new.all ≡ counts.old.all + length (ids_of function.now) }
+    ensures fewer { counts.new.admitted ≤ counts.old.admitted + 2 ^ 64 }
+    ensures few { counts.new.all ≤ counts.old.all + 2 ^ 64 }
 {
     let lines = function.lines.as_slice();
     let admitted = admitted_by(function.start) + admitted_among(lines);
     let all = lines.len() + 1;
-    counts.admitted = counts.admitted.checked_add(admitted).ok_or(AllocError)?;
-    counts.all = counts.all.checked_add(all).ok_or(AllocError)?;
-    Ok(())
+    counts.admitted += admitted as u128;
+    counts.all += all as u128;
 }
 
 /// How many of some check-ins admit.

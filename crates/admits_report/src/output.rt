@@ -1,8 +1,14 @@
 //! The whole text.
-ghost use Rattle.std.specs.Prelude.{◌≡◌, ◌≤◌, [], ◌∷◌, IfOk, IsErrOf};
+ghost use Rattle.std.specs.Prelude.{◌≡◌, ◌≤◌, [], ◌∷◌, map, IfOk, IsErrOf};
+ghost use Rattle.c_front.specs.Accepted.{Accepted};
+ghost use Rattle.c_tree.specs.Bare.{bare_def};
 ghost use Rattle.c_semantics.specs.SourceTexts.{text_of as text_of_program};
 ghost use Rattle.c_semantics.specs.Store.{store};
 ghost use Rattle.code_store.specs.Stored.{IsStoreOf};
+ghost use Rattle.brought_bodies.specs.Unknown.{HasUnknownFunction};
+ghost use Rattle.installed_versions.specs.Firsts.{IsFirstFault};
+ghost use Rattle.installed_versions.specs.Installed.{IsInstalled};
+ghost use Rattle.installed_versions.specs.declared.fault.FirstFault.{FirstFault as Fault};
 ghost use Rattle.con_freeness.specs.Rows.{Names as Texts};
 ghost use Rattle.con_freeness.specs.Decisions.{IsListOf};
 ghost use Rattle.dsu_io.specs.Causes.{Rose};
@@ -21,15 +27,14 @@ use c_types::Typed;
 use check_in_places::{Lines, Section, bodies_of};
 use dsu_io::{Sink, put};
 use dsu_report::ReportFault;
-use installed_versions::Installed;
+use installed_versions::{FirstFault, Installed, accepted_programs_start};
 use patch_build::{Patch, Versions, prepare};
 use std::alloc::{AllocError, Global};
 
-/// Writes where a run of an older typed text could take a newer one. `old_text` and `new_text` have the bytes of the texts.
+/// Writes where a run of an older accepted text could take a newer one. `old_text` and `new_text` have the bytes of the texts.
 ///
-/// `Memory` is also the answer where a text uses a name that it doesn't define, or where the older one has more check-ins or
-/// tokens than a version may or more check-ins and functions than there are numbers of rows: none of these occurs in a typed
-/// text and its bytes, but that isn't proved.
+/// `Memory` is also the answer where the older text has more points than numbers of 32 bits, or more check-ins and functions than
+/// there are numbers of rows.
 pub fn write_admission<S: Sink>(
     alloc: Global,
     old: &Typed,
@@ -38,6 +43,8 @@ pub fn write_admission<S: Sink>(
     new_text: &[u8],
     sink: &mut S,
 ) -> Result<(), ReportFault>
+    requires old { Accepted old_text.now old.now }
+    requires new { Accepted new_text.now new.now }
     ensures bytes { Writes (IsAdmitsText old.now old_text.now new.now new_text.now)
         (S.told sink.old) (S.told sink.new) result }
     ensures later { S.faults sink.old ≤ S.faults sink.new }
@@ -61,13 +68,28 @@ fn text_of(
     new: &Typed,
     new_text: &[u8],
 ) -> Result<Vec<u8>, AllocError>
+    requires old { Accepted old_text.now old.now }
+    requires new { Accepted new_text.now new.now }
     ensures { IfOk result (λ text. IsAdmitsText old.now old_text.now new.now new_text.now text.items) }
 {
-    let installed = Installed::first(alloc, old)?;
+    accepted_programs_start();
+    let installed = first_version(alloc, old)?;
     let versions = installed.versions(old);
     match prepare(alloc, versions, new) {
         Ok(patch) => text_of_patch(alloc, old.program(), old_text, versions, &patch),
         Err(fault) => text_of_fault(alloc, &fault, new_text),
+    }
+}
+
+/// The first version of a text that has one, unless memory runs out.
+fn first_version(alloc: Global, text: &Typed) -> Result<Installed, AllocError>
+    requires { (fault : Fault) → IsFirstFault text.now fault → fault ≡ FirstFault.Memory }
+    ensures { IfOk result (λ i. IsInstalled (text_of_program text.now ∷ []) i.count i.names i.store) }
+{
+    match Installed::first(alloc, text) {
+        Ok(installed) => Ok(installed),
+        Err(FirstFault::Memory) => Err(AllocError),
+        Err(FirstFault::UndefinedName | FirstFault::StoreFull) => unreachable!(),
     }
 }
 
@@ -79,6 +101,7 @@ fn text_of_patch(
     versions: Versions<'_>,
     patch: &Patch,
 ) -> Result<Vec<u8>, AllocError>
+    requires { ¬ HasUnknownFunction versions.names.now (map bare_def program.now.definitions) }
     ensures { (changed interface : Texts)
         → IsStoreOf versions.entry.names.now (store (text_of_program program.now ∷ [])) versions.entry.store.now
         → IsListOf versions.entry.names.now patch.now.changed changed
@@ -102,7 +125,7 @@ fn text_of_sections(
     ensures { IfOk result (λ output. IsSectionsText admission.now lines.now.text.now sections.now output.items) }
 {
     let functions = answers(alloc, admission, sections)?;
-    let counts = counts_of(functions.as_slice())?;
+    let counts = counts_of(functions.as_slice());
     let mut text = Vec::new(alloc);
     add_functions(&mut text, lines, admission.names, functions.as_slice())?;
     add_counts(&mut text, counts)?;

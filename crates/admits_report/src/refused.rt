@@ -1,5 +1,5 @@
 //! Why the newer text is no patch of the older one.
-ghost use Rattle.std.specs.Prelude.{◌≡◌, ◌++◌, IfOk, OnOk, codes};
+ghost use Rattle.std.specs.Prelude.{◌≡◌, ◌≢◌, ◌++◌, IfOk, OnOk, codes};
 ghost use Rattle.std.specs.Fmt.{decimal};
 ghost use Rattle.dsu_report.specs.Answers.{cause_words};
 ghost use Rattle.dsu_report.specs.Places.{line_at, column_at};
@@ -13,17 +13,19 @@ use patch_build::PatchFault;
 use source_model::NotPatch;
 use std::alloc::{AllocError, Global};
 
-/// The text of a fault, for the bytes of the newer text. There is none for a name that isn't defined, which no accepted text has.
+/// The text of a fault, for the bytes of the newer text, which defines the names that it uses.
 pub(crate) fn text_of_fault(
     alloc: Global,
     fault: &PatchFault,
     source: &[u8],
 ) -> Result<Vec<u8>, AllocError>
+    requires { fault.now ≢ PatchFault.UndefinedName }
     ensures { IfOk result (λ text. IsFaultText fault.now source.now text.items) }
 {
     match fault {
         PatchFault::Not(cause) => text_of_cause(alloc, cause, source),
-        PatchFault::UndefinedName | PatchFault::Memory => Err(AllocError),
+        PatchFault::Memory => Err(AllocError),
+        PatchFault::UndefinedName => unreachable!(),
     }
 }
 

@@ -6,9 +6,11 @@ use Rattle.std.proofs.lemmas.List.Elements.{filter_map-append}
 use Rattle.std.proofs.lemmas.Option.{slice_get_within, get_or_from_slice_get}
 use Rattle.name_sets.specs.Texts.{text_of}
 use Rattle.c_tree.specs.BareExpr.{Bytes}
-use Rattle.c_tree.specs.Bare.{bare_function}
+use Rattle.c_tree.specs.Bare.{bare_function, bare_kind}
 use Rattle.c_tree.specs.declared.def.Function.{Function}
 use Rattle.c_tree.specs.declared.def.Def.{Def}
+use Rattle.c_tree.specs.declared.def.DefKind.{DefKind}
+use Rattle.c_tree.specs.declared.def.DefKind.TheVariants as kind
 use Rattle.check_in_places.specs.CheckIns.{function_of, functions_in}
 use Rattle.c_semantics.specs.Texts.{Definitions, definition}
 use Rattle.c_semantics.specs.SourceTexts.{Text}
@@ -108,3 +110,14 @@ one_function d f e = ap (λ o. cons_option o []) e
 
 pub no_function : (d : Def) → function_of d.kind ≡ None → functions_in (d ∷ []) ≡ []
 no_function d e = ap (λ o. cons_option o []) e
+
+pub bare_of_function : (k : DefKind) (f : Function) → function_of k ≡ Some f → bare_kind k ≡ bare_function f
+bare_of_function (kind.Function g) f e = let same : g ≡ f = cc in ap bare_function same
+bare_of_function (kind.Struct name members) f e = cc
+bare_of_function (kind.Forward name) f e = cc
+bare_of_function (kind.Mutex name) f e = cc
+bare_of_function (kind.Prototype p) f e = cc
+bare_of_function (kind.Global d) f e = cc
+bare_of_function (kind.Array a) f e = cc
+bare_of_function (kind.TransformStruct t) f e = cc
+bare_of_function (kind.TransformGlobal name value) f e = cc

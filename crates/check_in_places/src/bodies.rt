@@ -1,31 +1,35 @@
 //! The bodies of a program's functions.
-ghost use Rattle.std.specs.Prelude.{◌≡◌, [], ◌∷◌, ◌++◌, List, IfOk, OnOk, option_copied};
+ghost use Rattle.std.specs.Prelude.{◌≡◌, [], ◌∷◌, ◌++◌, List, length, map, Contains, IfOk, OnOk, option_copied};
 ghost use Rattle.name_sets.specs.Texts.{IsTable};
+ghost use Rattle.c_tree.specs.Bare.{bare_def, bare_function};
 ghost use Rattle.c_tree.specs.declared.def.Function.{Function as FunctionTree};
 ghost use Rattle.c_semantics.specs.Texts.{definition};
 ghost use Rattle.c_semantics.specs.SourceTexts.{Text, text_of};
 ghost use Rattle.name_resolution.specs.Known.{known_of};
+ghost use Rattle.brought_bodies.specs.Unknown.{HasUnknownFunction, IsUnknownIn};
 ghost use Rattle.check_in_places.specs.CheckIns.{function_of, functions, functions_in};
 ghost use Rattle.check_in_places.specs.Bodies.{IsOutline, AreBodiesOf};
 
 use crate::section::{Bodies, Outline};
 use crate::spots::section_of;
 use c_definitions::Known;
+use c_semantics::each_point_has_ways_and_a_place;
 use c_tree::{Def, DefKind, Function, Program};
-use effect_flow::Flow;
+use effect_flow::{Flow, MOST_POINTS};
 use name_resolution::resolve_body;
 use name_sets::Names;
 use point_places::places_of;
 use resolved_tree::Trees;
-use skeleton_gen::skeleton_of;
+use skeleton_gen::{SkeletonFault, skeleton_of};
 use std::alloc::{AllocError, Global};
 
-/// The bodies of the functions of a program, in the order of its text, by a table of its names.
+/// The bodies of the functions of a program, in the order of its text, by a table that has each function and each name that one
+/// uses.
 ///
-/// `AllocError` is also the answer where a function uses a name that the table doesn't have, or where there are too many points
-/// to number.
+/// `AllocError` is also the answer past 2^32 points, for which a flow has no room.
 pub fn bodies_of(alloc: Global, program: &Program, names: &Names) -> Result<Bodies, AllocError>
-    requires { IsTable names.now }
+    requires table { IsTable names.now }
+    requires known { ¬ HasUnknownFunction names.now (map bare_def program.now.definitions) }
     ensures { IfOk result (λ bodies. AreBodiesOf names.now (text_of program.now) (functions program.now)
         bodies.flow bodies.sections.items) }
 {
@@ -41,7 +45,9 @@ fn bodies_among(
     names: &Names,
     definitions: &[Def],
 ) -> Result<Bodies, AllocError>
-    requires { IsTable names.now }
+    requires table { IsTable names.now }
+    requires whole { known.now ≡ definitions.now }
+    requires known { ¬ HasUnknownFunction names.now (map bare_def definitions.now) }
     ensures { (text : Text) → known_of known.now ≡ definition text.definitions
         → IfOk result (λ bodies. AreBodiesOf names.now text (functions_in definitions.now)
         bodies.flow bodies.sections.items) }
@@ -64,6 +70,7 @@ fn add_definition(
     added: &Def,
     bodies: &mut Bodies,
 ) -> Result<(), AllocError>
+    requires { ¬ IsUnknownIn names.now (known_of known.now) (bare_def added.now) }
     ensures { (text : Text) (done : List FunctionTree) → known_of known.now ≡ definition text.definitions
         → AreBodiesOf names.now text done bodies.old.flow bodies.old.sections.items
         → OnOk result (AreBodiesOf names.now text (done ++ functions_in (added.now ∷ []))
@@ -100,6 +107,7 @@ fn add_function(
     function: &Function,
     bodies: &mut Bodies,
 ) -> Result<(), AllocError>
+    requires { ¬ IsUnknownIn names.now (known_of known.now) (bare_function function.now) }
     ensures { (text : Text) (done : List FunctionTree) → known_of known.now ≡ definition text.definitions
         → AreBodiesOf names.now text done bodies.old.flow bodies.old.sections.items
         → OnOk result (AreBodiesOf names.now text (done ++ function.now ∷ [])
@@ -109,21 +117,26 @@ fn add_function(
     add_outline(alloc, names, function, &outline, bodies)
 }
 
-/// The skeleton and the places of a function. A name that the table doesn't have is answered as lack of memory.
+/// The skeleton and the places of a function, of which each point has one.
 fn outline_of(
     alloc: Global,
     known: &Known,
     names: &Names,
     function: &Function,
 ) -> Result<Outline, AllocError>
-    ensures { IfOk result (λ outline. IsOutline names.now (known_of known.now) function.now outline) }
+    requires { ¬ IsUnknownIn names.now (known_of known.now) (bare_function function.now) }
+    ensures outline { IfOk result (λ outline. IsOutline names.now (known_of known.now) function.now outline) }
+    ensures places { IfOk result (λ outline. length outline.places.items ≡ length outline.skeleton.points.items) }
 {
+    each_point_has_ways_and_a_place();
     let mut trees = Trees::new(alloc);
     let body = resolve_body(&mut trees, known, function)?;
     let places = places_of(alloc, &trees, body, function)?;
     match skeleton_of(alloc, &trees, body, names) {
         Ok(skeleton) => Ok(Outline { skeleton, places }),
-        Err(_) => Err(AllocError),
+        Err(SkeletonFault::Memory) => Err(AllocError),
+        // The table has each name.
+        Err(SkeletonFault::Unknown) => unreachable!(),
     }
 }
 
@@ -135,6 +148,8 @@ fn add_outline(
     outline: &Outline,
     bodies: &mut Bodies,
 ) -> Result<(), AllocError>
+    requires there { ¬ (¬ Contains names.now function.now.name.text) }
+    requires places { length outline.now.places.items ≡ length outline.now.skeleton.points.items }
     ensures { (text : Text) (done : List FunctionTree)
         → IsOutline names.now (definition text.definitions) function.now outline.now
         → AreBodiesOf names.now text done bodies.old.flow bodies.old.sections.items
@@ -142,10 +157,13 @@ fn add_outline(
         bodies.new.flow bodies.new.sections.items) }
 {
     let Some(id) = names.find(function.name.text.as_str()) else {
-        return Err(AllocError);
+        unreachable!()
     };
     let first = bodies.flow.points().len();
     let skeleton = &outline.skeleton;
+    if first > MOST_POINTS || skeleton.points.len() > MOST_POINTS - first {
+        return Err(AllocError);
+    }
     let section = section_of(alloc, id, first, skeleton, outline.places.as_slice())?;
     bodies.sections.push(section)?;
     bodies.flow.add(id, 1, skeleton)

@@ -1,5 +1,5 @@
 //! The check-ins of a body.
-ghost use Rattle.std.specs.Prelude.{◌≡◌, ◌++◌, ℕ, List, All, length, map, IfOk, OnOk};
+ghost use Rattle.std.specs.Prelude.{◌≡◌, ◌≤◌, ◌<◌, ◌+◌, ◌^◌, ◌++◌, ℕ, List, All, length, map, IfOk, OnOk};
 ghost use Rattle.run_types.specs.Skeleton.{check_in_of as check_in_of_kind};
 ghost use Rattle.skeletons.specs.Meaning.{kind_of, meant};
 ghost use Rattle.check_in_places.specs.CheckIns.{check_in_if, check_ins_in};
@@ -11,7 +11,7 @@ use skeletons::{Point, PointKind, Skeleton};
 use std::alloc::{AllocError, Global};
 
 /// The check-ins of a function's body in the order of their places. `first` is the place in the flow of the body's first
-/// point.
+/// point; a flow has room for the points.
 pub(crate) fn section_of(
     alloc: Global,
     function: NameId,
@@ -19,6 +19,8 @@ pub(crate) fn section_of(
     skeleton: &Skeleton,
     places: &[usize],
 ) -> Result<Section, AllocError>
+    requires places { length places.now ≡ length skeleton.now.points.items }
+    requires fits { first + length skeleton.now.points.items ≤ 2 ^ 32 }
     ensures { IfOk result (λ section. (names : List (List ℕ))
         → IsSectionOf (meant names skeleton.now) places.now first function section) }
 {
@@ -34,6 +36,8 @@ fn spots_of(
     skeleton: &Skeleton,
     places: &[usize],
 ) -> Result<Vec<Spot>, AllocError>
+    requires places { length places.now ≡ length skeleton.now.points.items }
+    requires fits { first + length skeleton.now.points.items ≤ 2 ^ 32 }
     ensures shown { IfOk result (λ spots. (names : List (List ℕ))
         → map shown spots.items ≡ check_ins_in (meant names skeleton.now) places.now) }
     ensures spots { IfOk result (λ spots. All (IsSpotOf first) spots.items) }
@@ -42,10 +46,13 @@ fn spots_of(
 {
     let mut spots = Vec::new(alloc);
     for number in 0..skeleton.points.len() {
-        let Some(at) = places.get(number) else {
-            return Err(AllocError);
-        };
-        add_spot(&mut spots, first, number, skeleton.points[number], *at)?;
+        add_spot(
+            &mut spots,
+            first,
+            number,
+            skeleton.points[number],
+            places[number],
+        )?;
     }
     Ok(spots)
 }
@@ -58,6 +65,9 @@ fn add_spot(
     point: Point,
     at: usize,
 ) -> Result<(), AllocError>
+    requires fits { first + number < 2 ^ 32 }
+    requires few { length spots.old.items ≤ number }
+    ensures few { OnOk result (length spots.new.items ≤ length spots.old.items + 1) }
     ensures shown { OnOk result ((names : List (List ℕ)) → map shown spots.new.items
         ≡ map shown spots.old.items ++ check_in_if (check_in_of_kind (kind_of names point.kind)) number at) }
     ensures spots { All (IsSpotOf first) spots.old.items → OnOk result (All (IsSpotOf first) spots.new.items) }
@@ -68,14 +78,11 @@ fn add_spot(
     let PointKind::CheckIn(kind) = point.kind else {
         return Ok(());
     };
-    let point = first.checked_add(number).ok_or(AllocError)?;
-    let Ok(before) = u32::try_from(spots.len()) else {
-        return Err(AllocError);
-    };
+    let before = spots.len() as u32;
     spots.push(Spot {
         number,
         before,
-        point,
+        point: first + number,
         at,
         kind,
     })?;

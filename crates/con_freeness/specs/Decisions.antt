@@ -1,10 +1,13 @@
 -- The verdict on rows of ids, by a table of names.
-use Rattle.std.specs.Prelude.{◌≡◌, ℕ, ◌<◌, ◌↔◌, Bool, IsTrue, List, length, Some, slice_get}
+use Rattle.std.specs.Prelude.{◌≡◌, ℕ, ◌<◌, ◌↔◌, Bool, IsTrue, List, length, Some, slice_get, ⊤}
 use Rattle.name_sets.specs.IdSet.{Holds, IsCommon}
 use Rattle.name_sets.specs.NameLists.{is_among}
 use Rattle.name_sets.specs.Texts.{IsTable}
 use Rattle.con_freeness.specs.declared.row.Row.{Row as RowOfIds}
+use Rattle.con_freeness.specs.declared.refusal.Effect.{Effect as EffectOfIds}
+use Rattle.con_freeness.specs.declared.refusal.Effect.TheVariants as ids
 use Rattle.con_freeness.specs.declared.refusal.Verdict.{Verdict as VerdictOfIds}
+use Rattle.con_freeness.specs.declared.refusal.Verdict.TheVariants as answer
 use Rattle.con_freeness.specs.Verdicts.{verdict_seen}
 use Rattle.con_freeness.specs.Rows.{Names, Row, InForce, verdict}
 
@@ -40,3 +43,14 @@ IsDecision table in_force pinned changed interface answer =
     → IsTable table → AreSlotsOf table in_force pinned slots
     → IsListOf table changed changed_names → IsListOf table interface interface_names
     → verdict_seen table answer ≡ verdict slots changed_names interface_names
+
+-- the ids of an effect are in the table
+abbrev pub AreKnown : Names → EffectOfIds → Type 0
+AreKnown table (ids.Concrete z) = z < length table
+AreKnown table (ids.Both y z) = (y < length table) × (z < length table)
+AreKnown table (ids.Pinned z) = z < length table
+
+-- the ids of a refusal are
+abbrev pub HasKnownIds : Names → VerdictOfIds → Type 0
+HasKnownIds table answer.Admitted = ⊤
+HasKnownIds table (answer.Refused r) = AreKnown table r.effect

@@ -1,8 +1,8 @@
 //! The test of the rows in force.
-ghost use Rattle.std.specs.Prelude.{◌≡◌, ℕ, ◌<◌, All, length};
+ghost use Rattle.std.specs.Prelude.{◌≡◌, ℕ, ◌<◌, All, IfSome, length};
 ghost use Rattle.name_sets.specs.IdSet.{IsCommon};
 ghost use Rattle.name_sets.specs.Least.{TellsLeast};
-ghost use Rattle.con_freeness.specs.Decisions.{HasCommonIn, IsDecision};
+ghost use Rattle.con_freeness.specs.Decisions.{AreKnown, HasCommonIn, HasKnownIds, IsDecision};
 ghost use Rattle.con_freeness.specs.Obstacles.{IsObstacle, IsAcross};
 
 use crate::{Effect, Refusal, Row, Verdict, plain};
@@ -29,7 +29,8 @@ pub fn decide(
     names: &Names,
 ) -> Verdict
     requires { All (HasCommonIn names.now changed.now interface.now) in_force.now }
-    ensures { IsDecision names.now in_force.now pinned.now changed.now interface.now result }
+    ensures verdict { IsDecision names.now in_force.now pinned.now changed.now interface.now result }
+    ensures known { HasKnownIds names.now result }
 {
     decide_by(Form::Lanes, in_force, pinned, changed, interface, names)
 }
@@ -43,7 +44,8 @@ pub fn decide_plain(
     names: &Names,
 ) -> Verdict
     requires { All (HasCommonIn names.now changed.now interface.now) in_force.now }
-    ensures { IsDecision names.now in_force.now pinned.now changed.now interface.now result }
+    ensures verdict { IsDecision names.now in_force.now pinned.now changed.now interface.now result }
+    ensures known { HasKnownIds names.now result }
 {
     decide_by(Form::Plain, in_force, pinned, changed, interface, names)
 }
@@ -58,7 +60,8 @@ fn decide_by(
     names: &Names,
 ) -> Verdict
     requires { All (HasCommonIn names.now changed.now interface.now) in_force.now }
-    ensures { IsDecision names.now in_force.now pinned.now changed.now interface.now result }
+    ensures verdict { IsDecision names.now in_force.now pinned.now changed.now interface.now result }
+    ensures known { HasKnownIds names.now result }
 {
     for slot in 0..16usize {
         let row = &in_force[slot];
@@ -83,7 +86,8 @@ fn obstacle(
     names: &Names,
 ) -> Option<Effect>
     requires { HasCommonIn names.now changed.now interface.now row.now }
-    ensures { IsObstacle names.now row.now pinned changed.now interface.now result }
+    ensures effect { IsObstacle names.now row.now pinned changed.now interface.now result }
+    ensures known { IfSome result (AreKnown names.now) }
 {
     match least_common(form, interface, &row.concrete, names) {
         Some(name) => Some(Effect::Concrete(name)),
@@ -95,7 +99,8 @@ fn obstacle(
 fn across(form: Form, row: &Row, pinned: bool, changed: &NameSet, names: &Names) -> Option<Effect>
     requires prior { (id : ℕ) → IsCommon changed.now row.now.prior id → id < length names.now }
     requires future { (id : ℕ) → IsCommon changed.now row.now.future id → id < length names.now }
-    ensures { IsAcross names.now row.now pinned changed.now result }
+    ensures effect { IsAcross names.now row.now pinned changed.now result }
+    ensures known { IfSome result (AreKnown names.now) }
 {
     let Some(future) = least_common(form, changed, &row.future, names) else {
         return None;

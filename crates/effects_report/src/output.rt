@@ -1,6 +1,6 @@
 //! The whole text.
 ghost use Rattle.std.specs.Prelude.{◌≡◌, ◌≤◌, [], ◌∷◌, length, map, All, IfOk, IsErrOf};
-ghost use Rattle.c_types.specs.Definitions.{Types};
+ghost use Rattle.c_front.specs.Accepted.{Accepted};
 ghost use Rattle.c_semantics.specs.SourceTexts.{text_of};
 ghost use Rattle.c_semantics.specs.Store.{store};
 ghost use Rattle.c_semantics.specs.Texts.{definition};
@@ -21,16 +21,14 @@ use dsu_io::Sink;
 use dsu_report::ReportFault;
 use std::alloc::{AllocError, Global};
 
-/// Writes the effects of a typed text. `text` has the bytes of the text.
-///
-/// `Memory` is also the answer where the text uses a name that it doesn't define. No text that was read from bytes does, but
-/// no clause says so.
+/// Writes the effects of a text that was accepted. `text` has the bytes of the text.
 pub fn write_effects<S: Sink>(
     alloc: Global,
     typed: &Typed,
     text: &[u8],
     sink: &mut S,
 ) -> Result<(), ReportFault>
+    requires { Accepted text.now typed.now }
     ensures bytes { Writes typed.now text.now (S.told sink.old) (S.told sink.new) result }
     ensures later { S.faults sink.old ≤ S.faults sink.new }
     ensures failed { IsErrOf result ReportFault.Failed → Rose (S.faults sink.old) (S.faults sink.new) }
@@ -54,7 +52,7 @@ pub fn write_effects<S: Sink>(
 
 /// What is written of a program with the bytes of its text.
 fn report_of<'a>(alloc: Global, program: &Program, text: &'a [u8]) -> Result<Report<'a>, AllocError>
-    requires { Types program.now }
+    requires { Accepted text.now program.now }
     ensures blocks { let read = text_of program.now in
         IfOk result (λ report. AreBlocksFrom (store (read ∷ [])) (definition read.definitions) 0
         (functions program.now) (map (block_of report.names report.effects) report.sections.items)) }

@@ -14,7 +14,8 @@ use std::alloc::{AllocError, Global};
 /// The names that some definitions define, in the order of their bytes. A table has room for them.
 pub(crate) fn names_of(alloc: Global, definitions: &[Def]) -> Result<Names, AllocError>
     requires { length (name_set (names (map bare_def definitions.now))) ≤ most_names }
-    ensures { IfOk result (λ names. IsOrdered names) }
+    ensures ordered { IfOk result (λ table. IsOrdered table) }
+    ensures all { IfOk result (λ table. table ≡ name_set (names (map bare_def definitions.now))) }
 {
     let texts = names_in_order(alloc, definitions)?;
     let names = table_of(alloc, texts.as_slice())?;

@@ -1,1 +1,2 @@
 pub mod Installed
+pub mod Firsts

@@ -1,5 +1,5 @@
 //! The versions of a run so far.
-ghost use Rattle.std.specs.Prelude.{◌≡◌, ℕ, ◌<◌, ◌≤◌, List, [], ◌∷◌, ◌++◌, false, length, map, string_bytes, IfOk, OnOk, OnErr};
+ghost use Rattle.std.specs.Prelude.{◌≡◌, ℕ, ◌<◌, ◌≤◌, List, [], ◌∷◌, ◌++◌, false, length, map, string_bytes, IfOk, IfErr, OnOk, OnErr};
 ghost use Rattle.c_semantics.specs.SourceTexts.{Text, text_of};
 ghost use Rattle.c_semantics.specs.Store.{store};
 ghost use Rattle.c_tree.specs.BareExpr.{Bytes};
@@ -10,8 +10,10 @@ ghost use Rattle.code_store.specs.Stored.{meant_body, IsStoreOf};
 ghost use Rattle.patch_build.specs.Tables.{with_texts};
 ghost use Rattle.patch_build.specs.Versions.{AreVersions, IsTableOf};
 ghost use Rattle.source_model.specs.Patches.{all_names};
+ghost use Rattle.installed_versions.specs.Firsts.{IsFirstFault, IsStoreFault};
 ghost use Rattle.installed_versions.specs.Installed.{IsInstalled, IsSeenAs, Replaces};
 
+use crate::fault::FirstFault;
 use brought_bodies::first_bodies;
 use c_types::Typed;
 use code_store::{Store, StoredBody};
@@ -42,11 +44,10 @@ pub struct Replaced {
 }
 
 impl Installed {
-    /// The first version. `AllocError` is also the answer where a function of the text uses a name that the
-    /// text doesn't define, or where the text has more check-ins or tokens than a version may; no accepted
-    /// text does.
-    pub fn first(alloc: Global, text: &Typed) -> Result<Installed, AllocError>
-        ensures { IfOk result (λ i. IsInstalled (text_of text.now ∷ []) i.count i.names i.store) }
+    /// The first version.
+    pub fn first(alloc: Global, text: &Typed) -> Result<Installed, FirstFault>
+        ensures installed { IfOk result (λ i. IsInstalled (text_of text.now ∷ []) i.count i.names i.store) }
+        ensures fault { IfErr result (λ fault. IsFirstFault text.now fault) }
     {
         let names = names_of(alloc, text)?;
         let store = store_of(alloc, &names, text)?;
@@ -153,16 +154,15 @@ fn add_all(names: &mut Names, texts: &[String]) -> Result<(), AllocError>
 }
 
 /// The store of the bodies that a text brings as the first version.
-fn store_of(alloc: Global, names: &Names, text: &Typed) -> Result<Store, AllocError>
-    ensures { IsTable names.now
+fn store_of(alloc: Global, names: &Names, text: &Typed) -> Result<Store, FirstFault>
+    ensures stored { IsTable names.now
         → IfOk result (λ stored. IsStoreOf names.now (store (text_of text.now ∷ [])) stored) }
+    ensures fault { IfErr result (λ fault. IsStoreFault names.now text.now fault) }
 {
-    let Ok(bodies) = first_bodies(alloc, names, text) else {
-        return Err(AllocError);
-    };
+    let bodies = first_bodies(alloc, names, text)?;
     let mut store = Store::new(alloc);
     if !store.has_room(&bodies) {
-        return Err(AllocError);
+        return Err(FirstFault::StoreFull);
     }
     store.add_all(bodies)?;
     Ok(store)

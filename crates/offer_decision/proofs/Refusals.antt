@@ -7,7 +7,7 @@ use Rattle.con_freeness.specs.declared.refusal.Effect.{Effect as EffectOfIds}
 use Rattle.con_freeness.specs.declared.refusal.Effect.TheVariants as ids
 use Rattle.con_freeness.specs.Verdicts.{Concrete, Both, Pinned, effect_seen}
 use Rattle.offer_decision.specs.Laws.{RefusalsStay}
-use Rattle.offer_decision.specs.Refusals.{AreKnown}
+use Rattle.con_freeness.specs.Decisions.{AreKnown}
 
 text_stays : (names more : List Bytes) (id : ℕ) → id < length names → text_of (names ++ more) id ≡ text_of names id
 text_stays names more id l = get_or_append_left names more [] id l

@@ -18,7 +18,7 @@ use Rattle.offer_decision.specs.declared.answer.Decision.{Decision}
 use Rattle.offer_decision.specs.declared.answer.Decision.TheVariants as decision
 use Rattle.offer_decision.specs.declared.seat.Seat.{Seat}
 use Rattle.offer_decision.specs.Patches.{IsPatchFor}
-use Rattle.offer_decision.specs.Refusals.{AreKnown}
+use Rattle.con_freeness.specs.Decisions.{AreKnown}
 use Rattle.offer_decision.specs.Seats.{AreSeats, AreInTransactions}
 
 -- the verdict on changed names, among these those whose interface changes, over the rows in force of the slots

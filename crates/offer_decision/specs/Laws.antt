@@ -16,7 +16,7 @@ use Rattle.patch_build.specs.declared.patch.Versions.{Versions}
 use Rattle.offer_decision.specs.declared.answer.Decision.TheVariants as decision
 use Rattle.offer_decision.specs.declared.seat.Seat.{Seat}
 use Rattle.offer_decision.specs.Decided.{IsDecision}
-use Rattle.offer_decision.specs.Refusals.{AreKnown}
+use Rattle.con_freeness.specs.Decisions.{AreKnown}
 
 -- the text is no patch, and nothing but the offer is closed
 abbrev pub NoPatchIsDecided : Type 0

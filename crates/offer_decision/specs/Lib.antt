@@ -1,5 +1,4 @@
 pub mod Seats
-pub mod Refusals
 pub mod Patches
 pub mod Decided
 pub mod Laws

@@ -27,7 +27,8 @@ fn tested_over(
 {
     let rows = rows(alloc, versions.store)?;
     let in_force = rows_of_seats(&rows, versions.store.bodies(), seats);
-    tested(versions.names, changed, interface, &in_force, seats)
+    let tested = tested(versions.names, changed, interface, &in_force, seats);
+    Ok(tested)
 }
 
 /// The decision on a patch.

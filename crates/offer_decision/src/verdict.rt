@@ -1,15 +1,13 @@
 //! The test of the rows.
-ghost use Rattle.std.specs.Prelude.{ℕ, ◌<◌, ◌↔◌, IfOk, IsTrue, length};
+ghost use Rattle.std.specs.Prelude.{ℕ, ◌<◌, ◌↔◌, length};
 ghost use Rattle.name_sets.specs.IdSet.{Holds};
-ghost use Rattle.offer_decision.specs.Refusals.{AreKnown};
 ghost use Rattle.offer_decision.specs.Steps.{IsTested};
 
 use crate::answer::Tested;
 use crate::pins::{pins, pins_after};
 use crate::seat::Seat;
-use con_freeness::{Effect, Refusal, Row, Verdict, decide};
+use con_freeness::{Row, Verdict, decide};
 use name_sets::{NameId, NameSet, Names};
-use std::alloc::AllocError;
 
 /// The ids of a set that a table has.
 fn within(names: &Names, set: &NameSet) -> NameSet
@@ -26,39 +24,21 @@ fn within(names: &Names, set: &NameSet) -> NameSet
     ids
 }
 
-/// Whether a table has the names of a refusal.
-fn are_known(names: &Names, refusal: &Refusal) -> bool
-    ensures { IsTrue result ↔ AreKnown names.now refusal.now.effect }
-{
-    match refusal.effect {
-        Effect::Both(prior, future) => {
-            prior.index() < names.len() && future.index() < names.len()
-        }
-        Effect::Concrete(name) | Effect::Pinned(name) => name.index() < names.len(),
-    }
-}
-
 /// The verdict of the rows in force on some changed names, among these those of which the interface changes, and the pins
-/// after an install. The rows have only names of the table, so names of the patch that the table lacks don't matter. It answers
-/// `AllocError` if the refusal had a name that the table lacks, which the test of the rows rules out.
+/// after an install. The rows have only names of the table, so names of the patch that the table lacks don't matter.
 pub(crate) fn tested(
     names: &Names,
     changed: &NameSet,
     interface: &NameSet,
     in_force: &[Row; 16],
     seats: &[Seat; 16],
-) -> Result<Tested, AllocError>
-    ensures { IfOk result (IsTested names.now changed.now interface.now in_force.now seats.now) }
+) -> Tested
+    ensures { IsTested names.now changed.now interface.now in_force.now seats.now result }
 {
     let changed = within(names, changed);
     let interface = within(names, interface);
     match decide(in_force, &pins(seats), &changed, &interface, names) {
-        Verdict::Admitted => Ok(Tested::Admitted(pins_after(&changed, in_force, seats))),
-        Verdict::Refused(refusal) => {
-            if !are_known(names, &refusal) {
-                return Err(AllocError);
-            }
-            Ok(Tested::Refused(refusal))
-        }
+        Verdict::Admitted => Tested::Admitted(pins_after(&changed, in_force, seats)),
+        Verdict::Refused(refusal) => Tested::Refused(refusal),
     }
 }

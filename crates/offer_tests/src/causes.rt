@@ -1,9 +1,8 @@
 //! Each cause alone for which a text is no patch, and two at once.
-use crate::texts::{FIRST, read};
+use crate::texts::{FIRST, first_of, read};
 use c_types::Typed;
 use code_store::{MOST_FUNCTION_TOKENS, Store, StoredBody};
 use dsu_io::Boxed;
-use installed_versions::Installed;
 use itoa::Buffer;
 use name_sets::{MOST_NAMES, NameId, Names};
 use patch_build::{MOST_VERSIONS, Patch, PatchFault, Versions, prepare};
@@ -99,7 +98,7 @@ static TWO: [Offer; 5] = [
 
 /// The names of the first version, and others until there are so many.
 fn names_with(alloc: Global, first: &Typed, many: usize) -> Result<Boxed<Names>, Fail> {
-    let mut names = Installed::first(alloc, first)?.into_names();
+    let mut names = first_of(alloc, first)?.into_names();
     for n in 0..many {
         if names.len() < many {
             let _ = names.add(Buffer::new().format(n));

@@ -1,8 +1,7 @@
 //! Offers to the small program of the documents on admission.
-use crate::texts::read;
+use crate::texts::{first_of, read};
 use con_freeness::{Effect, Refusal};
 use dsu_io::Boxed;
-use installed_versions::Installed;
 use name_sets::{NameId, Names};
 use offer_decision::{Decision, Seat, decision};
 use patch_build::Versions;
@@ -150,7 +149,7 @@ fn are_answered(alloc: Global, versions: Versions<'_>, cases: &[Case]) -> Result
 #[test]
 fn by_the_place_in_the_transaction(rt: HostRuntime) -> Result<(), Fail> {
     let first = read(rt.alloc(), FIRST)?;
-    let installed = Boxed::of(rt.alloc(), Installed::first(rt.alloc(), first.get())?)?;
+    let installed = Boxed::of(rt.alloc(), first_of(rt.alloc(), first.get())?)?;
     let versions = installed.get().versions(first.get());
     assert!(rt; are_answered(rt.alloc(), versions, &CASES)?);
     Ok(())

@@ -1,5 +1,5 @@
 //! An install that is taken back and made anew.
-use crate::texts::{FIRST, Row, SECOND, has_bodies, has_names, read};
+use crate::texts::{FIRST, Row, SECOND, first_of, has_bodies, has_names, read};
 use c_types::Typed;
 use installed_versions::{Installed, Replaced};
 use patch_build::{MOST_VERSIONS, Versions, prepare};
@@ -54,7 +54,7 @@ fn are_right(
 
 /// Whether they are for two texts.
 fn is_right(alloc: Global, first: &Typed, second: &Typed) -> Result<bool, Fail> {
-    let mut installed = Installed::first(alloc, first)?;
+    let mut installed = first_of(alloc, first)?;
     let answer = are_right(alloc, &mut installed, first, second);
     drop(installed);
     answer

@@ -3,6 +3,7 @@ use c_front::read_text;
 use c_types::Typed;
 use code_store::StoredBody;
 use dsu_io::Boxed;
+use installed_versions::Installed;
 use name_sets::{NameId, Names};
 use std::alloc::Global;
 use std::test::Fail;
@@ -35,6 +36,14 @@ pub(crate) fn read(alloc: Global, text: &str) -> Result<Boxed<Typed>, Fail> {
     match read_text(alloc, text.as_bytes()) {
         Ok(typed) => Ok(Boxed::of(alloc, typed)?),
         Err(_) => Err(Fail::new("the text has a fault")),
+    }
+}
+
+/// The first version of a text that has one.
+pub(crate) fn first_of(alloc: Global, text: &Typed) -> Result<Installed, Fail> {
+    match Installed::first(alloc, text) {
+        Ok(installed) => Ok(installed),
+        Err(_) => Err(Fail::new("the text has no first version")),
     }
 }
 

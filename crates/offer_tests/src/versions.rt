@@ -1,8 +1,7 @@
 //! What patches bring over three versions.
-use crate::texts::{FIRST, Row, SECOND, has_bodies, has_names, read};
+use crate::texts::{FIRST, Row, SECOND, first_of, has_bodies, has_names, read};
 use c_types::Typed;
 use dsu_io::Boxed;
-use installed_versions::Installed;
 use name_sets::{NameSet, Names};
 use patch_build::{Patch, Versions, prepare};
 use std::alloc::Global;
@@ -73,7 +72,7 @@ fn third_is_patch(alloc: Global, versions: Versions<'_>) -> Result<bool, Fail> {
 
 /// Whether the second version is the patch that it should be, and the third after it.
 fn both_are_patches(alloc: Global, first: &Typed, second: &Typed) -> Result<bool, Fail> {
-    let installed = Boxed::of(alloc, Installed::first(alloc, first)?)?;
+    let installed = Boxed::of(alloc, first_of(alloc, first)?)?;
     let before = installed.get().versions(first);
     let patch = patch_of(alloc, before, second)?;
     let versions = Versions {

@@ -1,6 +1,6 @@
 //! Why the newer text is no patch.
 use c_types::Typed;
-use installed_versions::Installed;
+use installed_versions::{FirstFault, Installed};
 use patch_build::{PatchFault, prepare};
 use patch_compare::{CompareFault, compare};
 use patch_faults::TransformFault;
@@ -44,7 +44,12 @@ pub(crate) fn cause_of_admission(
     old: &Typed,
     new: &Typed,
 ) -> Result<Option<NotPatch>, AllocError> {
-    let installed = Installed::first(alloc, old)?;
+    let installed = match Installed::first(alloc, old) {
+        Ok(installed) => installed,
+        Err(FirstFault::Memory) => return Err(AllocError),
+        // Each accepted text has a first version.
+        Err(FirstFault::UndefinedName | FirstFault::StoreFull) => return Ok(None),
+    };
     match prepare(alloc, installed.versions(old), new) {
         Ok(_) => Ok(None),
         Err(PatchFault::Not(cause)) => Ok(Some(cause)),

@@ -1,4 +1,4 @@
-use Rattle.std.proofs.Common.{length, ap, ◌∙◌}
+use Rattle.std.proofs.Common.{length, ap, ◌∙◌, arith}
 use Rattle.std.specs.Prelude.{count_by}
 use Rattle.std.specs.List.{flat_map}
 use Rattle.std.specs.Option.{is_none}
@@ -10,9 +10,11 @@ use Rattle.admits_report.proofs.counts.counts_of.Goals as goal
 pub loop-function-preserved : goal.loop-function-preserved
 loop-function-preserved c = (
   parts_more is_none ids_of c.args.functions.now c.loop-function.function-index c.function-item.result _ _ c.loop-function-test.true
-      c.function-item.is c.loop-function.invariant.0 c.in_ok-add_function.ensures.admitted,
+      c.function-item.is c.loop-function.invariant.0 c.add_function.ensures.admitted,
   lengths_more ids_of c.args.functions.now c.loop-function.function-index c.function-item.result _ _ c.loop-function-test.true
-      c.function-item.is c.loop-function.invariant.1 c.in_ok-add_function.ensures.all,
+      c.function-item.is c.loop-function.invariant.1 c.add_function.ensures.all,
+  grind (arith, c.add_function.ensures.fewer, c.loop-function.invariant.2),
+  grind (arith, c.add_function.ensures.few, c.loop-function.invariant.3),
 )
 
 pub returns-clause-admitted : goal.returns-clause-admitted

@@ -1,6 +1,7 @@
-use Rattle.std.proofs.Common.{[], ◌∷◌, Option, refl, sym, subst}
+use Rattle.std.proofs.Common.{[], ◌∷◌, Err, Option, map, refl, ap, sym, subst}
 use Rattle.std.proofs.lemmas.Result.{IfOk-weaker}
 use Rattle.c_tree.specs.BareExpr.{Bytes}
+use Rattle.c_tree.specs.Bare.{bare_def}
 use Rattle.c_tree.specs.declared.def.Program.{Program}
 use Rattle.c_semantics.specs.Changes.{changed, interface}
 use Rattle.c_semantics.specs.SourceTexts.{text_of}
@@ -8,6 +9,9 @@ use Rattle.c_semantics.specs.Store.{store}
 use Rattle.source_model.specs.declared.patch.NotPatch.{NotPatch}
 use Rattle.source_model.specs.Patches.{not_patch}
 use Rattle.code_store.specs.Stored.{IsStoreOf}
+use Rattle.brought_bodies.specs.Unknown.{HasUnknownFunction}
+use Rattle.accepted_bodies.proofs.DefinedUses.{accepted_texts_are_known, accepted_texts_have_none}
+use Rattle.installed_versions.proofs.Firsts.{own_name}
 use Rattle.patch_build.specs.declared.fault.PatchFault.{PatchFault}
 use Rattle.patch_build.specs.declared.fault.PatchFault.TheVariants.{Not, UndefinedName, Memory}
 use Rattle.patch_build.specs.Faults.{IsCause}
@@ -54,3 +58,22 @@ returns c =
     (λ text is. by_fault p c.args.old_text.now c.args.new.now c.args.new_text.now c.in-Err.fault (not_patch (store (old ∷ [])) (old ∷ []) new) text.items
     (c.in-Err.ensures.fault (old ∷ []) are) is)
     c.text_of_fault.ensures
+
+pub first_version-requires : goal.first_version-requires
+first_version-requires c = c.accepted_programs_start.ensures c.args.old_text.now c.args.old.now c.requires.old
+
+pub text_of_patch-requires : goal.text_of_patch-requires
+text_of_patch-requires c =
+    let p = c.args.old.now in
+    let old = text_of p in
+    let v = c.versions-versions.result in
+    let are : AreVersions (old ∷ []) v = c.versions-versions.ensures.versions (old ∷ []) [] c.in_ok-installed.ensures refl in
+    subst {A = Program} (λ tree. HasUnknownFunction v.names.now (map bare_def tree.definitions) → ⊥) (sym c.program.ensures.tree)
+    (accepted_texts_are_known v.names.now old (record { bytes = c.args.old_text.now; accepted = c.requires.old; is = refl })
+    (λ name there. (are.names_are.members name).1 (own_name old name there)))
+
+pub text_of_fault-requires : goal.text_of_fault-requires
+text_of_fault-requires c = λ is.
+    let new = text_of c.args.new.now in
+    accepted_texts_have_none new (record { bytes = c.args.new_text.now; accepted = c.requires.new; is = refl })
+    (c.in-Err.ensures.undefined (ap Err is))

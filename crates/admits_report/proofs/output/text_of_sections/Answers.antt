@@ -12,7 +12,7 @@ returns c =
     let names = c.args.admission.now.names.now in
     let functions = c.in_ok-functions.functions.items in
     let blocks = map (block_of names) functions in
-    let counts = c.in_ok-counts.counts in
+    let counts = c.counts_of-counts.result in
     record {
       functions = functions;
       are = c.in_ok-functions.ensures;
@@ -23,5 +23,5 @@ returns c =
           (c.in_ok-add_counts.ensures
           ∙ ap (λ line. c.add_functions.new.text.items ++ line)
           (counted_of names c.as_slice.result.now functions counts.admitted counts.all c.as_slice.ensures.value
-          c.in_ok-counts.ensures.admitted c.in_ok-counts.ensures.all)));
+          c.counts_of-counts.ensures.admitted c.counts_of-counts.ensures.all)));
     }

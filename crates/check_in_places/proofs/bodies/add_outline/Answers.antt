@@ -1,4 +1,4 @@
-use Rattle.std.proofs.Common.{◌≡◌, List, [], ◌∷◌, ◌++◌, ℕ, Some, slice_get, length, ap, sym, ◌∙◌, subst}
+use Rattle.std.proofs.Common.{◌≡◌, List, Contains, [], ◌∷◌, ◌++◌, ℕ, Some, slice_get, length, ap, sym, ◌∙◌, subst}
 use Rattle.check_in_places.specs.declared.section.Section.{Section}
 use Rattle.skeletons.specs.Meaning.{meant}
 use Rattle.effect_flow.specs.declared.flow.FlowPoint.{FlowPoint}
@@ -30,3 +30,10 @@ returns c = λ text done is are.
     (λ adds.
     subst {A = List Section} (λ list. AreBodiesOf names text (done ++ f ∷ []) c.add.new.self list) (sym c.in_ok-push.ensures.items)
     (function_added names text done old c.add.new.self c.args.bodies.now.sections.items f outline id section are is named made adds))
+
+-- the table has the function
+pub unreachable-requires : goal.unreachable-requires
+unreachable-requires c = c.requires.there (subst {A = List ℕ} (λ name. Contains c.args.names.now name → ⊥) c.as_str.ensures c.in_default.ensures.absent)
+
+pub section_of-requires-clause-places : goal.section_of-requires-clause-places
+section_of-requires-clause-places c = ap length c.as_slice.ensures.value ∙ c.requires.places

@@ -1,4 +1,4 @@
-use Rattle.std.proofs.Common.{◌≡◌, ℕ, List, map}
+use Rattle.std.proofs.Common.{◌≡◌, ◌≤◌, ℕ, List, length, map}
 use Rattle.std.specs.Prelude.{All}
 use Rattle.skeletons.specs.Meaning.{meant}
 use Rattle.check_in_places.specs.CheckIns.{check_ins_below}
@@ -11,3 +11,4 @@ invariant-loop-number l =
     ((names : List (List ℕ)) → map shown l.spots.items ≡ check_ins_below (meant names l.skeleton) l.places l.number)
     × All (IsSpotOf l.first) l.spots.items
     × ((names : List (List ℕ)) → All (IsCounted (meant names l.skeleton)) l.spots.items)
+    × (length l.spots.items ≤ l.number)

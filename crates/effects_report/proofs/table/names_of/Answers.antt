@@ -18,9 +18,12 @@ table_of-requires-clause-few c =
     let long = length-map texts string_bytes in
     omega (arith, c.requires, same, long)
 
-pub returns : goal.returns
-returns c =
+pub returns-clause-ordered : goal.returns-clause-ordered
+returns-clause-ordered c =
     let texts = c.as_slice.result.now in
     let ascend : Ascend (map string_bytes texts) =
     subst Ascend (sym (ap (map string_bytes) c.as_slice.ensures.value ∙ c.in_ok-texts.ensures)) (set_ascends (names (map bare_def c.args.definitions.now))) in
     ordered c.in_ok-names.names (map string_bytes texts) c.len-many.ensures.table c.in_ok-names.ensures ascend
+
+pub returns-clause-all : goal.returns-clause-all
+returns-clause-all c = c.in_ok-names.ensures ∙ ap (map string_bytes) c.as_slice.ensures.value ∙ c.in_ok-texts.ensures

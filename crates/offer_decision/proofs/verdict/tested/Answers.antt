@@ -1,4 +1,5 @@
-use Rattle.std.proofs.Common.{◌≡◌, length, map, sym, ap, ◌∙◌}
+use Rattle.std.proofs.Common.{◌≡◌, length, map, sym, ap, subst, ◌∙◌}
+use Rattle.con_freeness.specs.Decisions.{HasKnownIds}
 use Rattle.con_freeness.specs.Verdicts.{verdict_seen}
 use Rattle.source_model.specs.Guards.{in_force}
 use Rattle.offer_decision.proofs.NamesOfIds.{list_within}
@@ -18,15 +19,15 @@ returns-in-Admitted c = λ rules bodies slots list other are table have own in_c
     record {
       verdict_is =
           sym (ap (verdict_seen names) (sym c.in-Admitted.is)
-          ∙ c.decide.ensures (map (in_force rules bodies) slots) list other table
+          ∙ c.decide.ensures.verdict (map (in_force rules bodies) slots) list other table
           (slots_are rules names bodies seats slots rows c.pins.result are many as_many own have c.pins.ensures) set_is other_is);
       pins_are = λ w within.
           pins_are rules names bodies seats slots rows c.within-changed.result list c.pins_after.result w are table many as_many
           c.pins_after.type_inv.1.0.1 own have set_is (λ row id both. ((c.within-changed.ensures id).0 both.0).1) c.pins_after.ensures within;
     }
 
-pub returns-else-not-are_known : goal.returns-else-not-are_known
-returns-else-not-are_known c = λ rules bodies slots list other are table have own in_c in_i.
+pub returns-in-Refused : goal.returns-in-Refused
+returns-in-Refused c = λ rules bodies slots list other are table have own in_c in_i.
     let names = c.args.names.now in
     let seats = c.args.seats.now in
     let rows = c.args.in_force.now in
@@ -37,7 +38,7 @@ returns-else-not-are_known c = λ rules bodies slots list other are table have o
     record {
       verdict_is =
           sym (ap (verdict_seen names) (sym c.in-Refused.is)
-          ∙ c.decide.ensures (map (in_force rules bodies) slots) list other table
+          ∙ c.decide.ensures.verdict (map (in_force rules bodies) slots) list other table
           (slots_are rules names bodies seats slots rows c.pins.result are many as_many own have c.pins.ensures) set_is other_is);
-      known = c.are_known.ensures.0 c.if-not-are_known.false;
+      known = subst (HasKnownIds names) c.in-Refused.is c.decide.ensures.known;
     }

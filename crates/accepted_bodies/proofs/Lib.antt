@@ -1,0 +1,6 @@
+pub mod DefinedUses
+mod TreeCheckIns
+mod ResolvedCheckIns
+mod CoveredExpressions
+mod CoveredStatements
+pub mod RoomForBodies

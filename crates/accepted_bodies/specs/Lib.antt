@@ -1,0 +1,2 @@
+pub mod DefinedUses
+pub mod BodyRoom
