@@ -1,22 +1,22 @@
--- One turn: a check-in, a move, and what holds of each.
-use Rattle.std.proofs.Common.{◌≡◌, ◌⊎◌, inl, inr, ℕ, ◌+◌, ◌-◌, ◌<◌, ◌≤◌, true, false, List, [], ◌∷◌, Option, Some, None, refl, ◌∙◌, ap, subst, arith, length-append}
-use Rattle.std.specs.Prelude.{◌^◌, length, min, vec_capacity}
-use Rattle.std.specs.Option.{is_some, option_or}
+-- One turn: what the thread in a slot can do, and what holds of each turn.
+use Rattle.std.proofs.Common.{◌≡◌, ◌⊎◌, inl, inr, ℕ, ◌+◌, ◌-◌, ◌<◌, ◌≤◌, Bool, true, false, List, [], ◌∷◌, Option, Some, None, refl, sym, ◌∙◌, ap, subst, arith, length-append}
+use Rattle.std.specs.Prelude.{◌^◌, length, min, vec_capacity, if◌then◌else◌}
 use Rattle.std.proofs.Math.Nat.{le-min, min-le_left, min-le_right}
-use Rattle.std.proofs.lemmas.Bool.{false≢true}
+use Rattle.std.proofs.lemmas.Bool.{true≢false}
+use Rattle.std.proofs.lemmas.Option.{none-some, same_Some}
 use Rattle.dsu_io.specs.Causes.{Rose}
 use Rattle.run_types.specs.declared.run.Event.{Event}
 use Rattle.run_types.specs.declared.run.Event.TheVariants.{Move, CheckIn, Decide}
+use Rattle.source_model.specs.Runs.{can_move}
 use Rattle.source_model.specs.Guards.{Guard, Setup, seat_of}
-use Rattle.source_model.specs.Schedules.{act_of, makes_move}
+use Rattle.source_model.specs.Journals.{happens}
+use Rattle.source_model.specs.Schedules.{act_of, makes_move, move_count}
 use Rattle.dsu_runs.specs.declared.running.Running.{Running}
 use Rattle.dsu_runs.specs.declared.running.Step.{Step}
 use Rattle.dsu_runs.specs.declared.running.Step.TheVariants.{Done, CannotHappen, SinkFailed, Memory, Misused, UndefinedName}
 use Rattle.dsu_runs.specs.declared.solo_run.SoloRun.{SoloRun}
-use Rattle.dsu_runs.specs.Turns.{GoesAt, Keeps, Steps, Turned, Waits, history_after}
-use Rattle.dsu_runs.proofs.Happening.{MoveMade, any_are_rows, any_rules, move_made, no_move, refused}
-use Rattle.dsu_runs.proofs.Standing.{act_going}
-use Rattle.dsu_runs.proofs.Turns.{by_second}
+use Rattle.dsu_runs.specs.Turns.{GoesAt, Keeps, Steps, Turned, followed, history_after}
+use Rattle.dsu_runs.proofs.Happening.{any_are_rows, any_rules, no_move, refused}
 
 -- a count that rose since a later moment rose since an earlier one
 pub rose_since : (a b c : ℕ) → a ≤ b → Rose b c → Rose a c
@@ -28,6 +28,10 @@ rose_since a b c later rose =
   where
     trans_le : (x y z : ℕ) → x ≤ y → y ≤ z → x ≤ z
     trans_le x y z p q = omega (arith, p, q)
+
+-- a run with another engine and history
+abbrev pub with_running : {E : Type 0} → SoloRun E → Running E → SoloRun E
+with_running old running = record { running = running; last = old.last; left = old.left }
 
 module _ {E : Type 0} (faults : E → ℕ) where
   -- a turn after turns in which nothing was next
@@ -43,7 +47,7 @@ module _ {E : Type 0} (faults : E → ℕ) where
         let second = after.still is in
         record {
           history = second.history ∙ first.history;
-          first = second.first ∙ first.first;
+          last = second.last ∙ first.last;
           left = second.left ∙ first.left;
         };
     longer = λ is.
@@ -60,19 +64,24 @@ module _ {E : Type 0} (faults : E → ℕ) where
       → vec_capacity old.running.history ≤ vec_capacity new.history → faults old.running.engine ≤ faults new.engine
       → (step ≡ SinkFailed → Rose (faults old.running.engine) (faults new.engine))
       → new.history.items ≡ history_after e old.running.history.items step
-      → Keeps faults old (record { running = new; first = old.first; left = old.left }) step
+      → Keeps faults old (with_running old new) step
   kept old new e step room later rose history = record {
     room = room;
     later = later;
     rose = rose;
     still = λ is.
-        record { history = history ∙ ap (history_after e old.running.history.items) is; first = refl; left = refl };
+        record { history = history ∙ ap (history_after e old.running.history.items) is; last = refl; left = refl };
     longer = λ is.
         ap length (history ∙ ap (history_after e old.running.history.items) is)
         ∙ length-append old.running.history.items (e ∷ []);
   }
 
 module _ {E : Type 0} (is_at : Guard → E → Type 0) (told : E → Option (List ℕ)) (setup : Setup) (g : Guard) where
+  -- what comes of a turn is what comes of the same with its event named otherwise
+  pub turned_by : (a b : Option Event) (old new : SoloRun E) (step : Step) → a ≡ b → Turned is_at told setup g a old new step
+      → Turned is_at told setup g b old new step
+  turned_by a b old new step is turned = subst (λ o. Turned is_at told setup g o old new step) is turned
+
   -- the same run with an event tried
   abbrev pub Tried : SoloRun E → Running E → Event → Step → Type 0
   Tried old new e step =
@@ -80,113 +89,97 @@ module _ {E : Type 0} (is_at : Guard → E → Type 0) (told : E → Option (Lis
       × (new.history.items ≡ history_after e old.running.history.items step)
       × (step ≡ SinkFailed → makes_move e ≡ true)
 
-  -- a check-in decides no offer
-  passes_no_offer : (slot k : ℕ) → CheckIn slot ≡ Decide k → ⊥
-  passes_no_offer slot k e = cc
+  -- what the thread in a slot can do: it passes a check-in, or it moves
+  pub data CanAct (slot : ℕ) (e : Event) : Type 0 where
+    AtCheckIn : (seat_of g slot).at_check_in ≡ true → e ≡ CheckIn slot → CanAct slot e
+    Goes : (seat_of g slot).at_check_in ≡ false → can_move g.world slot ≡ true → e ≡ Move slot → CanAct slot e
 
-  -- a check-in that isn't made: only out of memory
-  pub no_check_in : (old : SoloRun E) (new : Running E) (slot : ℕ) (step : Step) → GoesAt is_at g old.running.engine
-      → (seat_of g slot).at_check_in ≡ true → (step ≡ Done → ⊥) → Tried old new (CheckIn slot) step
-      → Turned is_at told setup g (act_of g slot) old (record { running = new; first = old.first; left = old.left }) step
-  no_check_in old new slot Done goes at other tried = absurd (other refl)
-  no_check_in old new slot CannotHappen goes at other tried =
-      absurd (refused any_rules setup slot g goes.going at goes.none_open (tried.0.never any_rules any_are_rows))
-  no_check_in old new slot SinkFailed goes at other tried = absurd (false≢true (tried.2 refl))
-  no_check_in old new slot Memory goes at other tried = record { silent = tried.0; history = tried.1 }
-  no_check_in old new slot Misused goes at other tried = absurd (passes_no_offer slot tried.0.decides.0 tried.0.decides.1)
-  no_check_in old new slot UndefinedName goes at other tried = absurd (passes_no_offer slot tried.0.decides.0 tried.0.decides.1)
+  can_act : (slot : ℕ) (e : Event) → act_of g slot ≡ Some e → CanAct slot e
+  can_act slot e is = by (seat_of g slot).at_check_in (can_move g.world slot) refl refl is
+    where
+      by : (a b : Bool) → (seat_of g slot).at_check_in ≡ a → can_move g.world slot ≡ b
+          → (if a then Some (CheckIn slot) else (if b then Some (Move slot) else None)) ≡ Some e → CanAct slot e
+      by true b at can same = AtCheckIn at (sym (same_Some (CheckIn slot) e same))
+      by false true at can same = Goes at can (sym (same_Some (Move slot) e same))
+      by false false at can same = absurd (none-some e same)
 
-  -- a move decides no offer
-  no_decision : (slot k : ℕ) → Move slot ≡ Decide k → ⊥
-  no_decision slot k e = cc
+  -- it decides no offer
+  no_offer : (slot k : ℕ) (e : Event) → CanAct slot e → e ≡ Decide k → ⊥
+  no_offer slot k e (AtCheckIn at is) same = cc
+  no_offer slot k e (Goes at can is) same = cc
 
-  can_move_there : (slot : ℕ) (after : Guard) → MoveMade g after slot → act_of g slot ≡ Some (Move slot)
-  can_move_there slot after made = act_going g slot true made.at_none (ap is_some made.to)
+  -- and it can happen
+  happens_then : (slot : ℕ) (e : Event) (engine : E) → GoesAt is_at g engine → CanAct slot e → happens any_rules setup e g ≡ None → ⊥
+  happens_then slot e engine goes (AtCheckIn at is) never =
+      refused any_rules setup slot g goes.going at goes.none_open (ap (λ x. happens any_rules setup x g) (sym is) ∙ never)
+  happens_then slot e engine goes (Goes at can is) never =
+      true≢false (sym can ∙ no_move any_rules setup slot g (ap (λ x. happens any_rules setup x g) (sym is) ∙ never) goes.going at)
 
-  -- a move that is made
-  pub moves_on : (old : SoloRun E) (new : Running E) (slot : ℕ) (step : Step) → 0 < old.left
-      → (step ≡ CannotHappen → ⊥) → (step ≡ Memory → ⊥) → Tried old new (Move slot) step
-      → Turned is_at told setup g (act_of g slot) old (record { running = new; first = slot + 1; left = old.left - 1 }) step
-  moves_on old new slot Done some other memory tried = record {
-    wanted = Move slot;
-    event = Move slot;
-    due = can_move_there slot tried.0.after (move_made any_rules setup slot g tried.0.after (tried.0.happens any_rules any_are_rows));
+  -- it is one move at most
+  left_then : (slot : ℕ) (e : Event) (left : ℕ) → CanAct slot e → 0 < left → (left - move_count (e ∷ [])) + move_count (e ∷ []) ≡ left
+  left_then slot e left (AtCheckIn at is) some =
+      ap (λ x. (left - move_count (x ∷ [])) + move_count (x ∷ [])) is ∙ none left
+    where
+      none : (n : ℕ) → (n - 0) + 0 ≡ n
+      none n = omega arith
+  left_then slot e left (Goes at can is) some =
+      ap (λ x. (left - move_count (x ∷ [])) + move_count (x ∷ [])) is ∙ one left some
+    where
+      one : (n : ℕ) → 0 < n → (n - 1) + 1 ≡ n
+      one n lt = omega (arith, lt)
+
+  -- it was made
+  pub acted : (old : SoloRun E) (new : Running E) (slot : ℕ) (e : Event) (step : Step) → 0 < old.left → act_of g slot ≡ Some e
+      → (step ≡ Done) ⊎ (step ≡ SinkFailed) → Tried old new e step
+      → Turned is_at told setup g (Some e) old (followed e (with_running old new)) step
+  acted old new slot e Done some is made tried = record {
+    wanted = e;
+    event = e;
+    due = refl;
     stands = inl refl;
     makes = tried.0;
     history = tried.1;
-    first = λ last is. refl;
-    left = omega (arith, some);
+    last = refl;
+    left = left_then slot e old.left (can_act slot e is) some;
   }
-  moves_on old new slot SinkFailed some other memory tried = record {
-    event = Move slot;
-    due = can_move_there slot tried.0.after (move_made any_rules setup slot g tried.0.after (tried.0.happens any_rules any_are_rows));
+  acted old new slot e SinkFailed some is made tried = record {
+    event = e;
+    due = refl;
     fails = tried.0;
-    moves = refl;
+    moves = tried.2 refl;
     history = tried.1;
-    left = omega (arith, some);
+    left = left_then slot e old.left (can_act slot e is) some;
   }
-  moves_on old new slot CannotHappen some other memory tried = absurd (other refl)
-  moves_on old new slot Memory some other memory tried = absurd (memory refl)
-  moves_on old new slot Misused some other memory tried = absurd (no_decision slot tried.0.decides.0 tried.0.decides.1)
-  moves_on old new slot UndefinedName some other memory tried = absurd (no_decision slot tried.0.decides.0 tried.0.decides.1)
+  acted old new slot e CannotHappen some is (inl made) tried = cc
+  acted old new slot e CannotHappen some is (inr made) tried = cc
+  acted old new slot e Memory some is (inl made) tried = cc
+  acted old new slot e Memory some is (inr made) tried = cc
+  acted old new slot e Misused some is (inl made) tried = cc
+  acted old new slot e Misused some is (inr made) tried = cc
+  acted old new slot e UndefinedName some is (inl made) tried = cc
+  acted old new slot e UndefinedName some is (inr made) tried = cc
 
-  -- a move that isn't made
-  pub stays_there : (old : SoloRun E) (new : Running E) (slot : ℕ) (step : Step) → GoesAt is_at g old.running.engine
-      → (seat_of g slot).at_check_in ≡ false → (step ≡ Done → ⊥) → (step ≡ SinkFailed → ⊥) → Tried old new (Move slot) step
-      → Turned is_at told setup g (act_of g slot) old (record { running = new; first = old.first; left = old.left }) step
-  stays_there old new slot Done goes at other failed tried = absurd (other refl)
-  stays_there old new slot SinkFailed goes at other failed tried = absurd (failed refl)
-  stays_there old new slot CannotHappen goes at other failed tried = record {
-    none = act_going g slot false at (no_move any_rules setup slot g (tried.0.never any_rules any_are_rows) goes.going at);
-    stays = tried.0.stays;
-    silent = tried.0.silent;
-  }
-  stays_there old new slot Memory goes at other failed tried = record { silent = tried.0; history = tried.1 }
-  stays_there old new slot Misused goes at other failed tried = absurd (no_decision slot tried.0.decides.0 tried.0.decides.1)
-  stays_there old new slot UndefinedName goes at other failed tried = absurd (no_decision slot tried.0.decides.0 tried.0.decides.1)
-
--- which step it was
-pub not_done : (s : Step) → (s ≡ CannotHappen) ⊎ ((s ≡ SinkFailed) ⊎ ((s ≡ Memory) ⊎ ((s ≡ Misused) ⊎ (s ≡ UndefinedName)))) → s ≡ Done → ⊥
-not_done s (inl a) is = cc (a, is)
-not_done s (inr (inl a)) is = cc (a, is)
-not_done s (inr (inr (inl a))) is = cc (a, is)
-not_done s (inr (inr (inr (inl a)))) is = cc (a, is)
-not_done s (inr (inr (inr (inr a)))) is = cc (a, is)
-
-pub was_made : (s other : Step) → (s ≡ Done) ⊎ (s ≡ SinkFailed) → (other ≡ CannotHappen) ⊎ ((other ≡ Memory) ⊎ ((other ≡ Misused) ⊎ (other ≡ UndefinedName)))
-    → s ≡ other → ⊥
-was_made s other (inl a) (inl b) is = cc (a, b, is)
-was_made s other (inl a) (inr (inl b)) is = cc (a, b, is)
-was_made s other (inl a) (inr (inr (inl b))) is = cc (a, b, is)
-was_made s other (inl a) (inr (inr (inr b))) is = cc (a, b, is)
-was_made s other (inr a) (inl b) is = cc (a, b, is)
-was_made s other (inr a) (inr (inl b)) is = cc (a, b, is)
-was_made s other (inr a) (inr (inr (inl b))) is = cc (a, b, is)
-was_made s other (inr a) (inr (inr (inr b))) is = cc (a, b, is)
-
-module _ {E : Type 0} (setup : Setup) (is_at : Guard → E → Type 0) (told : E → Option (List ℕ)) (faults : E → ℕ) (g : Guard) where
-  -- a run that goes on does so after a turn in which nothing was next
-  pub goes_still : (a : Option Event) (old mid : SoloRun E) → GoesAt is_at g old.running.engine → Waits is_at told g a old mid
-      → GoesAt is_at g mid.running.engine
-  goes_still a old mid goes waits = record { there = waits.stays; going = goes.going; none_open = goes.none_open }
-
-  -- a turn after one in which nothing was next
-  pub second_turn : (a b : Option Event) (old mid new : SoloRun E) (step : Step) → Keeps faults old mid CannotHappen
-      → Waits is_at told g a old mid → Turned is_at told setup g b mid new step
-      → Turned is_at told setup g (option_or a b) old new step
-  second_turn a b old mid new step kept waits turned =
-      by_second is_at told setup g a b old mid new step waits (kept.still refl) turned
-
-  -- nothing was next in two turns
-  pub waits_on : (a : Option Event) (old mid new : SoloRun E) → Waits is_at told g None old mid → Waits is_at told g a mid new
-      → Waits is_at told g None old new
-  waits_on a old mid new first second = record { none = refl; stays = second.stays; silent = second.silent ∙ first.silent }
-
-  -- a turn in which nothing was next
-  pub waited : (a : Option Event) (old new : SoloRun E) (step : Step) → step ≡ CannotHappen
-      → Turned is_at told setup g a old new step → Waits is_at told g a old new
-  waited a old new step is turned = subst (λ s. Turned is_at told setup g a old new s) is turned
-
-pub waits_kept : {E : Type 0} (faults : E → ℕ) (old new : SoloRun E) (step : Step) → step ≡ CannotHappen
-    → Keeps faults old new step → Keeps faults old new CannotHappen
-waits_kept faults old new step is kept = subst (λ s. Keeps faults old new s) is kept
+  -- it wasn't: only out of memory
+  pub lacked : (old : SoloRun E) (new : Running E) (slot : ℕ) (e : Event) (step : Step) → GoesAt is_at g old.running.engine
+      → act_of g slot ≡ Some e
+      → (step ≡ CannotHappen) ⊎ ((step ≡ Memory) ⊎ ((step ≡ Misused) ⊎ (step ≡ UndefinedName))) → Tried old new e step
+      → Turned is_at told setup g (Some e) old (with_running old new) step
+  lacked old new slot e Done goes is why tried = absurd (done why)
+    where
+      done : (Done ≡ CannotHappen) ⊎ ((Done ≡ Memory) ⊎ ((Done ≡ Misused) ⊎ (Done ≡ UndefinedName))) → ⊥
+      done (inl a) = cc
+      done (inr (inl a)) = cc
+      done (inr (inr (inl a))) = cc
+      done (inr (inr (inr a))) = cc
+  lacked old new slot e SinkFailed goes is why tried = absurd (failed why)
+    where
+      failed : (SinkFailed ≡ CannotHappen) ⊎ ((SinkFailed ≡ Memory) ⊎ ((SinkFailed ≡ Misused) ⊎ (SinkFailed ≡ UndefinedName))) → ⊥
+      failed (inl a) = cc
+      failed (inr (inl a)) = cc
+      failed (inr (inr (inl a))) = cc
+      failed (inr (inr (inr a))) = cc
+  lacked old new slot e CannotHappen goes is why tried =
+      absurd (happens_then slot e old.running.engine goes (can_act slot e is) (tried.0.never any_rules any_are_rows))
+  lacked old new slot e Memory goes is why tried = record { silent = tried.0; history = tried.1 }
+  lacked old new slot e Misused goes is why tried = absurd (no_offer slot tried.0.offer e (can_act slot e is) tried.0.decides)
+  lacked old new slot e UndefinedName goes is why tried = absurd (no_offer slot tried.0.offer e (can_act slot e is) tried.0.decides)

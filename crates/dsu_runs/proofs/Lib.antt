@@ -7,7 +7,7 @@ mod Offering
 mod Replaying
 mod Room
 mod Seats
+pub mod Slots
 mod Soloing
 mod Standing
 mod Stepping
-mod Turns

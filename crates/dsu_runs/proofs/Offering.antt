@@ -13,7 +13,7 @@ use Rattle.dsu_runs.specs.declared.running.Step.{Step}
 use Rattle.dsu_runs.specs.declared.running.Step.TheVariants.{Done, CannotHappen, SinkFailed, Memory, Misused, UndefinedName}
 use Rattle.dsu_runs.specs.declared.solo_run.SoloRun.{SoloRun}
 use Rattle.dsu_runs.specs.Turns.{GoesAt, Keeps, Turned, history_after}
-use Rattle.dsu_runs.proofs.Acting.{Tried, keeps_then, kept}
+use Rattle.dsu_runs.proofs.Acting.{Tried, keeps_then, kept, with_running}
 use Rattle.dsu_runs.proofs.Happening.{any_are_rows, any_rules, opens, withdraws}
 
 -- what a thread can do where so many moves are left
@@ -28,10 +28,6 @@ act_within_moves g last (suc n) some =
   where
     positive : (m : ℕ) → (suc m == 0) ≡ false
     positive m = grind (arith, nat_tests)
-
--- a run with another engine and history
-abbrev pub with_running : {E : Type 0} → SoloRun E → Running E → SoloRun E
-with_running old running = record { running = running; first = old.first; left = old.left }
 
 -- an event that is no move leaves as many moves
 none_made : (n : ℕ) → n + 0 ≡ n
@@ -55,7 +51,7 @@ module _ {E : Type 0} (is_at : Guard → E → Type 0) (told : E → Option (Lis
     stands = inl refl;
     makes = tried.0;
     history = tried.1;
-    first = λ last first. first;
+    last = refl;
     left = none_made old.left;
   }
   opened old new k CannotHappen goes is tried =
@@ -65,8 +61,8 @@ module _ {E : Type 0} (is_at : Guard → E → Type 0) (told : E → Option (Lis
       never a none some = cc
   opened old new k SinkFailed goes is tried = absurd (false≢true (tried.2 refl))
   opened old new k Memory goes is tried = record { silent = tried.0; history = tried.1 }
-  opened old new k Misused goes is tried = absurd (opens_only k tried.0.decides.0 tried.0.decides.1)
-  opened old new k UndefinedName goes is tried = absurd (opens_only k tried.0.decides.0 tried.0.decides.1)
+  opened old new k Misused goes is tried = absurd (opens_only k tried.0.offer tried.0.decides)
+  opened old new k UndefinedName goes is tried = absurd (opens_only k tried.0.offer tried.0.decides)
 
   -- a decision that was made
   pub decided : (old : SoloRun E) (new : Running E) (k : ℕ) (step : Step) → (step ≡ CannotHappen → ⊥) → (step ≡ Memory → ⊥)
@@ -78,7 +74,7 @@ module _ {E : Type 0} (is_at : Guard → E → Type 0) (told : E → Option (Lis
     stands = inl refl;
     makes = tried.0;
     history = tried.1;
-    first = λ last first. first;
+    last = refl;
     left = none_made old.left;
   }
   decided old new k CannotHappen can room used has tried = absurd (can refl)
@@ -134,7 +130,7 @@ module _ {E : Type 0} (is_at : Guard → E → Type 0) (told : E → Option (Lis
       grew = λ before grown. tried.0.grew before (still.silent ∙ grown);
     };
     history = tried.1 ∙ ap (λ es. es ++ Withdraw k ∷ []) still.history;
-    first = λ last first. first;
+    last = refl;
     left = none_made old.left;
   }
   withdrawn old mid new k CannotHappen still going is tried =
@@ -145,8 +141,8 @@ module _ {E : Type 0} (is_at : Guard → E → Type 0) (told : E → Option (Lis
   withdrawn old mid new k SinkFailed still going is tried = absurd (false≢true (tried.2 refl))
   withdrawn old mid new k Memory still going is tried =
       record { silent = tried.0 ∙ still.silent; history = tried.1 ∙ still.history }
-  withdrawn old mid new k Misused still going is tried = absurd (withdraws_only k tried.0.decides.0 tried.0.decides.1)
-  withdrawn old mid new k UndefinedName still going is tried = absurd (withdraws_only k tried.0.decides.0 tried.0.decides.1)
+  withdrawn old mid new k Misused still going is tried = absurd (withdraws_only k tried.0.offer tried.0.decides)
+  withdrawn old mid new k UndefinedName still going is tried = absurd (withdraws_only k tried.0.offer tried.0.decides)
 
 module _ {E : Type 0} (faults : E → ℕ) where
   -- an event tried where none was made before
@@ -161,7 +157,7 @@ module _ {E : Type 0} (faults : E → ℕ) where
         room = room;
         later = later;
         rose = λ is. absurd (no_failure is);
-        still = λ is. record { history = same; first = refl; left = refl };
+        still = λ is. record { history = same; last = refl; left = refl };
         longer = λ is. absurd (not_made is);
       })
       (kept faults (with_running old mid) new e step more_room more_later rose history)

@@ -184,10 +184,10 @@ module _ {E : Type 0} (setup : Setup) (is_at : Guard → E → Type 0) (told : E
           made = still history;
           later = later;
           stopped = record {
-            offer = m.decides.0;
+            offer = m.offer;
             next =
                 ap (λ (es : List Event). slice_get lines (length es)) history ∙ ap (slice_get lines) (count n now at) ∙ there
-                ∙ ap (λ e. Some (line.0, e)) m.decides.1;
+                ∙ ap (λ e. Some (line.0, e)) m.decides;
             misused = m.because;
             there = m.stays;
             printed =
@@ -205,10 +205,10 @@ module _ {E : Type 0} (setup : Setup) (is_at : Guard → E → Type 0) (told : E
           made = still history;
           later = later;
           stopped = record {
-            offer = m.decides.0;
+            offer = m.offer;
             next =
                 ap (λ (es : List Event). slice_get lines (length es)) history ∙ ap (slice_get lines) (count n now at) ∙ there
-                ∙ ap (λ e. Some (line.0, e)) m.decides.1;
+                ∙ ap (λ e. Some (line.0, e)) m.decides;
             undefined = m.because;
             there = m.stays;
             printed =

@@ -17,7 +17,7 @@ use Rattle.dsu_runs.specs.declared.running.Step.TheVariants as steps
 use Rattle.dsu_runs.specs.declared.solo_run.SoloRun.{SoloRun}
 use Rattle.dsu_runs.specs.declared.ran.StopCause.TheVariants.{Ended, SinkFailed, Memory}
 use Rattle.effects.specs.Rows.{AreRows}
-use Rattle.dsu_runs.specs.Turns.{Keeps, Turned, first_after, next_within, ran_of}
+use Rattle.dsu_runs.specs.Turns.{Keeps, Turned, next_within, ran_of}
 use Rattle.dsu_runs.specs.Solo.{EachBeforeTheEnd, RanSolo}
 use Rattle.dsu_runs.proofs.Acting.{rose_since}
 use Rattle.dsu_runs.proofs.Coming.{Came, came_first, came_more, failed_at, failed_legal, printed, printed_still}
@@ -73,13 +73,11 @@ module _ {E : Type 0} (setup : Setup) (is_at : Guard → E → Type 0) (told : E
   -- that are left have room
   pub record Going (s : SoloRun E) : Type 0 where
     pub guard : Guard
-    pub last : Option ℕ
     pub came : Came setup (told engine) s.running.history.items guard (told s.running.engine)
     pub there : is_at guard s.running.engine
     pub later : faults engine ≤ faults s.running.engine
-    pub solo : (rules : Rules) → AreRows rules.row → Solo rules setup (reverse s.running.history.items) guard last
+    pub solo : (rules : Rules) → AreRows rules.row → Solo rules setup (reverse s.running.history.items) guard s.last
     pub begun : EachBeforeTheEnd setup moves s.running.history.items
-    pub first : s.first ≡ first_after last
     pub left : s.left + move_count s.running.history.items ≡ moves
     pub room : length s.running.history.items + (check_ins guard.seats + offers_left setup guard) + 2 * s.left
         ≤ 2 * moves + 2 * length setup.offers
@@ -99,11 +97,10 @@ module _ {E : Type 0} (setup : Setup) (is_at : Guard → E → Type 0) (told : E
           → move_count s.running.history.items ≡ moves
       no_move n room = omega (arith, room, full, at.left)
 
-  pub starts : (s : SoloRun E) → s.running.engine ≡ engine → s.running.history.items ≡ [] → s.first ≡ 0 → s.left ≡ moves
+  pub starts : (s : SoloRun E) → s.running.engine ≡ engine → s.running.history.items ≡ [] → s.last ≡ None → s.left ≡ moves
       → is_at (first_guard setup) engine → Going s
   starts s same none first left at = record {
     guard = first_guard setup;
-    last = None;
     came =
         subst (λ es. Came setup (told engine) es (first_guard setup) (told s.running.engine)) (sym none)
         (subst (λ x. Came setup (told engine) [] (first_guard setup) (told x)) (sym same)
@@ -111,9 +108,8 @@ module _ {E : Type 0} (setup : Setup) (is_at : Guard → E → Type 0) (told : E
     there = subst (λ x. is_at (first_guard setup) x) (sym same) at;
     later = let eq = ap faults same in omega (arith, eq);
     solo = λ rules rows.
-        subst (λ es. Solo rules setup (reverse es) (first_guard setup) None) (sym none) (refl, refl);
+        subst (λ es. Solo rules setup (reverse es) (first_guard setup) s.last) (sym none) (refl, first);
     begun = λ rules events more e before rows is legal. absurd (none_before events e more (sym none ∙ is));
-    first = first;
     left = let count = ap move_count none in omega (arith, left, count);
     room =
         let long = ap length none in
@@ -142,7 +138,7 @@ module _ {E : Type 0} (setup : Setup) (is_at : Guard → E → Type 0) (told : E
       → RanSolo setup is_at told faults engine moves (ran_of s.running (Ended (int_ending (ending at.guard))))
   finished s at over = record {
     guard = at.guard;
-    last = at.last;
+    last = s.last;
     legal = at.came.legal;
     solo = at.solo;
     most = omega (arith, at.left);
@@ -157,37 +153,37 @@ module _ {E : Type 0} (setup : Setup) (is_at : Guard → E → Type 0) (told : E
   }
 
   -- it has where nothing is next
-  pub none_next : (s : SoloRun E) → (at : Going s) → NothingNext → next_within setup at.guard at.last s.left ≡ None
+  pub none_next : (s : SoloRun E) → (at : Going s) → NothingNext → next_within setup at.guard s.last s.left ≡ None
       → ends setup moves s.running.history.items at.guard ≡ true
   none_next s at law none =
-      has_an_end setup at.guard at.last s.left moves s.running.history.items
-      (law any_rules setup s.running.history.items at.guard at.last (at.came.legal any_rules any_are_rows)) none at.left
+      has_an_end setup at.guard s.last s.left moves s.running.history.items
+      (law any_rules setup s.running.history.items at.guard s.last (at.came.legal any_rules any_are_rows)) none at.left
 
   module _ (old new : SoloRun E) (step : Step) (at : Going old) (keeps : Keeps faults old new step)
-      (turned : Turned is_at told setup at.guard (next_within setup at.guard at.last old.left) old new step) where
-    came_of : (s : Step) → step ≡ s → Turned is_at told setup at.guard (next_within setup at.guard at.last old.left) old new s
+      (turned : Turned is_at told setup at.guard (next_within setup at.guard old.last old.left) old new step) where
+    came_of : (s : Step) → step ≡ s → Turned is_at told setup at.guard (next_within setup at.guard old.last old.left) old new s
     came_of s is =
-        subst (λ x. Turned is_at told setup at.guard (next_within setup at.guard at.last old.left) old new x) is turned
+        subst (λ x. Turned is_at told setup at.guard (next_within setup at.guard old.last old.left) old new x) is turned
 
-    solo_more : (wanted e : Event) (after : Guard) → next_within setup at.guard at.last old.left ≡ Some wanted → MayStand wanted e
+    solo_more : (wanted e : Event) (after : Guard) → next_within setup at.guard old.last old.left ≡ Some wanted → MayStand wanted e
         → ((rules : Rules) → AreRows rules.row → happens rules setup e at.guard ≡ Some after)
         → new.running.history.items ≡ old.running.history.items ++ e ∷ []
         → (rules : Rules) → AreRows rules.row
-        → Solo rules setup (reverse new.running.history.items) after (option_or (acted_by e) at.last)
+        → Solo rules setup (reverse new.running.history.items) after (option_or (acted_by e) old.last)
     solo_more wanted e after next stands made history rules rows =
-        subst (λ es. Solo rules setup es after (option_or (acted_by e) at.last))
+        subst (λ es. Solo rules setup es after (option_or (acted_by e) old.last))
         (sym (ap reverse history ∙ newest old.running.history.items e)) (
           at.guard,
-          at.last,
+          old.last,
           wanted,
           at.solo rules rows,
-          next_is setup at.guard at.last old.left wanted next,
+          next_is setup at.guard old.last old.left wanted next,
           stands,
           made rules rows,
           refl,
         )
 
-    begun_more : (wanted e : Event) → next_within setup at.guard at.last old.left ≡ Some wanted
+    begun_more : (wanted e : Event) → next_within setup at.guard old.last old.left ≡ Some wanted
         → new.running.history.items ≡ old.running.history.items ++ e ∷ [] → EachBeforeTheEnd setup moves new.running.history.items
     begun_more wanted e next history rules events more x before rows is legal =
         by (split_last old.running.history.items e events x more (sym history ∙ is))
@@ -201,7 +197,7 @@ module _ {E : Type 0} (setup : Setup) (is_at : Guard → E → Type 0) (told : E
         by (inl same) =
             ap (λ g. run_ending setup moves events g) (sym (here same))
             ∙ ap (λ es. run_ending setup moves es at.guard) (sym same)
-            ∙ not_ended setup at.guard at.last old.left moves old.running.history.items wanted next at.left
+            ∙ not_ended setup at.guard old.last old.left moves old.running.history.items wanted next at.left
         by (inr (rest, same)) = at.begun rules events rest x before rows same legal
 
     counted : (e : Event) → new.running.history.items ≡ old.running.history.items ++ e ∷ []
@@ -221,16 +217,16 @@ module _ {E : Type 0} (setup : Setup) (is_at : Guard → E → Type 0) (told : E
         let long = ap length a.history ∙ length-append old.running.history.items (a.event ∷ []) in
         record {
           guard = m.after;
-          last = option_or (acted_by a.event) at.last;
           came =
               subst (λ es. Came setup (told engine) es m.after (told new.running.engine)) (sym a.history)
               (came_more (λ x. is_at x new.running.engine) setup (told engine) (told old.running.engine)
               (told new.running.engine) old.running.history.items at.guard a.event at.came m);
           there = m.there;
           later = later;
-          solo = solo_more a.wanted a.event m.after a.due a.stands m.happens a.history;
+          solo = λ rules rows.
+              subst (Solo rules setup (reverse new.running.history.items) m.after) (sym a.last)
+              (solo_more a.wanted a.event m.after a.due a.stands m.happens a.history rules rows);
           begun = begun_more a.wanted a.event a.due a.history;
-          first = a.first at.last at.first;
           left = omega (arith, at.left, a.left, count);
           room =
               room_more (length old.running.history.items) (length new.running.history.items) (check_ins at.guard.seats)
@@ -253,7 +249,7 @@ module _ {E : Type 0} (setup : Setup) (is_at : Guard → E → Type 0) (told : E
         let count = counted a.event a.history in
         record {
           guard = f.after;
-          last = option_or (acted_by a.event) at.last;
+          last = option_or (acted_by a.event) old.last;
           legal =
               failed_legal setup (told engine) (told old.running.engine) (told new.running.engine)
               old.running.history.items new.running.history.items at.guard a.event at.came f a.history;
@@ -272,8 +268,8 @@ module _ {E : Type 0} (setup : Setup) (is_at : Guard → E → Type 0) (told : E
     same_begun same rules events more e before rows is legal = at.begun rules events more e before rows (sym same ∙ is) legal
 
     same_solo : new.running.history.items ≡ old.running.history.items
-        → (rules : Rules) → AreRows rules.row → Solo rules setup (reverse new.running.history.items) at.guard at.last
-    same_solo same rules rows = subst (λ es. Solo rules setup (reverse es) at.guard at.last) (sym same) (at.solo rules rows)
+        → (rules : Rules) → AreRows rules.row → Solo rules setup (reverse new.running.history.items) at.guard old.last
+    same_solo same rules rows = subst (λ es. Solo rules setup (reverse es) at.guard old.last) (sym same) (at.solo rules rows)
 
     pub lacks : step ≡ steps.Memory → RanSolo setup is_at told faults engine moves (ran_of new.running Memory)
     lacks is =
@@ -281,7 +277,7 @@ module _ {E : Type 0} (setup : Setup) (is_at : Guard → E → Type 0) (told : E
         let count = ap move_count a.history in
         record {
           guard = at.guard;
-          last = at.last;
+          last = old.last;
           legal = λ rules rows. ap (guard_after rules setup) a.history ∙ at.came.legal rules rows;
           solo = same_solo a.history;
           most = omega (arith, at.left, count);
@@ -299,7 +295,7 @@ module _ {E : Type 0} (setup : Setup) (is_at : Guard → E → Type 0) (told : E
     came_to_nothing (inr (inr is)) = absurd (came_of steps.UndefinedName is)
 
     -- nothing was next, and the run is as it was
-    pub waits : (is : step ≡ steps.CannotHappen) → (now : Going new) × (next_within setup now.guard now.last new.left ≡ None)
+    pub waits : (is : step ≡ steps.CannotHappen) → (now : Going new) × (next_within setup now.guard new.last new.left ≡ None)
     waits is =
         let a = came_of steps.CannotHappen is in
         let still = keeps.still is in
@@ -307,19 +303,21 @@ module _ {E : Type 0} (setup : Setup) (is_at : Guard → E → Type 0) (told : E
         let long = ap length still.history in (
           record {
             guard = at.guard;
-            last = at.last;
             came =
                 subst (λ es. Came setup (told engine) es at.guard (told new.running.engine)) (sym still.history)
                 (subst (λ t. Came setup (told engine) old.running.history.items at.guard t) (sym a.silent) at.came);
             there = a.stays;
             later = later;
-            solo = same_solo still.history;
+            solo = λ rules rows.
+                subst (Solo rules setup (reverse new.running.history.items) at.guard) (sym still.last)
+                (same_solo still.history rules rows);
             begun = same_begun still.history;
-            first = still.first ∙ at.first;
             left = omega (arith, at.left, still.left, count);
             room = room_still (length old.running.history.items) (length new.running.history.items) (offers_left setup at.guard) at.room long still.left;
           },
-          ap (λ n. next_within setup at.guard at.last n) still.left ∙ a.none,
+          ap (λ n. next_within setup at.guard new.last n) still.left
+              ∙ ap (λ l. next_within setup at.guard l old.left) still.last
+              ∙ a.none,
         )
       where
         room_still : (old_length new_length offers : ℕ)

@@ -1,21 +1,22 @@
 -- How a run stands: whether it is stuck, and how it ends.
 use Rattle.std.proofs.Common.{◌≡◌, ℕ, zero, suc, ◌+◌, ◌<◌, ◌≤◌, Bool, true, false, List, [], ◌∷◌, slice_index_or, Option, Some, None, refl, sym, ◌∙◌, ap, arith}
-use Rattle.std.specs.Prelude.{◌&&◌, ◌||◌, ◌==◌, not, length, nat_lt, if◌then◌else◌}
+use Rattle.std.specs.Prelude.{◌&&◌, ◌||◌, not, length, nat_lt, if◌then◌else◌}
 use Rattle.std.specs.Option.{is_some, option_or}
 use Rattle.std.specs.List.{list_any, range_with_len}
 use Rattle.std.proofs.lemmas.Bool.{true≢false, false≢true}
 use Rattle.std.proofs.lemmas.Bool.Decides.{nat_tests}
+use Rattle.std.proofs.lemmas.Option.{none-some}
+use Rattle.run_types.specs.declared.run.Event.{Event}
 use Rattle.run_types.specs.declared.run.Event.TheVariants.{Move, CheckIn}
 use Rattle.run_types.specs.declared.run.Ending.{Ending}
-use Rattle.source_model.specs.Worlds.{Finish, Free, Slot, World, is_over}
+use Rattle.source_model.specs.Worlds.{Finish, World}
 use Rattle.source_model.specs.Worlds as world
 use Rattle.source_model.specs.Runs.{can_move, some_can_move}
-use Rattle.source_model.specs.Moves.{move_of}
-use Rattle.source_model.specs.Waits.{must_wait}
 use Rattle.source_model.specs.Guards.{Guard, Seat, empty_seat, has_ended, seat_of}
 use Rattle.source_model.specs.Schedules.{act_of, first_act}
 use Rattle.source_model.specs.Endings.{is_stuck, seats_wait}
 use Rattle.dsu_runs.specs.Engines.{finish_of}
+use Rattle.dsu_runs.proofs.Slots.{act_going, cannot_beyond, none_acts, one_acts}
 
 -- whether the thread in a slot is at a check-in or can move
 abbrev pub acts_in : Guard → ℕ → Bool
@@ -125,27 +126,32 @@ not_stuck g t same below acts = by (seat_of g t).at_check_in refl acts
         can (ap (λ n. list_any (can_move g.world) (range_with_len 0 n)) (sym same)
         ∙ moves_one g.world 0 (length g.seats) t below (ap (can_move g.world) (from_first t) ∙ e))
 
--- what a thread can do that is at no check-in
-pub act_going : (g : Guard) (t : ℕ) (b : Bool) → (seat_of g t).at_check_in ≡ false → can_move g.world t ≡ b
-    → act_of g t ≡ (if b then Some (Move t) else None)
-act_going g t b at can =
-    ap (λ x. if x then Some (CheckIn t) else (if can_move g.world t then Some (Move t) else None)) at
-    ∙ ap (λ x. if x then Some (Move t) else None) can
-
--- one slot more that can't act
-pub one_slot_more : (g : Guard) (slot : ℕ) → ((k : ℕ) → k < slot → acts_in g k ≡ false) → acts_in g slot ≡ false
-    → (k : ℕ) → k < slot + 1 → acts_in g k ≡ false
-one_slot_more g slot before none k below = by (k == slot) refl
+-- whether a slot acts, by what its thread can do
+acts_none : (g : Guard) (t : ℕ) → act_of g t ≡ None → acts_in g t ≡ false
+acts_none g t none = by (seat_of g t).at_check_in (can_move g.world t) none
   where
-    less : (i n : ℕ) → i < n + 1 → (i == n) ≡ false → i < n
-    less i n lt e = grind (arith, nat_tests, lt, e)
+    by : (a b : Bool) → (if a then Some (CheckIn t) else (if b then Some (Move t) else None)) ≡ None → (a || b) ≡ false
+    by false false e = refl
+    by false true e = absurd (none-some (Move t) (sym e))
+    by true b e = absurd (none-some (CheckIn t) (sym e))
 
-    same : (i n : ℕ) → (i == n) ≡ true → n ≡ i
-    same i n e = grind (arith, nat_tests, e)
+acts_some : (g : Guard) (t : ℕ) (e : Event) → act_of g t ≡ Some e → acts_in g t ≡ true
+acts_some g t event acts = by (seat_of g t).at_check_in (can_move g.world t) acts
+  where
+    by : (a b : Bool) → (if a then Some (CheckIn t) else (if b then Some (Move t) else None)) ≡ Some event → (a || b) ≡ true
+    by true b e = refl
+    by false true e = refl
+    by false false e = absurd (none-some event e)
 
-    by : (b : Bool) → (k == slot) ≡ b → acts_in g k ≡ false
-    by true is = ap (acts_in g) (sym (same k slot is)) ∙ none
-    by false is = before k (less k slot below is)
+-- a run is stuck where no slot acts in turn
+pub stuck_in_turn : (g : Guard) (act : Option Event) → length g.seats ≡ length g.world.slots
+    → act ≡ first_act g (range_with_len 0 (length g.seats)) → not (is_some act) ≡ (seats_wait g.seats && not (some_can_move g.world))
+stuck_in_turn g None same is =
+    stuck g same (λ k below.
+    acts_none g k (ap (act_of g) (sym (from_first k)) ∙ none_acts g 0 (length g.seats) (sym is) k below))
+stuck_in_turn g (Some event) same is =
+    let one = one_acts g 0 (length g.seats) event (sym is) in
+    not_stuck g one.0 same one.1 (acts_some g one.0 event (ap (act_of g) (sym (from_first one.0)) ∙ one.2))
 
 -- a run goes on whose engine has no ending for it
 pub still_going : (g : Guard) (o : Option Ending) → o ≡ finish_of g.world.finish → is_some o ≡ false → has_ended g ≡ false
@@ -157,23 +163,6 @@ still_going g o is none = by g.world.finish (sym (ap is_some is) ∙ none)
     by (Some (world.Trapped kind t)) e = e
 
 -- no thread of a stuck run acts
-beyond : (slots : List Slot) (t : ℕ) → length slots ≤ t → slice_index_or slots t Free ≡ Free
-beyond [] t past = refl
-beyond (s ∷ slots) zero past = absurd (none (length slots) past)
-  where
-    none : (n : ℕ) → suc n ≤ 0 → ⊥
-    none n le = omega (arith, le)
-beyond (s ∷ slots) (suc t) past = beyond slots t (omega (arith, past))
-
-cannot_beyond : (w : World) (t : ℕ) → length w.slots ≤ t → can_move w t ≡ false
-cannot_beyond w t past =
-    ap (λ s. is_some (if is_over w || must_wait w t then None else move_of w t s)) (beyond w.slots t past)
-    ∙ by (is_over w || must_wait w t)
-  where
-    by : (b : Bool) → is_some (if b then None else move_of w t Free) ≡ false
-    by true = refl
-    by false = refl
-
 cannot_move : (w : World) → some_can_move w ≡ false → (t : ℕ) → can_move w t ≡ false
 cannot_move w none t = by (nat_lt t (length w.slots)) (can_move w t) refl refl
   where

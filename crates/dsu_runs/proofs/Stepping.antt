@@ -12,7 +12,7 @@ use Rattle.dsu_runs.specs.declared.engine.Undecided.TheVariants as why
 use Rattle.dsu_runs.specs.declared.running.Step.TheVariants as steps
 use Rattle.dsu_runs.specs.Engines.{MakesAt}
 use Rattle.dsu_runs.specs.Turns.{Steps, step_by}
-use Rattle.dsu_runs.specs.UndefinedNames.{HasUndefinedOffer}
+use Rattle.dsu_runs.specs.UndefinedNames.{UsesUndefined}
 
 module _ (at : Guard → Type 0) (setup : Setup) (e : Event) (g : Guard) (told now : Option (List ℕ)) where
   -- no move is a decision
@@ -22,7 +22,8 @@ module _ (at : Guard → Type 0) (setup : Setup) (e : Event) (g : Guard) (told n
   pub stepped : (r : Result Made Undecided) (P : Type 0) → (P → makes_move e ≡ false → at g)
       → IfOk r (MakesAt at setup e g told now) → OnErr r (now ≡ told) → OnErr r P
       → (r ≡ Err why.Misused → (k : ℕ) × (e ≡ Decide k)) → (r ≡ Err why.Misused → g.world.misused ≡ true)
-      → (r ≡ Err why.UndefinedName → (k : ℕ) × (e ≡ Decide k)) → (r ≡ Err why.UndefinedName → HasUndefinedOffer setup)
+      → (r ≡ Err why.UndefinedName → (k : ℕ) × (e ≡ Decide k))
+      → (r ≡ Err why.UndefinedName → (k : ℕ) → e ≡ Decide k → UsesUndefined setup k)
       → Steps at setup e g told now (step_by r)
   stepped (Ok made.Done) P there makes silent stays decides misused offers undefined = makes
   stepped (Ok made.CannotHappen) P there makes silent stays decides misused offers undefined = makes
@@ -31,7 +32,8 @@ module _ (at : Guard → Type 0) (setup : Setup) (e : Event) (g : Guard) (told n
   stepped (Err why.Misused) P there makes silent stays decides misused offers undefined =
       let decision = decides refl in
       record {
-        decides = decision;
+        offer = decision.0;
+        decides = decision.1;
         because = misused refl;
         stays = there stays (no_move decision.0 decision.1);
         silent = silent;
@@ -39,8 +41,9 @@ module _ (at : Guard → Type 0) (setup : Setup) (e : Event) (g : Guard) (told n
   stepped (Err why.UndefinedName) P there makes silent stays decides misused offers undefined =
       let decision = offers refl in
       record {
-        decides = decision;
-        because = undefined refl;
+        offer = decision.0;
+        decides = decision.1;
+        because = undefined refl decision.0 decision.1;
         stays = there stays (no_move decision.0 decision.1);
         silent = silent;
       }

@@ -1,5 +1,5 @@
 -- What an engine says of a run, by the guard that it is at.
-use Rattle.std.specs.Prelude.{◌≡◌, ℕ, ◌≤◌, ◌<◌, Bool, List, ◌++◌, length, take, Option, Some, None, if◌then◌else◌}
+use Rattle.std.specs.Prelude.{◌≡◌, ℕ, ◌+◌, ◌≤◌, ◌<◌, nat_lt, Bool, List, ◌++◌, length, take, Option, Some, None, if◌then◌else◌}
 use Rattle.run_types.specs.declared.run.Event.{Event}
 use Rattle.run_types.specs.declared.run.Ending.{Ending}
 use Rattle.run_types.specs.declared.run.Ending.TheVariants.{Trap, Finished}
@@ -31,6 +31,11 @@ standing_by at_check_in alive = if at_check_in then AtCheckIn else (if alive the
 
 abbrev pub standing_of : Guard → ℕ → Stands
 standing_of g t = standing_by (seat_of g t).at_check_in (lives g.world t)
+
+-- of so many slots the first in turn after the one that acted last; none acts that isn't there
+abbrev pub first_after : ℕ → Option ℕ → ℕ
+first_after count None = 0
+first_after count (Some slot) = if nat_lt slot count then slot + 1 else 0
 
 -- what is reported of a thread that waits, as the definitions have it
 abbrev pub waiting_of : Waiting → waits.Waiting

@@ -8,7 +8,7 @@ use Rattle.source_model.specs.Journals.{guard_after, happens}
 use Rattle.source_model.specs.Endings.{ending, int_ending}
 use Rattle.effects.specs.Rows.{AreRows}
 use Rattle.dsu_runs.specs.Ran.{FailedAt, Printed}
-use Rattle.dsu_runs.specs.UndefinedNames.{HasUndefinedOffer}
+use Rattle.dsu_runs.specs.UndefinedNames.{UsesUndefined}
 use Rattle.dsu_runs.specs.declared.ran.Ran.{Ran}
 use Rattle.dsu_runs.specs.declared.ran.StopCause.{StopCause}
 use Rattle.dsu_runs.specs.declared.ran.StopCause.TheVariants.{Ended, SinkFailed, CannotHappen, Memory, Misused, UndefinedName}
@@ -43,12 +43,12 @@ pub record MisusedReplay {E : Type 0} (is_at : Guard → E → Type 0) (told : E
   pub there : is_at g ran.engine
   pub printed : Printed (told engine) (told ran.engine) g
 
--- the decision of a line isn't made, since the text of an offer uses a name that it doesn't define
+-- the decision of a line isn't made, since the text of its offer uses a name that it doesn't define
 pub record UndefinedReplay {E : Type 0} (setup : Setup) (is_at : Guard → E → Type 0) (told : E → Option (List ℕ))
     (lines : List (ℕ × Event)) (g : Guard) (line : ℕ) (engine : E) (ran : Ran E) : Type 0 where
   pub offer : ℕ
   pub next : slice_get lines (length ran.history.items) ≡ Some (line, Decide offer)
-  pub undefined : HasUndefinedOffer setup
+  pub undefined : UsesUndefined setup offer
   pub there : is_at g ran.engine
   pub printed : Printed (told engine) (told ran.engine) g
 

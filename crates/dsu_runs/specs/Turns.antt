@@ -1,5 +1,5 @@
 -- What comes of one event, and of one turn of the solo schedule.
-use Rattle.std.specs.Prelude.{◌≡◌, ℕ, ◌+◌, ◌≤◌, ◌==◌, ◌&&◌, ◌||◌, not, List, [], ◌∷◌, ◌++◌, length, true, false, Option, Some, None, option_map, Result, Ok, Err, if◌then◌else◌}
+use Rattle.std.specs.Prelude.{◌≡◌, ℕ, ◌+◌, ◌-◌, ◌≤◌, ◌==◌, ◌&&◌, ◌||◌, not, List, [], ◌∷◌, ◌++◌, length, true, false, Option, Some, None, option_map, Result, Ok, Err, if◌then◌else◌}
 use Rattle.std.specs.Option.{option_or}
 use Rattle.std.specs.Vec.{vec_capacity}
 use Rattle.dsu_io.specs.Causes.{Rose}
@@ -19,7 +19,7 @@ use Rattle.dsu_runs.specs.declared.running.Running.{Running}
 use Rattle.dsu_runs.specs.declared.running.Step.{Step}
 use Rattle.dsu_runs.specs.declared.running.Step.TheVariants.{Done, CannotHappen, SinkFailed, Memory, Misused, UndefinedName}
 use Rattle.dsu_runs.specs.declared.solo_run.SoloRun.{SoloRun}
-use Rattle.dsu_runs.specs.UndefinedNames.{HasUndefinedOffer}
+use Rattle.dsu_runs.specs.UndefinedNames.{UsesUndefined}
 
 -- what a schedule hands back of a run that it stops
 abbrev pub ran_of : {E : Type 0} → Running E → StopCause → Ran E
@@ -44,26 +44,22 @@ history_after e es Misused = es
 history_after e es UndefinedName = es
 
 -- an offer isn't decided, for a reason: nothing changed
-pub record Withholds (at : Guard → Type 0) (e : Event) (g : Guard) (reason : Type 0) (told now : Option (List ℕ)) : Type 0 where
-  pub decides : (k : ℕ) × (e ≡ Decide k)
-  pub because : reason
+pub record Withholds (at : Guard → Type 0) (e : Event) (g : Guard) (reason : ℕ → Type 0) (told now : Option (List ℕ)) : Type 0 where
+  pub offer : ℕ
+  pub decides : e ≡ Decide offer
+  pub because : reason offer
   pub stays : at g
   pub silent : now ≡ told
 
 -- what came of an event at a guard; out of memory nothing was printed. An offer isn't decided where a definition was misused in
--- what the run came to, or where the text of an offer uses a name that it doesn't define
+-- what the run came to, or where its text uses a name that it doesn't define
 abbrev pub Steps : (at : Guard → Type 0) → Setup → Event → Guard → Option (List ℕ) → Option (List ℕ) → Step → Type 0
 Steps at setup e g told now Done = Makes at setup e g told now
 Steps at setup e g told now CannotHappen = Refuses at setup e g told now
 Steps at setup e g told now SinkFailed = Fails setup e g told now
 Steps at setup e g told now Memory = now ≡ told
-Steps at setup e g told now Misused = Withholds at e g (g.world.misused ≡ true) told now
-Steps at setup e g told now UndefinedName = Withholds at e g (HasUndefinedOffer setup) told now
-
--- the slot that comes first after the one that acted last
-abbrev pub first_after : Option ℕ → ℕ
-first_after None = 0
-first_after (Some slot) = slot + 1
+Steps at setup e g told now Misused = Withholds at e g (λ k. g.world.misused ≡ true) told now
+Steps at setup e g told now UndefinedName = Withholds at e g (UsesUndefined setup) told now
 
 -- what the solo schedule has next where no offer is open and so many moves are left
 abbrev pub offer_or_act : Setup → Guard → Option ℕ → ℕ → Option Event
@@ -77,10 +73,19 @@ next_within setup g last left =
     then None
     else option_or (option_map Decide g.open_offer) (offer_or_act setup g last left)
 
--- an engine is at a guard of a run that goes on, and no offer is open
+-- a run after an event that was made, but for its engine and history
+abbrev pub followed : {E : Type 0} → Event → SoloRun E → SoloRun E
+followed event run = record {
+  running = run.running;
+  last = option_or (acted_by event) run.last;
+  left = run.left - move_count (event ∷ []);
+}
+
+-- an engine is at a guard of a run that goes on, with a seat for each slot, and no offer is open
 pub record GoesAt {E : Type 0} (is_at : Guard → E → Type 0) (g : Guard) (engine : E) : Type 0 where
   pub there : is_at g engine
   pub going : has_ended g ≡ false
+  pub fits : length g.seats ≡ length g.world.slots
   pub none_open : g.open_offer ≡ None
 
 -- the event that was next was made, or one that may stand for it
@@ -92,7 +97,7 @@ pub record Acts {E : Type 0} (is_at : Guard → E → Type 0) (told : E → Opti
   pub stands : MayStand wanted event
   pub makes : Makes (λ x. is_at x new.running.engine) setup event g (told old.running.engine) (told new.running.engine)
   pub history : new.running.history.items ≡ old.running.history.items ++ event ∷ []
-  pub first : (last : Option ℕ) → old.first ≡ first_after last → new.first ≡ first_after (option_or (acted_by event) last)
+  pub last : new.last ≡ option_or (acted_by event) old.last
   pub left : new.left + move_count (event ∷ []) ≡ old.left
 
 -- none was next
@@ -130,7 +135,7 @@ Turned is_at told setup g next old new UndefinedName = ⊥
 -- nothing but the engine changed
 pub record SameBut {E : Type 0} (old new : SoloRun E) : Type 0 where
   pub history : new.running.history.items ≡ old.running.history.items
-  pub first : new.first ≡ old.first
+  pub last : new.last ≡ old.last
   pub left : new.left ≡ old.left
 
 -- what holds of each turn

@@ -1,9 +1,9 @@
-ghost use Rattle.std.specs.Prelude.{◌≡◌, ◌&&◌, ◌||◌, not, false, length};
-ghost use Rattle.source_model.specs.Runs.{can_move, some_can_move};
-ghost use Rattle.source_model.specs.Guards.{Guard, Setup, has_ended, seat_of};
+ghost use Rattle.std.specs.Prelude.{◌≡◌, ◌&&◌, not, false, length};
+ghost use Rattle.source_model.specs.Runs.{some_can_move};
+ghost use Rattle.source_model.specs.Guards.{Guard, Setup, has_ended};
 ghost use Rattle.source_model.specs.Endings.{ending as ending_of, int_ending, seats_wait};
 
-use crate::{Engine, Stands};
+use crate::Engine;
 use run_types::Ending;
 
 /// How a run ends that ends as it is.
@@ -27,21 +27,5 @@ pub(crate) fn is_stuck<E: Engine>(engine: &E) -> bool
     ensures { (setup : Setup) (g : Guard) → E.is_at setup g engine.now → has_ended g ≡ false → length g.seats ≡ length g.world.slots
         → result ≡ (seats_wait g.seats && not (some_can_move g.world)) }
 {
-    for slot in 0..engine.slots() {
-        if can_act(engine, slot) {
-            return false;
-        }
-    }
-    true
-}
-
-/// Whether the thread in a slot is at a check-in or can move.
-fn can_act<E: Engine>(engine: &E, slot: u8) -> bool
-    ensures { (setup : Setup) (g : Guard) → E.is_at setup g engine.now → has_ended g ≡ false
-        → result ≡ ((seat_of g slot).at_check_in || can_move g.world slot) }
-{
-    match engine.stands(slot) {
-        Stands::AtCheckIn => true,
-        Stands::NoThread | Stands::Going => engine.can_move(slot),
-    }
+    engine.next_act(None).is_none()
 }

@@ -2,15 +2,14 @@ ghost use Rattle.std.specs.Prelude.{◌≡◌, ◌≢◌, ◌≤◌, ◌&&◌, n
 ghost use Rattle.dsu_io.specs.Causes.{Rose};
 ghost use Rattle.run_types.specs.declared.run.Event.TheVariants.{Move, CheckIn, Offer, Decide, Withdraw};
 ghost use Rattle.source_model.specs.Answers.{answer_seen};
-ghost use Rattle.source_model.specs.Runs.{can_move};
 ghost use Rattle.source_model.specs.Guards.{Guard, Setup, can_open, has_ended};
 ghost use Rattle.source_model.specs.Journals.{answers};
-ghost use Rattle.source_model.specs.Schedules.{due};
+ghost use Rattle.source_model.specs.Schedules.{due, first_act, slots_after};
 ghost use Rattle.dsu_runs.specs.Engines.{MakesAt, finish_of, standing_of, waiting_of, waits_in};
-ghost use Rattle.dsu_runs.specs.UndefinedNames.{HasUndefinedOffer};
+ghost use Rattle.dsu_runs.specs.UndefinedNames.{UsesUndefined};
 
 use name_sets::Names;
-use run_types::Ending;
+use run_types::{Ending, Event};
 use source_model::OfferAnswer;
 use std::alloc::AllocError;
 
@@ -32,7 +31,7 @@ pub enum Undecided {
     Memory,
     /// A definition was misused, so no thread moves any more. No run of accepted texts comes there.
     Misused,
-    /// The text of the offer uses a name that it doesn't define. No accepted text does.
+    /// A function of the offer's text uses a name that this text doesn't define. No accepted text has one.
     UndefinedName,
 }
 
@@ -91,9 +90,11 @@ pub trait Engine {
     fn finish(&self) -> Option<Ending>
         ensures { (setup : Setup) (g : Guard) → is_at setup g self.now → result ≡ finish_of g.world.finish };
 
-    /// Whether the thread in a slot can move.
-    fn can_move(&self, slot: u8) -> bool
-        ensures { (setup : Setup) (g : Guard) → is_at setup g self.now → result ≡ can_move g.world slot };
+    /// What the threads do next: of the slots in cyclic order after the one that acted last, the first one whose thread can act
+    /// passes its check-in, or makes its move. Slot 0 is the first at the start. It is asked of a run that hasn't ended.
+    fn next_act(&self, last: Option<u8>) -> Option<Event>
+        ensures { (setup : Setup) (g : Guard) → is_at setup g self.now → has_ended g ≡ false
+            → length g.seats ≡ length g.world.slots → result ≡ first_act g (slots_after (length g.seats) last) };
 
     /// What the thread in a slot waits for. In a run that is over none waits.
     fn waits(&self, slot: u8) -> Option<Waiting<'_>>
@@ -149,7 +150,7 @@ pub trait Engine {
         ensures misused { result ≡ Err Undecided.Misused → (setup : Setup) (g : Guard) → is_at setup g self.old
             → g.world.misused ≡ true }
         ensures undefined { result ≡ Err Undecided.UndefinedName → (setup : Setup) (g : Guard) → is_at setup g self.old
-            → HasUndefinedOffer setup };
+            → UsesUndefined setup k };
 
     /// Closes the open offer with nothing changed. Nothing is printed.
     fn withdraw(&mut self, k: u8) -> Made

@@ -14,8 +14,8 @@ pub enum StopCause {
     /// The decision of that line of the journal isn't made, since a definition was misused. No run of accepted texts comes
     /// there.
     Misused(u32),
-    /// The decision of that line of the journal isn't made, since the text of the offer uses a name that it doesn't define. No
-    /// accepted text does.
+    /// The decision of that line of the journal isn't made, since a function of the text of the offer that it decides uses a
+    /// name that this text doesn't define. No accepted text has one.
     UndefinedName(u32),
 }
 

@@ -7,7 +7,7 @@ ghost use Rattle.source_model.specs.Schedules.{makes_move};
 ghost use Rattle.source_model.specs.Endings.{ending as ending_of, int_ending};
 ghost use Rattle.dsu_runs.specs.Engines.{MakesAt};
 ghost use Rattle.dsu_runs.specs.Turns.{Steps, history_after, ran_of, step_by};
-ghost use Rattle.dsu_runs.specs.UndefinedNames.{HasUndefinedOffer};
+ghost use Rattle.dsu_runs.specs.UndefinedNames.{UsesUndefined};
 
 use crate::ending::ending;
 use crate::{Engine, Made, Ran, StopCause, Undecided};
@@ -22,7 +22,7 @@ pub(crate) enum Step {
     Memory,
     /// An offer isn't decided, since a definition was misused.
     Misused,
-    /// An offer isn't decided, since its text uses a name that it doesn't define.
+    /// An offer isn't decided, since a function of its text uses a name that this text doesn't define.
     UndefinedName,
 }
 
@@ -123,8 +123,8 @@ fn make<E: Engine>(engine: &mut E, event: Event) -> Result<Made, Undecided>
     ensures misused { result ≡ Err Undecided.Misused → (setup : Setup) (g : Guard) → E.is_at setup g engine.old
         → g.world.misused ≡ true }
     ensures offers { result ≡ Err Undecided.UndefinedName → (k : ℕ) × (event ≡ Decide k) }
-    ensures undefined { result ≡ Err Undecided.UndefinedName → (setup : Setup) (g : Guard) → E.is_at setup g engine.old
-        → HasUndefinedOffer setup }
+    ensures undefined { result ≡ Err Undecided.UndefinedName → (k : ℕ) → event ≡ Decide k → (setup : Setup) (g : Guard)
+        → E.is_at setup g engine.old → UsesUndefined setup k }
 {
     match event {
         Event::Move(slot) => act(engine, slot),

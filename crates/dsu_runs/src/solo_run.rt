@@ -1,16 +1,15 @@
-ghost use Rattle.std.specs.Prelude.{◌≡◌, ◌-◌, ◌==◌, ◌&&◌, not, length, ◌<◌, ℕ, true, false, Option, Some};
-ghost use Rattle.std.specs.List.{range_with_len};
+ghost use Rattle.std.specs.Prelude.{◌≡◌, ◌==◌, ◌&&◌, not, length, ◌<◌, ℕ, false, Some};
 ghost use Rattle.std.specs.Vec.{vec_capacity};
 ghost use Rattle.run_types.specs.declared.run.Event.TheVariants.{Decide};
-ghost use Rattle.source_model.specs.Guards.{Guard, Setup, first_guard, has_ended, seat_of};
+ghost use Rattle.source_model.specs.Guards.{Guard, Setup, first_guard, has_ended};
 ghost use Rattle.source_model.specs.Schedules.{act_of, first_act, slots_after};
 ghost use Rattle.source_model.specs.Endings.{is_stuck as stuck_at};
-ghost use Rattle.dsu_runs.specs.Turns.{GoesAt, Keeps, Turned, first_after, next_within, offer_or_act};
+ghost use Rattle.dsu_runs.specs.Turns.{GoesAt, Keeps, Turned, followed, next_within, offer_or_act};
 ghost use Rattle.dsu_runs.specs.Solo.{RanSolo};
 
 use crate::ending::is_stuck;
 use crate::running::{Running, Step};
-use crate::{Engine, Ran, Stands, StopCause};
+use crate::{Engine, Ran, StopCause};
 use run_types::Event;
 use source_model::{seats_fit_their_slots, solo_schedule_goes_to_the_end};
 use std::alloc::Global;
@@ -19,8 +18,8 @@ use std::alloc::Global;
 #[derive(Drop)]
 pub(crate) struct SoloRun<E> {
     running: Running<E>,
-    /// The slot whose turn is next.
-    first: u8,
+    /// The slot whose thread acted last.
+    last: Option<u8>,
     /// How many moves may still be made.
     left: u32,
 }
@@ -44,7 +43,7 @@ pub fn solo<E: Engine>(alloc: Global, engine: E, moves: u32) -> Ran<E>
     };
     let mut solo = SoloRun {
         running: Running { engine, history },
-        first: 0,
+        last: None,
         left: moves,
     };
     for _turn in 0..most {
@@ -64,9 +63,10 @@ impl<E: Engine> SoloRun<E> {
     /// still answered.
     fn act(&mut self) -> Step
         requires room { length self.old.running.history.items < vec_capacity self.old.running.history }
-        ensures turned { (setup : Setup) (g : Guard) (last : Option ℕ) → E.is_at setup g self.old.running.engine
-            → length g.seats ≡ length g.world.slots → self.old.first ≡ first_after last
-            → Turned (E.is_at setup) E.told setup g (next_within setup g last self.old.left) self.old self.new result }
+        ensures turned { (setup : Setup) (g : Guard) → E.is_at setup g self.old.running.engine
+            → length g.seats ≡ length g.world.slots
+            → Turned (E.is_at setup) E.told setup g (next_within setup g self.old.last self.old.left)
+            self.old self.new result }
         ensures kept { Keeps E.faults self.old self.new result }
     {
         if self.running.engine.finish().is_some() {
@@ -110,9 +110,9 @@ impl<E: Engine> SoloRun<E> {
     /// Opens the offer that is due, if one is; else a thread acts, if a move is left and one can.
     fn open_or_act(&mut self) -> Step
         requires room { length self.old.running.history.items < vec_capacity self.old.running.history }
-        ensures turned { (setup : Setup) (g : Guard) (last : Option ℕ) → GoesAt (E.is_at setup) g self.old.running.engine
-            → self.old.first ≡ first_after last
-            → Turned (E.is_at setup) E.told setup g (offer_or_act setup g last self.old.left) self.old self.new result }
+        ensures turned { (setup : Setup) (g : Guard) → GoesAt (E.is_at setup) g self.old.running.engine
+            → Turned (E.is_at setup) E.told setup g (offer_or_act setup g self.old.last self.old.left)
+            self.old self.new result }
         ensures kept { Keeps E.faults self.old self.new result }
     {
         match self.running.engine.due() {
@@ -130,93 +130,45 @@ impl<E: Engine> SoloRun<E> {
     fn act_in_turn(&mut self) -> Step
         requires left { 0 < self.old.left }
         requires room { length self.old.running.history.items < vec_capacity self.old.running.history }
-        ensures turned { (setup : Setup) (g : Guard) (last : Option ℕ) → GoesAt (E.is_at setup) g self.old.running.engine
-            → self.old.first ≡ first_after last
-            → Turned (E.is_at setup) E.told setup g (first_act g (slots_after (length g.seats) last))
+        ensures turned { (setup : Setup) (g : Guard) → GoesAt (E.is_at setup) g self.old.running.engine
+            → Turned (E.is_at setup) E.told setup g (first_act g (slots_after (length g.seats) self.old.last))
             self.old self.new result }
         ensures kept { Keeps E.faults self.old self.new result }
     {
-        let first = self.first;
-        let slots = self.running.engine.slots();
-        match self.act_within(first, slots) {
-            Step::CannotHappen => self.act_within(0, first),
-            step => step,
+        match self.running.engine.next_act(self.last) {
+            Some(event) => self.make_act(event),
+            None => Step::CannotHappen,
         }
     }
 
-    /// The first of these slots acts that can.
-    fn act_within(&mut self, from: u8, to: u8) -> Step
+    /// Makes what the thread in a slot can do.
+    fn make_act(&mut self, event: Event) -> Step
         requires left { 0 < self.old.left }
         requires room { length self.old.running.history.items < vec_capacity self.old.running.history }
-        ensures turned { (setup : Setup) (g : Guard) → GoesAt (E.is_at setup) g self.old.running.engine
-            → Turned (E.is_at setup) E.told setup g (first_act g (range_with_len from (to - from)))
-            self.old self.new result }
+        ensures turned { (setup : Setup) (g : Guard) (slot : ℕ) → GoesAt (E.is_at setup) g self.old.running.engine
+            → act_of g slot ≡ Some event → Turned (E.is_at setup) E.told setup g (Some event) self.old self.new result }
         ensures kept { Keeps E.faults self.old self.new result }
     {
-        for slot in from..to {
-            match self.act_in(slot) {
-                Step::CannotHappen => {}
-                step => return step,
-            }
-        }
-        Step::CannotHappen
-    }
-
-    /// The thread in a slot passes its check-in, or makes its move, if it can.
-    fn act_in(&mut self, slot: u8) -> Step
-        requires left { 0 < self.old.left }
-        requires room { length self.old.running.history.items < vec_capacity self.old.running.history }
-        requires within { slot < 255 }
-        ensures turned { (setup : Setup) (g : Guard) → GoesAt (E.is_at setup) g self.old.running.engine
-            → Turned (E.is_at setup) E.told setup g (act_of g slot) self.old self.new result }
-        ensures kept { Keeps E.faults self.old self.new result }
-    {
-        match self.running.engine.stands(slot) {
-            Stands::NoThread => Step::CannotHappen,
-            Stands::AtCheckIn => self.check_in(slot),
-            Stands::Going => self.make_move(slot),
-        }
-    }
-
-    /// The thread in a slot, which is at a check-in, passes it.
-    fn check_in(&mut self, slot: u8) -> Step
-        requires room { length self.old.running.history.items < vec_capacity self.old.running.history }
-        requires within { slot < 255 }
-        ensures turned { (setup : Setup) (g : Guard) → GoesAt (E.is_at setup) g self.old.running.engine
-            → (seat_of g slot).at_check_in ≡ true
-            → Turned (E.is_at setup) E.told setup g (act_of g slot) self.old self.new result }
-        ensures kept { Keeps E.faults self.old self.new result }
-    {
-        let step = self.running.make(Event::CheckIn(slot));
+        let step = self.running.make(event);
         match step {
-            Step::Done => self.first = slot + 1,
-            Step::CannotHappen
-            | Step::SinkFailed
-            | Step::Memory
-            | Step::Misused
-            | Step::UndefinedName => {}
-        }
-        step
-    }
-
-    /// The thread in a slot, which is at no check-in, makes its move, if it can.
-    fn make_move(&mut self, slot: u8) -> Step
-        requires left { 0 < self.old.left }
-        requires room { length self.old.running.history.items < vec_capacity self.old.running.history }
-        requires within { slot < 255 }
-        ensures turned { (setup : Setup) (g : Guard) → GoesAt (E.is_at setup) g self.old.running.engine
-            → (seat_of g slot).at_check_in ≡ false
-            → Turned (E.is_at setup) E.told setup g (act_of g slot) self.old self.new result }
-        ensures kept { Keeps E.faults self.old self.new result }
-    {
-        let step = self.running.make(Event::Move(slot));
-        match step {
-            Step::Done | Step::SinkFailed => {
-                self.first = slot + 1;
-                self.left -= 1;
-            }
+            Step::Done | Step::SinkFailed => self.follow(event),
             Step::CannotHappen | Step::Memory | Step::Misused | Step::UndefinedName => {}
         }
         step
+    }
+
+    /// Keeps which slot acted, and how many moves are left, after an event that was made.
+    fn follow(&mut self, event: Event)
+        requires { 0 < self.old.left }
+        ensures { self.new ≡ followed event self.old }
+    {
+        match event {
+            Event::Move(slot) => {
+                self.last = Some(slot);
+                self.left -= 1;
+            }
+            Event::CheckIn(slot) => self.last = Some(slot),
+            Event::Offer(_) | Event::Decide(_) | Event::Withdraw(_) => {}
+        }
     }
 }

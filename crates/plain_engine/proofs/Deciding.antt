@@ -27,7 +27,7 @@ use Rattle.offer_decision.specs.declared.answer.Decision.{Decision}
 use Rattle.offer_decision.specs.declared.answer.Decision.TheVariants as decision
 use Rattle.offer_decision.specs.declared.seat.Seat.{Seat as Seen}
 use Rattle.offer_decision.specs.Decided.{ForOffer, IsDecision, verdict_on}
-use Rattle.offer_decision.specs.Refusals.{AreKnown}
+use Rattle.con_freeness.specs.Decisions.{AreKnown}
 use Rattle.offer_decision.specs.Seats.{AreSeats as AreSeatsSeen, IsSeat as IsSeatSeen, AreInTransactions}
 use Rattle.offer_decision.proofs.ChangedNames.{changed_known, interface_known}
 use Rattle.offer_decision.proofs.Decided.{no_patch_is_decided, refusal_is_decided}

@@ -10,3 +10,4 @@ mod Installing
 mod Engines
 mod Starting
 mod Querying
+mod Threads

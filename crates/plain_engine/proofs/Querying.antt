@@ -1,11 +1,11 @@
 -- What is asked of an engine at a guard beside the trait's calls.
-use Rattle.std.proofs.Common.{◌≡◌, ℕ, ◌<◌, ◌≤◌, Bool, true, false, ◌||◌, List, ◌++◌, ◌∷◌, [], map, slice_get, Option, Some, option_map, refl, sym, ◌∙◌, ap, subst}
+use Rattle.std.proofs.Common.{◌≡◌, ℕ, ◌<◌, ◌≤◌, Bool, true, false, ◌||◌, List, ◌++◌, ◌∷◌, [], slice_get, Some, option_map, refl, sym, ◌∙◌, ap, subst}
 use Rattle.std.specs.Option.{is_some}
 use Rattle.std.proofs.lemmas.Option.{same_Some, slice_get-map}
 use Rattle.c_tree.specs.declared.def.Program.{Program}
-use Rattle.c_semantics.specs.SourceTexts.{Text, text_of}
-use Rattle.c_semantics.specs.Store.{Body, Mark}
-use Rattle.source_model.specs.Worlds.{in_slot, is_over}
+use Rattle.c_semantics.specs.SourceTexts.{text_of}
+use Rattle.c_semantics.specs.Store.{Body}
+use Rattle.source_model.specs.Worlds.{is_over}
 use Rattle.source_model.specs.Guards.{Guard, Setup, bodies_of, empty_seat, has_ended, seat_of}
 use Rattle.source_model.specs.Guards as guard
 use Rattle.resolved_tree.specs.Nodes.{Table}
@@ -13,7 +13,7 @@ use Rattle.run_machine.specs.Machines.{Shown}
 use Rattle.installed_versions.specs.declared.installed.Installed.{Installed}
 use Rattle.plain_engine.specs.declared.asked.RowOf.{RowOf}
 use Rattle.plain_engine.specs.declared.seat.Seat.{Seat}
-use Rattle.plain_engine.specs.Kept.{IsSeat, empty, mark_of}
+use Rattle.plain_engine.specs.Kept.{empty, mark_of}
 use Rattle.plain_engine.specs.Plain.{AreInstalled, AreSeats, IsRunAt}
 use Rattle.plain_engine.specs.Asked.{IsHeld, IsInForce, IsRowAt, all_texts}
 use Rattle.plain_engine.proofs.Standing.{outside, seat_at}

@@ -152,14 +152,6 @@ differs n m apart = grind (arith, nat_tests, apart)
 
 -- ---- all slots
 
--- an item that is set leaves the later ones
-pub later_same : {A : Type 0} (xs : List A) (k n : ℕ) (x : A) → k < n → slice_get (slice_set xs k x) n ≡ slice_get xs n
-later_same [] k n x below = refl
-later_same (y ∷ xs) zero zero x below = absurd (omega (arith, below))
-later_same (y ∷ xs) zero (suc n) x below = refl
-later_same (y ∷ xs) (suc k) zero x below = absurd (omega (arith, below))
-later_same (y ∷ xs) (suc k) (suc n) x below = later_same xs k n x (omega (arith, below))
-
 -- no thread is kept
 unkept : (k : Kept) → is_there k ≡ false → k ≡ Empty
 unkept Empty e = refl

@@ -1,18 +1,16 @@
 -- Why nothing is decided on an offer.
-use Rattle.std.proofs.Common.{◌≡◌, ℕ, ◌<◌, map, Some, refl, subst}
+use Rattle.std.proofs.Common.{◌≡◌, ℕ, map, Some, refl, subst}
 use Rattle.std.specs.Prelude.{slice_get}
 use Rattle.c_tree.specs.Bare.{bare_def}
 use Rattle.c_tree.specs.declared.def.Program.{Program}
 use Rattle.c_semantics.specs.SourceTexts.{text_of}
-use Rattle.source_model.specs.Guards.{Guard, Setup}
 use Rattle.brought_bodies.specs.Undefined.{HasUndefinedUse}
-use Rattle.dsu_runs.specs.UndefinedNames.{HasUndefinedOffer}
 use Rattle.dsu_runs.specs.declared.engine.Undecided.{Undecided}
 use Rattle.dsu_runs.specs.declared.engine.Undecided.TheVariants as why
 use Rattle.offer_decision.specs.Faults.{undecided_by}
 use Rattle.offer_decision.specs.declared.answer.DecisionFault.{DecisionFault}
 use Rattle.offer_decision.specs.declared.answer.DecisionFault.TheVariants.{UndefinedName, Memory}
-use Rattle.plain_engine.specs.Plain.{IsStateAt, ShownState}
+use Rattle.plain_engine.specs.Plain.{ShownState}
 use Rattle.plain_engine.specs.Steps.{MayWithhold}
 use Rattle.plain_engine.proofs.Deciding.{offer_is}
 
@@ -22,7 +20,7 @@ module _ (s : ShownState) (k : ℕ) where
       → MayWithhold s k why.UndefinedName
   undefined_offer next there undefined some setup g at =
       let found = offer_is setup g s.run k next at.run some there in
-      record { number = k; offer = record { text = text_of next; lines = found.0 }; offered = found.1; undefined = undefined }
+      record { offer = record { text = text_of next; lines = found.0 }; offered = found.1; undefined = undefined }
 
   pub withheld : (next : Program) → slice_get s.run.trees k ≡ Some next → (fault : DecisionFault)
       → (fault ≡ UndefinedName → HasUndefinedUse (map bare_def next.definitions)) → MayWithhold s k (undecided_by fault)

@@ -1,8 +1,9 @@
 -- What is kept of a slot, and what becomes of it in a move.
-use Rattle.std.specs.Prelude.{◌≡◌, ℕ, ◌≤◌, ◌==◌, Bool, true, false, ◌&&◌, List, [], Option, Some, None, option_map, slice_get, if◌then◌else◌}
+use Rattle.std.specs.Prelude.{◌≡◌, ℕ, ◌≤◌, ◌<◌, ◌==◌, Bool, true, false, ◌&&◌, List, [], Option, Some, None, length, option_map, slice_get, slice_index_or, if◌then◌else◌}
 use Rattle.c_tree.specs.BareExpr.{Bytes}
 use Rattle.c_semantics.specs.Store.{Body, Mark}
 use Rattle.c_semantics.specs.Store as store
+use Rattle.slot_sets.specs.Members.{is_in}
 use Rattle.source_model.specs.Worlds.{World, Slot, in_slot, is_over}
 use Rattle.source_model.specs.Runs.{is_live}
 use Rattle.source_model.specs.Guards.{in_transaction}
@@ -28,6 +29,25 @@ abbrev pub is_there : Kept → Bool
 is_there Empty = false
 is_there (Started function) = true
 is_there (Passed frame) = true
+
+-- whether a thread lives in a slot, by what is kept of the slots
+abbrev pub has_thread : List Seat → ℕ → Bool
+has_thread seats slot = is_there (slice_index_or seats slot empty).kept
+
+-- the slots in which a thread lives are the members of a set
+pub record AreThreads (seats : List Seat) (live : ℕ) : Type 0 where
+  pub many : length seats ≡ 16
+  pub each : (slot : ℕ) → is_in live slot ≡ has_thread seats slot
+
+-- no thread lives in a slot from one on
+abbrev pub HasNoThreadFrom : List Seat → ℕ → Type 0
+HasNoThreadFrom seats from = (slot : ℕ) → from ≤ slot → has_thread seats slot ≡ false
+
+-- the first slot from one on in which a thread lives
+pub record IsFirstThreadFrom (seats : List Seat) (from slot : ℕ) : Type 0 where
+  pub past : from ≤ slot
+  pub there : has_thread seats slot ≡ true
+  pub before : (n : ℕ) → from ≤ n → n < slot → has_thread seats n ≡ false
 
 -- the name of the function with which a thread starts
 abbrev pub name_of : Table → Option Word → Bytes

@@ -14,7 +14,7 @@ use Rattle.offer_decision.specs.declared.answer.Decision.{Decision}
 use Rattle.offer_decision.specs.declared.seat.Seat.{Seat as Seen}
 use Rattle.offer_decision.specs.Decided.{ForOffer, IsDecision}
 use Rattle.dsu_runs.specs.Books.{Entries, IsBook}
-use Rattle.dsu_runs.specs.UndefinedNames.{HasUndefinedOffer}
+use Rattle.dsu_runs.specs.UndefinedNames.{UsesUndefined}
 use Rattle.dsu_runs.specs.declared.engine.Undecided.{Undecided}
 use Rattle.dsu_runs.specs.declared.engine.Undecided.TheVariants as why
 use Rattle.plain_engine.specs.declared.seat.Seat.{Seat}
@@ -48,7 +48,7 @@ ComesTo setup e g new false = Stayed setup e g new
 abbrev pub MayWithhold : ShownState → ℕ → Undecided → Type 0
 MayWithhold s k why.Memory = Unit {0}
 MayWithhold s k why.Misused = ⊥
-MayWithhold s k why.UndefinedName = 0 < k → (setup : Setup) (g : Guard) → IsStateAt setup g s → HasUndefinedOffer setup
+MayWithhold s k why.UndefinedName = 0 < k → (setup : Setup) (g : Guard) → IsStateAt setup g s → UsesUndefined setup k
 
 -- what is decided on an offer, over the versions and the slots of a state
 pub record IsDecided (s : ShownState) (k : ℕ) (decision : Decision) : Type 0 where

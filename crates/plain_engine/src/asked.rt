@@ -14,7 +14,7 @@ ghost use Rattle.plain_engine.specs.Plain.{AreSeats, IsAt};
 
 use crate::PlainEngine;
 use crate::seat::{Kept, Seat};
-use crate::state::{SLOTS, State};
+use crate::state::State;
 use c_types::Typed;
 use dsu_io::Sink;
 use patch_build::Versions;
@@ -52,10 +52,10 @@ impl<M: Machine> State<M> {
         ensures { (g : Guard) → AreSeats g (M.shown self.now.run) self.now.seats → has_ended g ≡ false
             → IsHeld (M.shown self.now.run).words (bodies_of g) (is_over g.world) result (seat_of g slot) }
     {
-        if slot >= SLOTS {
-            return Seat::empty();
+        match self.seats.get(slot) {
+            Some(seat) => seat,
+            None => Seat::empty(),
         }
-        self.seats[slot as usize]
     }
 }
 

@@ -7,7 +7,7 @@ ghost use Rattle.run_types.specs.declared.run.Event.TheVariants.{Decide};
 ghost use Rattle.source_model.specs.Guards.{Guard, Setup, has_ended, is_open, offer_at};
 ghost use Rattle.offer_decision.specs.declared.answer.Decision.TheVariants.{Admitted};
 ghost use Rattle.plain_engine.specs.Plain.{IsStateAt, state_shown};
-ghost use Rattle.dsu_runs.specs.UndefinedNames.{HasUndefinedOffer};
+ghost use Rattle.dsu_runs.specs.UndefinedNames.{UsesUndefined};
 ghost use Rattle.plain_engine.specs.Steps.{ComesTo, IsDecided, IsFollowed, MayWithhold};
 
 use crate::seen::{seats_seen, with_pins};
@@ -31,7 +31,7 @@ impl<M: Machine> State<M> {
         ensures misused { result ≡ Err Undecided.Misused → (setup : Setup) (g : Guard)
             → IsStateAt setup g (state_shown M.shown self.old) → g.world.misused ≡ true }
         ensures undefined { result ≡ Err Undecided.UndefinedName → (setup : Setup) (g : Guard)
-            → IsStateAt setup g (state_shown M.shown self.old) → HasUndefinedOffer setup }
+            → IsStateAt setup g (state_shown M.shown self.old) → UsesUndefined setup k }
     {
         // Offers are numbered from 1, and text 0 is the first one.
         if k == 0 {
@@ -54,6 +54,7 @@ impl<M: Machine> State<M> {
 
     /// Decides the open offer in a run in which threads still move. Where it isn't decided nothing changed.
     fn decide_open(&mut self, k: u8) -> Result<bool, Undecided>
+        requires { 0 < k }
         ensures made { (setup : Setup) (g : Guard) → IsStateAt setup g (state_shown M.shown self.old) → has_ended g ≡ false
             → g.world.misused ≡ false → is_open g k ≡ true → 0 < k
             → IfOk result (ComesTo setup (Decide k) g (state_shown M.shown self.new)) }
@@ -116,6 +117,7 @@ impl<M: Machine> State<M> {
 
     /// Installs an admitted patch with these pins. Where memory runs out, nothing changed.
     fn install(&mut self, k: u8, patch: Patch, pins: &[bool; 16]) -> Result<bool, Undecided>
+        requires { 0 < k }
         ensures made { (setup : Setup) (g : Guard) → IsStateAt setup g (state_shown M.shown self.old) → has_ended g ≡ false
             → g.world.misused ≡ false → is_open g k ≡ true → 0 < k
             → IsDecided (state_shown M.shown self.old) k (Admitted patch pins.now)

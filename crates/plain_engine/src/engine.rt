@@ -8,10 +8,12 @@ ghost use Rattle.source_model.specs.Patches.{all_names};
 ghost use Rattle.patch_build.specs.Versions.{IsTableOf};
 ghost use Rattle.source_programs.specs.Programs.{text_in};
 ghost use Rattle.dsu_runs.specs.Setups.{limits_of, setup_of};
+ghost use Rattle.installed_versions.specs.Firsts.{IsFirstFault};
 ghost use Rattle.plain_engine.specs.Plain.{IsAt};
 
 use crate::state::State;
 use dsu_io::Sink;
+use installed_versions::FirstFault;
 use name_sets::Names;
 use run_machine::Machine;
 use source_model::OfferAnswer;
@@ -28,10 +30,23 @@ pub struct PlainEngine<M, S> {
     pub(crate) written: usize,
 }
 
+/// An engine that wasn't made.
+#[derive(Drop)]
+pub struct NotStarted<S> {
+    pub sink: S,
+    /// Why the first text has no first version, or that there was no memory.
+    pub why: FirstFault,
+}
+
 impl<M: Machine, S: Sink> PlainEngine<M, S> {
     /// The start of a run over a machine at its start. Its texts are the first one and those of the offers, each with how many
-    /// lines the program must have written before. Out of memory: the sink comes back.
-    pub fn over(alloc: Global, run: M, lines: Vec<u32>, sink: S) -> Result<PlainEngine<M, S>, S>
+    /// lines the program must have written before. Where it isn't made, the sink comes back.
+    pub fn over(
+        alloc: Global,
+        run: M,
+        lines: Vec<u32>,
+        sink: S,
+    ) -> Result<PlainEngine<M, S>, NotStarted<S>>
         requires some { 0 < length (M.shown run).trees }
         requires few { length lines.items ≤ 63 }
         ensures start { (text : Program) (offers : List Program) (objects : ℕ) → length offers ≡ length lines.items
@@ -39,7 +54,9 @@ impl<M: Machine, S: Sink> PlainEngine<M, S> {
             → (M.shown run).kept ≡ 0 → let setup = setup_of text offers lines.items objects in
             IfOk result (λ e. IsAt M.shown setup (first_guard setup) e.state e.printed e.written) }
         ensures told { IfOk result (λ e. e.sink ≡ sink) }
-        ensures back { IfErr result (λ s. s ≡ sink) }
+        ensures back { IfErr result (λ e. e.sink ≡ sink) }
+        ensures fault { IfErr result (λ e. (text : Program) (offers : List Program) → (M.shown run).trees ≡ text ∷ offers
+            → IsFirstFault text e.why) }
     {
         match State::first(alloc, run, lines) {
             Ok(state) => Ok(PlainEngine {
@@ -48,7 +65,7 @@ impl<M: Machine, S: Sink> PlainEngine<M, S> {
                 printed: 0,
                 written: 0,
             }),
-            Err(_) => Err(sink),
+            Err(why) => Err(NotStarted { sink, why }),
         }
     }
 

@@ -11,7 +11,7 @@ use dsu_io::{Sink, put};
 use dsu_runs::{Engine, Made, Stands, Undecided, Waiting};
 use name_sets::Names;
 use run_machine::Machine;
-use run_types::Ending;
+use run_types::{Ending, Event};
 use source_model::OfferAnswer;
 use source_runner::SourceWait;
 use std::alloc::AllocError;
@@ -46,8 +46,8 @@ impl<M: Machine, S: Sink> Engine for PlainEngine<M, S> {
         self.state.run.ending()
     }
 
-    fn can_move(&self, slot: u8) -> bool {
-        self.state.run.can_move(slot)
+    fn next_act(&self, last: Option<u8>) -> Option<Event> {
+        self.state.next_act(last)
     }
 
     fn waits(&self, slot: u8) -> Option<Waiting<'_>> {

@@ -7,8 +7,8 @@
 //! events lead to. Over the source machine it is slow, and takes memory at each move and at each decision.
 //! Once a definition was misused no thread moves any more, and no open offer is decided.
 //!
-//! Read in this order: `seat` (what is kept of a slot), `moves` (the slots after a move), `seen` (the slots
-//! as a decision sees them), `state` (the state beside the output, its moves and check-ins), `decision` (the
+//! Read in this order: `seat` (what is kept of a slot), `seats` (the slots, and those in which a thread lives), `moves` (the
+//! slots after a move), `seen` (the slots as a decision sees them), `state` (the state beside the output, its moves and check-ins), `decision` (the
 //! decision on an offer), `engine` (the type, with its start over a machine), `start` (that over the source machine), `events`
 //! (the trait's calls), `asked` (what is asked of an engine beside them: texts, frames and rows).
 #![tactic(auto)]
@@ -19,9 +19,10 @@ mod engine;
 mod events;
 mod moves;
 mod seat;
+mod seats;
 mod seen;
 mod start;
 mod state;
 
 pub use asked::RowOf;
-pub use engine::PlainEngine;
+pub use engine::{NotStarted, PlainEngine};

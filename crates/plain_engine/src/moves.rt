@@ -8,6 +8,7 @@ ghost use Rattle.source_runner.specs.SourceRuns.{world_after};
 ghost use Rattle.plain_engine.specs.Kept.{AreAfter, IsAfter, IsMoved, IsOther, NoneNew, is_there};
 
 use crate::seat::Seat;
+use crate::seats::Seats;
 use run_machine::Machine;
 
 /// Whether a thread that was pinned still is: a pin doesn't outlive its transaction.
@@ -71,25 +72,26 @@ fn after<M: Machine>(run: &M, seat: Seat, slot: u8, mover: u8, leads: bool) -> S
 
 /// Makes the slots those after a move of the thread in slot `mover`, by whether the move led to a check-in. Each slot in
 /// which no thread was is looked at, since one may be new.
-pub(crate) fn follow_move<M: Machine>(run: &M, seats: &mut [Seat; 16], mover: u8, leads: bool)
+pub(crate) fn follow_move<M: Machine>(run: &M, seats: &mut Seats, mover: u8, leads: bool)
     ensures { (texts : List (List BareDef)) (limits : Limits) (moves : List Made) (w : World)
         → (M.shown run.now).is_run texts limits moves → world_after texts limits moves ≡ Some w
         → AreAfter (M.shown run.now).words w mover leads seats.old seats.new }
 {
+    let before = *seats.all();
     for slot in 0..16u8 {
-        let seat = seats[slot as usize];
-        seats[slot as usize] = after(run, seat, slot, mover, leads);
+        let seat = before[slot as usize];
+        seats.set(slot, after(run, seat, slot, mover, leads));
     }
 }
 
 /// The same of a move that started no thread: the other slots stay.
-pub(crate) fn follow_mover<M: Machine>(run: &M, seats: &mut [Seat; 16], mover: u8, leads: bool)
+pub(crate) fn follow_mover<M: Machine>(run: &M, seats: &mut Seats, mover: u8, leads: bool)
     ensures { (texts : List (List BareDef)) (limits : Limits) (moves : List Made) (w : World)
         → (M.shown run.now).is_run texts limits moves → world_after texts limits moves ≡ Some w → NoneNew w mover seats.old
         → AreAfter (M.shown run.now).words w mover leads seats.old seats.new }
 {
-    if mover >= 16 {
+    let Some(seat) = seats.get(mover) else {
         return;
-    }
-    seats[mover as usize] = moved(run, seats[mover as usize], mover, leads);
+    };
+    seats.set(mover, moved(run, seat, mover, leads));
 }

@@ -10,6 +10,7 @@ ghost use Rattle.plain_engine.specs.Kept.{ArePinned, name_of};
 ghost use Rattle.plain_engine.specs.Seen.{AreSeen, AreWithin, IsOriginOf, IsSeen};
 
 use crate::seat::{Kept, Seat};
+use crate::seats::Seats;
 use name_sets::Names;
 use offer_decision::Seat as Seen;
 use resolved_tree::Word;
@@ -100,7 +101,7 @@ pub(crate) fn seats_seen<M: Machine>(
     run: &M,
     names: &Names,
     versions: u32,
-    seats: &[Seat; 16],
+    seats: &Seats,
 ) -> [Seen; 16]
     ensures kept { AreSeen (M.shown run.now).words names.now versions seats.now result }
     ensures within { (texts : List (List BareDef)) (limits : Limits) (moves : List Made) (w : World)
@@ -108,7 +109,7 @@ pub(crate) fn seats_seen<M: Machine>(
 {
     let mut all = [unseen(); 16];
     for slot in 0..16u8 {
-        let seat = seats[slot as usize];
+        let seat = seats.all()[slot as usize];
         all[slot as usize] = seen(run, names, versions, seat, slot);
     }
     all
@@ -126,12 +127,12 @@ fn with_pin(seat: Seat, pinned: bool) -> Seat
 }
 
 /// The slots with other pins.
-pub(crate) fn with_pins(seats: &[Seat; 16], pins: &[bool; 16]) -> [Seat; 16]
+pub(crate) fn with_pins(seats: &Seats, pins: &[bool; 16]) -> Seats
     ensures { ArePinned pins.now seats.now result }
 {
     let mut all = [Seat::empty(); 16];
     for slot in 0..16usize {
-        all[slot] = with_pin(seats[slot], pins[slot]);
+        all[slot] = with_pin(seats.all()[slot], pins[slot]);
     }
-    all
+    Seats::of(all)
 }

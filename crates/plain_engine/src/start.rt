@@ -5,18 +5,20 @@ ghost use Rattle.source_programs.specs.Programs.{text_in};
 ghost use Rattle.source_runner.specs.SourceRuns.{IsRun, trees_of};
 ghost use Rattle.run_machine.specs.Sources.{source_shown};
 ghost use Rattle.dsu_runs.specs.Setups.{limits_of, setup_of};
+ghost use Rattle.installed_versions.specs.Firsts.{IsFirstFault};
 ghost use Rattle.plain_engine.specs.Plain.{IsAt};
 
-use crate::PlainEngine;
 use crate::state::SLOTS;
+use crate::{NotStarted, PlainEngine};
 use c_types::Typed;
 use dsu_io::Sink;
+use installed_versions::FirstFault;
 use source_runner::SourceRun;
 use std::alloc::{AllocError, Global};
 
 impl<S: Sink> PlainEngine<SourceRun, S> {
     /// The start of a run of a text with the offers of newer texts, each with how many lines the program must
-    /// have written before; so many objects may live at once. Out of memory: the sink comes back.
+    /// have written before; so many objects may live at once. Where it isn't made, the sink comes back.
     pub fn new(
         alloc: Global,
         text: Typed,
@@ -24,17 +26,21 @@ impl<S: Sink> PlainEngine<SourceRun, S> {
         lines: Vec<u32>,
         objects: u32,
         sink: S,
-    ) -> Result<PlainEngine<SourceRun, S>, S>
+    ) -> Result<PlainEngine<SourceRun, S>, NotStarted<S>>
         requires equal { length offers.items ≡ length lines.items }
         requires few { length lines.items ≤ 63 }
         ensures start { let setup = setup_of text offers.items lines.items objects in
             IfOk result (λ e. IsAt source_shown setup (first_guard setup) e.state e.printed e.written) }
         ensures told { IfOk result (λ e. e.sink ≡ sink) }
-        ensures back { IfErr result (λ s. s ≡ sink) }
+        ensures back { IfErr result (λ e. e.sink ≡ sink) }
+        ensures fault { IfErr result (λ e. IsFirstFault text e.why) }
     {
         match first_run(alloc, text, offers, objects) {
             Ok(run) => PlainEngine::over(alloc, run, lines, sink),
-            Err(_) => Err(sink),
+            Err(_) => Err(NotStarted {
+                sink,
+                why: FirstFault::Memory,
+            }),
         }
     }
 }

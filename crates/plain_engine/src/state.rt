@@ -1,23 +1,29 @@
 //! The state of a run beside its output.
-ghost use Rattle.std.specs.Prelude.{◌≡◌, ◌≤◌, ◌<◌, ℕ, List, [], ◌∷◌, ◌++◌, false, true, length, map, slice_get, Some, IfOk, OnErr};
+ghost use Rattle.std.specs.Prelude.{◌≡◌, ◌≤◌, ◌<◌, ◌-◌, ℕ, List, [], ◌∷◌, ◌++◌, false, true, length, map, slice_get, Some, IfOk, IfErr, OnErr};
+ghost use Rattle.std.specs.List.{range_with_len};
 ghost use Rattle.c_tree.specs.declared.def.Program.{Program};
 ghost use Rattle.run_types.specs.declared.run.Event.TheVariants.{Move, CheckIn, Offer, Withdraw};
 ghost use Rattle.source_model.specs.Worlds.{is_over};
 ghost use Rattle.source_model.specs.Guards.{Guard, Setup, first_guard, has_ended, lines_written, seat_of};
+ghost use Rattle.source_model.specs.Schedules.{act_of, first_act, slots_after};
 ghost use Rattle.source_programs.specs.Programs.{text_in};
+ghost use Rattle.dsu_runs.specs.Engines.{first_after};
 ghost use Rattle.dsu_runs.specs.Setups.{limits_of, setup_of};
+ghost use Rattle.installed_versions.specs.Firsts.{IsFirstFault};
 ghost use Rattle.plain_engine.specs.declared.seat.Kept.TheVariants.{Passed};
 ghost use Rattle.plain_engine.specs.Plain.{AreSeats, IsRunAt, IsStateAt, state_shown};
 ghost use Rattle.plain_engine.specs.Steps.{ComesTo, MovesTo};
 
 use crate::moves::{follow_move, follow_mover};
 use crate::seat::{Kept, Seat};
+use crate::seats::Seats;
 use c_types::Typed;
 use dsu_runs::Book;
-use installed_versions::Installed;
+use installed_versions::{FirstFault, Installed};
 use name_sets::Names;
 use rows_in_force::marks_are_of_frames;
 use run_machine::Machine;
+use run_types::Event;
 use source_model::{OfferAnswer, frames_come_through_their_bodies};
 use source_runner::{FrameAt, SourceMove, Stepped};
 use std::alloc::{AllocError, Global};
@@ -31,7 +37,7 @@ pub(crate) struct State<M> {
     pub alloc: Global,
     /// The machine. Its texts are the first one and those of the offers, so offer k is text k.
     pub run: M,
-    pub seats: [Seat; 16],
+    pub seats: Seats,
     /// The versions so far.
     pub installed: Installed,
     /// The number of the text in force.
@@ -43,7 +49,7 @@ pub(crate) struct State<M> {
 impl<M: Machine> State<M> {
     /// The start of a run over a machine at its start, whose texts are the first one and those of the offers, each with how
     /// many lines the program must have written before.
-    pub(crate) fn first(alloc: Global, run: M, lines: Vec<u32>) -> Result<State<M>, AllocError>
+    pub(crate) fn first(alloc: Global, run: M, lines: Vec<u32>) -> Result<State<M>, FirstFault>
         requires some { 0 < length (M.shown run).trees }
         requires few { length lines.items ≤ 63 }
         ensures start { (text : Program) (offers : List Program) (objects : ℕ) → length offers ≡ length lines.items
@@ -51,6 +57,8 @@ impl<M: Machine> State<M> {
             → let setup = setup_of text offers lines.items objects in
             IfOk result (λ s. IsStateAt setup (first_guard setup) (state_shown M.shown s)) }
         ensures kept { IfOk result (λ s. (M.shown s.run).kept ≡ (M.shown run).kept) }
+        ensures fault { IfErr result (λ fault. (text : Program) (offers : List Program) → (M.shown run).trees ≡ text ∷ offers
+            → IsFirstFault text fault) }
     {
         let installed = Installed::first(alloc, first_text(&run))?;
         let book = Book::new(alloc, lines)?;
@@ -95,11 +103,59 @@ impl<M: Machine> State<M> {
         ensures value { (g : Guard) → AreSeats g (M.shown self.now.run) self.now.seats → has_ended g ≡ false
             → result ≡ (seat_of g slot).at_check_in }
         ensures within { result ≡ true → slot < 16 }
+        ensures many { length self.now.seats ≡ 16 }
     {
-        if slot >= SLOTS {
-            return false;
+        match self.seats.get(slot) {
+            Some(seat) => seat.at_check_in,
+            None => false,
         }
-        self.seats[slot as usize].at_check_in
+    }
+
+    /// What the threads do next: of the slots in cyclic order after the one that acted last, the first one whose thread can act
+    /// passes its check-in, or makes its move.
+    pub(crate) fn next_act(&self, last: Option<u8>) -> Option<Event>
+        ensures { (setup : Setup) (g : Guard) → IsStateAt setup g (state_shown M.shown self.now) → has_ended g ≡ false
+            → length g.seats ≡ length g.world.slots → result ≡ first_act g (slots_after (length g.seats) last) }
+    {
+        let first = first_after(last);
+        match self.act_within(first, SLOTS) {
+            Some(act) => Some(act),
+            None => self.act_within(0, first),
+        }
+    }
+
+    /// What the first of the slots from one up to another does whose thread can act. Slots without a thread cost nothing.
+    fn act_within(&self, from: u8, to: u8) -> Option<Event>
+        requires { to ≤ 16 }
+        ensures { (setup : Setup) (g : Guard) → IsStateAt setup g (state_shown M.shown self.now) → has_ended g ≡ false
+            → result ≡ first_act g (range_with_len from (to - from)) }
+    {
+        let mut rest = from;
+        while let Some(slot) = self.seats.first_thread(rest) {
+            if slot >= to {
+                return None;
+            }
+            if let Some(act) = self.act_of(slot) {
+                return Some(act);
+            }
+            rest = slot + 1;
+        }
+        None
+    }
+
+    /// What the thread in a slot can do: it passes the check-in that it is at, or it moves.
+    fn act_of(&self, slot: u8) -> Option<Event>
+        ensures { (setup : Setup) (g : Guard) → IsStateAt setup g (state_shown M.shown self.now) → has_ended g ≡ false
+            → result ≡ act_of g slot }
+    {
+        if self.is_at_check_in(slot) {
+            return Some(Event::CheckIn(slot));
+        }
+        if self.run.can_move(slot) {
+            Some(Event::Move(slot))
+        } else {
+            None
+        }
     }
 
     /// Makes the move of the thread in a slot, if it can be made.
@@ -145,7 +201,8 @@ impl<M: Machine> State<M> {
         marks_are_of_frames();
         frames_come_through_their_bodies();
         let frame = self.run.frame(slot);
-        self.seats[slot as usize] = passed(self.seats[slot as usize], frame);
+        let seat = self.seats.all()[slot as usize];
+        self.seats.set(slot, passed(seat, frame));
         true
     }
 
@@ -178,6 +235,16 @@ impl<M: Machine> State<M> {
     }
 }
 
+/// The first slot in turn after the one that acted last.
+fn first_after(last: Option<u8>) -> u8
+    ensures { result ≡ first_after 16 last }
+{
+    match last {
+        None => 0,
+        Some(slot) => { if slot < SLOTS { slot + 1 } else { 0 } }
+    }
+}
+
 /// A slot whose thread passed its check-in in a frame.
 fn passed(seat: Seat, frame: Option<FrameAt>) -> Seat
     ensures { result ≡ record seat { kept = Passed frame; at_check_in = false } }
@@ -201,11 +268,11 @@ fn first_text<M: Machine>(run: &M) -> &Typed
 }
 
 /// The slots at the start: the thread of `main` alone.
-fn first_seats<M: Machine>(run: &M) -> [Seat; 16]
+fn first_seats<M: Machine>(run: &M) -> Seats
     ensures { (setup : Setup) → setup.limits.slots ≡ 16 → IsRunAt setup (first_guard setup) (M.shown run.now)
         → AreSeats (first_guard setup) (M.shown run.now) result }
 {
     let mut seats = [Seat::empty(); 16];
     seats[0] = Seat::started(run.entering(0));
-    seats
+    Seats::of(seats)
 }

@@ -1,5 +1,5 @@
 //! Tests of the crates that run programs: of the schedules and the order of events in `dsu_runs`, over two small engines, and
-//! of `plain_engine` below them.
+//! of the engines below them.
 //!
 //! - `tiny`: the smallest engine, whose run is known
 //! - `scripted`: an engine that follows a script, with offers
@@ -7,11 +7,15 @@
 //! - `schedules`: the schedules, over `tiny`
 //! - `offers`: the order of events, over `scripted`
 //! - `plain`: the plain engine of a text with offers
-//! - `plain_runs`: what small texts print, how they end and which events are made, what the threads of a deadlock wait for, and
-//!   a sink that fails
+//! - `compiled`: the compiled engine of a text
+//! - `program_runs`: what small texts print, how they end and which events are made, what the threads of a deadlock wait for, and
+//!   a sink that fails, by both engines
+//! - `turns`: the order in which sixteen threads act
 //! - `plain_offers`: what becomes of offers of newer texts
 #![tactic(auto)]
 
+#[cfg(test)]
+mod compiled;
 #[cfg(test)]
 mod offers;
 #[cfg(test)]
@@ -19,7 +23,7 @@ mod plain;
 #[cfg(test)]
 mod plain_offers;
 #[cfg(test)]
-mod plain_runs;
+mod program_runs;
 #[cfg(test)]
 mod runs;
 #[cfg(test)]
@@ -27,3 +31,5 @@ mod schedules;
 #[cfg(test)]
 mod scripted;
 pub mod tiny;
+#[cfg(test)]
+mod turns;

@@ -1,6 +1,6 @@
 use dsu_runs::{Book, Engine, Made, Stands, Undecided, Waiting};
 use name_sets::Names;
-use run_types::Ending;
+use run_types::{Ending, Event};
 use source_model::OfferAnswer;
 use std::alloc::{AllocError, Global};
 
@@ -71,8 +71,12 @@ impl Engine for Scripted {
         None
     }
 
-    fn can_move(&self, slot: u8) -> bool {
-        slot == 0 && self.moves != 0
+    fn next_act(&self, _last: Option<u8>) -> Option<Event> {
+        if self.moves == 0 {
+            None
+        } else {
+            Some(Event::Move(0))
+        }
     }
 
     fn waits(&self, _slot: u8) -> Option<Waiting<'_>> {

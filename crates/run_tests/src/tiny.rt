@@ -3,7 +3,7 @@ ghost use Rattle.run_tests.specs.declared.tiny.Stage.TheVariants.{Start};
 
 use dsu_runs::{Engine, Made, Stands, Undecided, Waiting};
 use name_sets::Names;
-use run_types::Ending;
+use run_types::{Ending, Event};
 use source_model::OfferAnswer;
 use std::alloc::{AllocError, Global};
 
@@ -68,14 +68,11 @@ impl Engine for Tiny {
         None
     }
 
-    fn can_move(&self, slot: u8) -> bool {
-        if slot != 0 {
-            return false;
-        }
+    fn next_act(&self, _last: Option<u8>) -> Option<Event> {
         match self.stage {
-            Stage::Start => true,
-            Stage::Moved => false,
-            Stage::Passed => false,
+            Stage::Start => Some(Event::Move(0)),
+            Stage::Moved => Some(Event::CheckIn(0)),
+            Stage::Passed => None,
         }
     }
 

@@ -1,18 +1,14 @@
-use Rattle.std.proofs.Common.{◌<◌, ◌∙◌, sym, arith, subst}
-use Rattle.dsu_runs.proofs.Standing.{not_stuck, one_slot_more, stuck}
+use Rattle.std.proofs.Common.{◌≡◌, ◌∙◌, Bool, true, false, ap, refl, sym}
+use Rattle.std.specs.Prelude.{not}
+use Rattle.dsu_runs.proofs.Standing.{stuck_in_turn}
 use Rattle.dsu_runs.proofs.ending.is_stuck.Goals as goal
 
-pub returns-then-can_act : goal.returns-then-can_act
-returns-then-can_act g c = λ setup x at going same.
-    not_stuck x c.loop-slot.slot same (subst (λ n. c.loop-slot.slot < n) (c.slots-slot-end.ensures setup x at) c.loop-slot-test.true)
-    (sym (c.can_act.ensures setup x at going) ∙ c.if-can_act.true)
-
-pub loop-slot-preserved : goal.loop-slot-preserved
-loop-slot-preserved g c = λ setup x at going.
-    one_slot_more x c.loop-slot.slot (c.loop-slot.invariant setup x at going) (sym (c.can_act.ensures setup x at going) ∙ c.if-can_act.false)
+twice : (b : Bool) → b ≡ not (not b)
+twice true = refl
+twice false = refl
 
 pub returns : goal.returns
 returns g c = λ setup x at going same.
-    stuck x same (λ k below.
-    c.loop-slot.invariant setup x at going k
-    (omega (arith, below, c.loop-slot-test.false, c.slots-slot-end.ensures setup x at)))
+    twice c.is_none.result
+    ∙ ap not (sym c.is_none.ensures)
+    ∙ stuck_in_turn x c.next_act.result same (c.next_act.ensures setup x at going same)

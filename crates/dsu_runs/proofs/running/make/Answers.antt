@@ -1,5 +1,7 @@
-use Rattle.std.proofs.Common.{IfOk, subst, sym}
+use Rattle.std.proofs.Common.{◌≡◌, ℕ, IfOk, subst, sym, ◌∙◌}
+use Rattle.run_types.specs.declared.run.Event.TheVariants.{Decide}
 use Rattle.dsu_runs.specs.Engines.{MakesAt}
+use Rattle.dsu_runs.specs.UndefinedNames.{UsesUndefined}
 use Rattle.dsu_runs.proofs.running.make.Goals as goal
 
 pub returns-in-Move-clause-made : goal.returns-in-Move-clause-made
@@ -41,6 +43,13 @@ returns-in-Decide-clause-decides g c = λ is. (c.in-Decide.k, c.in-Decide.is)
 
 pub returns-in-Decide-clause-offers : goal.returns-in-Decide-clause-offers
 returns-in-Decide-clause-offers g c = λ is. (c.in-Decide.k, c.in-Decide.is)
+
+pub returns-in-Decide-clause-undefined : goal.returns-in-Decide-clause-undefined
+returns-in-Decide-clause-undefined g c = λ is k decides setup x at.
+    subst (UsesUndefined setup) (decided c.in-Decide.k k (sym c.in-Decide.is ∙ decides)) (c.decide.ensures.undefined is setup x at)
+  where
+    decided : (a b : ℕ) → Decide a ≡ Decide b → a ≡ b
+    decided a b same = cc
 
 pub returns-in-Withdraw-clause-made : goal.returns-in-Withdraw-clause-made
 returns-in-Withdraw-clause-made g c = λ setup x at.

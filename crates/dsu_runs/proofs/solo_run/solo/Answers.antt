@@ -1,4 +1,4 @@
-use Rattle.std.proofs.Common.{◌∙◌, ◌+◌, ap, length, refl, subst, sym, arith}
+use Rattle.std.proofs.Common.{◌∙◌, ◌+◌, None, ap, length, refl, subst, sym, arith}
 use Rattle.source_model.specs.Guards.{first_guard}
 use Rattle.dsu_runs.specs.Solo.{RanSolo}
 use Rattle.dsu_runs.proofs.Happening.{any_are_rows, any_rules}
@@ -17,7 +17,7 @@ loop-turn-init g c =
     record {
       going = λ setup start.
           starts setup (e.is_at setup) e.told e.faults c.args.engine c.args.moves
-          (record { running = record { engine = c.args.engine; history = c.in-Ok.history }; first = 0; left = c.args.moves }) refl
+          (record { running = record { engine = c.args.engine; history = c.in-Ok.history }; last = None; left = c.args.moves }) refl
           c.in-Ok.ensures.items refl refl start;
       counted = ap length c.in-Ok.ensures.items;
       room = c.in-Ok.ensures.capacity;
@@ -36,7 +36,7 @@ loop-turn-preserved g c =
           let seats =
           c.seats_fit_their_slots.ensures any_rules setup old.running.history.items now.guard (now.came.legal any_rules any_are_rows) in
           one_more setup (e.is_at setup) e.told e.faults c.args.engine c.args.moves old new c.act.result now kept
-          (c.act.ensures.turned setup now.guard now.last now.there seats.count now.first) c.in-Done.is;
+          (c.act.ensures.turned setup now.guard now.there seats.count) c.in-Done.is;
       counted = kept.longer c.in-Done.is ∙ ap (λ n. n + 1) at.counted;
       room = let more = kept.room in omega (arith, at.room, more);
     }
@@ -49,7 +49,7 @@ returns-in-CannotHappen g c = λ setup start.
     let at = c.loop-turn.invariant.going setup start in
     let seats =
     c.seats_fit_their_slots.ensures any_rules setup old.running.history.items at.guard (at.came.legal any_rules any_are_rows) in
-    let turned = c.act.ensures.turned setup at.guard at.last at.there seats.count at.first in
+    let turned = c.act.ensures.turned setup at.guard at.there seats.count in
     let nothing =
     came_to_nothing setup (e.is_at setup) e.told e.faults c.args.engine c.args.moves old new c.act.result at c.act.ensures.kept turned
     c.in-CannotHappen.is in
@@ -74,7 +74,7 @@ returns-in-SinkFailed g c = λ setup start.
     c.seats_fit_their_slots.ensures any_rules setup old.running.history.items at.guard (at.came.legal any_rules any_are_rows) in
     subst (RanSolo setup (e.is_at setup) e.told e.faults c.args.engine c.args.moves) (sym c.stop.ensures)
     (failed setup (e.is_at setup) e.told e.faults c.args.engine c.args.moves old new c.act.result at c.act.ensures.kept
-    (c.act.ensures.turned setup at.guard at.last at.there seats.count at.first) c.in-SinkFailed.is)
+    (c.act.ensures.turned setup at.guard at.there seats.count) c.in-SinkFailed.is)
 
 pub returns-in-Memory : goal.returns-in-Memory
 returns-in-Memory g c = λ setup start.
@@ -86,7 +86,7 @@ returns-in-Memory g c = λ setup start.
     c.seats_fit_their_slots.ensures any_rules setup old.running.history.items at.guard (at.came.legal any_rules any_are_rows) in
     subst (RanSolo setup (e.is_at setup) e.told e.faults c.args.engine c.args.moves) (sym c.stop-in-Memory.ensures)
     (lacks setup (e.is_at setup) e.told e.faults c.args.engine c.args.moves old new c.act.result at c.act.ensures.kept
-    (c.act.ensures.turned setup at.guard at.last at.there seats.count at.first) c.in-Memory.is)
+    (c.act.ensures.turned setup at.guard at.there seats.count) c.in-Memory.is)
 
 pub returns : goal.returns
 returns g c = λ setup start.

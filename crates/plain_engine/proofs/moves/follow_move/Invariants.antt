@@ -1,4 +1,4 @@
-use Rattle.std.proofs.Common.{◌≡◌, ◌==◌, ◌≤◌, ℕ, List, Some, length}
+use Rattle.std.proofs.Common.{◌≡◌, ◌==◌, List, Some, length}
 use Rattle.std.specs.Prelude.{slice_get}
 use Rattle.c_tree.specs.BareDef.{BareDef}
 use Rattle.source_model.specs.Runs.{SourceMove as Made}
@@ -12,7 +12,6 @@ use Rattle.plain_engine.proofs.moves.follow_move.Given as goal
 abbrev pub invariant-loop-slot : goal.invariant-loop-slot
 invariant-loop-slot g l =
     (length l.seats ≡ 16)
-    × ((n : ℕ) → l.slot ≤ n → slice_get l.seats n ≡ slice_get l.initial.seats n)
     × ((texts : List (List BareDef)) (limits : Limits) (moves : List Made) (w : World) → (g.M.Machine.shown l.run).is_run texts limits moves
     → world_after texts limits moves ≡ Some w
     → AreFilled (λ n new. (old : Seat) × (slice_get l.initial.seats n ≡ Some old)

@@ -1,4 +1,4 @@
-use Rattle.std.proofs.Common.{◌≡◌, ◌<◌, ◌∙◌, Some, refl, arith, length}
+use Rattle.std.proofs.Common.{◌≡◌, ◌<◌, ◌∙◌, Some, refl, subst, arith, slice_index_or}
 use Rattle.std.proofs.lemmas.List.{length-set}
 use Rattle.std.specs.Prelude.{slice_get}
 use Rattle.std.proofs.lemmas.Option.{slice_get-get_or, slice_get_within}
@@ -6,6 +6,7 @@ use Rattle.source_model.specs.Guards.{in_transaction}
 use Rattle.source_model.specs.Worlds.{in_slot}
 use Rattle.offer_decision.proofs.Filled.{one_more}
 use Rattle.plain_engine.specs.declared.seat.Seat.{Seat}
+use Rattle.plain_engine.specs.Kept.{empty}
 use Rattle.plain_engine.specs.Seen.{IsSeen}
 use Rattle.plain_engine.proofs.seen.seats_seen.Goals as goal
 
@@ -13,10 +14,12 @@ pub loop-slot-preserved : goal.loop-slot-preserved
 loop-slot-preserved g c =
     let seats = c.args.seats.now in
     let k = c.loop-slot.slot in
-    let below : k < length seats = omega (arith, c.loop-slot-test.true) in (
+    let kept = slice_index_or c.all.result.now k empty in
+    let at = subst (λ xs. slice_get xs k ≡ Some kept) c.all.ensures.same
+    (slice_get-get_or c.all.result.now k empty (omega (arith, c.loop-slot-test.true, c.all.ensures.many))) in (
       length-set c.loop-slot.all k _ ∙ c.loop-slot.invariant.0,
       one_more (λ n seen. (kept : Seat) × (slice_get seats n ≡ Some kept) × IsSeen (g.M.Machine.shown c.args.run.now).words c.args.names.now c.args.versions kept seen)
-          c.loop-slot.all _ k _ refl (_, slice_get-get_or seats k _ below, c.seen.ensures.kept) c.loop-slot.invariant.1,
+          c.loop-slot.all _ k _ refl (kept, at, c.seen.ensures.kept) c.loop-slot.invariant.1,
       λ texts limits moves w run reached.
           one_more (λ n seen. in_transaction (in_slot w n) ≡ seen.in_transaction) c.loop-slot.all _ k _ refl
           (c.seen.ensures.within texts limits moves w run reached)

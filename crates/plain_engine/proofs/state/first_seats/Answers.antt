@@ -17,5 +17,6 @@ returns g c = λ setup slots at.
     (sym (asked setup (first_guard setup) run at (λ x. entering_in (in_slot x.world 0)) _
     (c.entering.ensures (texts_of setup) setup.limits at.moves at.run
     (given setup (first_guard setup) run at (λ x. is_over x.world) false refl))))
-    (ap (λ (s : Seat). s ∷ replicate 15 c.empty-seats.result) c.started.ensures
+    (c.of.ensures
+    ∙ ap (λ (s : Seat). s ∷ replicate 15 c.empty-seats.result) c.started.ensures
     ∙ ap (λ (s : Seat). started c.entering.result ∷ replicate 15 s) c.empty-seats.ensures)

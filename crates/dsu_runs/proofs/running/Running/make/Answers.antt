@@ -12,7 +12,7 @@ returns-in-Done-clause-made g c = λ setup x there.
     subst (Steps (λ y. e.is_at setup y new) setup c.args.event x (e.told old) (e.told new)) (sym c.step_of-step.ensures)
     (stepped (λ y. e.is_at setup y new) setup c.args.event x (e.told old) (e.told new) c.make.result _
     (λ stays none. stays none setup x there) (made.made setup x there) made.silent made.stays made.decides
-    (λ is. made.misused is setup x there) made.offers (λ is. made.undefined is setup x there))
+    (λ is. made.misused is setup x there) made.offers (λ is k decides. made.undefined is k decides setup x there))
 
 pub returns-in-CannotHappen-clause-made : goal.returns-in-CannotHappen-clause-made
 returns-in-CannotHappen-clause-made g c = λ setup x there.
@@ -23,7 +23,7 @@ returns-in-CannotHappen-clause-made g c = λ setup x there.
     subst (Steps (λ y. e.is_at setup y new) setup c.args.event x (e.told old) (e.told new)) (sym c.step_of-step.ensures)
     (stepped (λ y. e.is_at setup y new) setup c.args.event x (e.told old) (e.told new) c.make.result _
     (λ stays none. stays none setup x there) (made.made setup x there) made.silent made.stays made.decides
-    (λ is. made.misused is setup x there) made.offers (λ is. made.undefined is setup x there))
+    (λ is. made.misused is setup x there) made.offers (λ is k decides. made.undefined is k decides setup x there))
 
 pub returns-in-CannotHappen-clause-stays : goal.returns-in-CannotHappen-clause-stays
 returns-in-CannotHappen-clause-stays g c = λ is none setup x there.

@@ -3,33 +3,33 @@ use Rattle.std.specs.Prelude.{option_map}
 use Rattle.std.specs.Option.{option_or}
 use Rattle.run_types.specs.declared.run.Event.TheVariants.{Decide}
 use Rattle.dsu_runs.specs.Turns.{next_within, offer_or_act}
+use Rattle.dsu_runs.proofs.Acting.{turned_by}
 use Rattle.dsu_runs.proofs.Ends.{next_going}
 use Rattle.dsu_runs.proofs.Standing.{still_going}
-use Rattle.dsu_runs.proofs.Turns.{turned_by}
 use Rattle.dsu_runs.proofs.solo_run.SoloRun.act.Goals as goal
 
 pub returns-in-Some-clause-turned : goal.returns-in-Some-clause-turned
-returns-in-Some-clause-turned g c = λ setup x last at seats is.
+returns-in-Some-clause-turned g c = λ setup x at seats.
     let e = g.E.Engine in
     let old = c.args.self.now in
     let going = still_going x c.finish.result (c.finish.ensures setup x at) (sym c.is_some.ensures ∙ c.if-is_some.false) in
     let used = sym (c.is_used_up.ensures setup x at going seats) ∙ c.if-is_used_up.false in
     let opened = sym (c.«open».ensures setup x at) ∙ c.in-Some.is in
-    turned_by (e.is_at setup) e.told setup x (Some (Decide c.in-Some.k)) (next_within setup x last old.left) old c.close.new.self
+    turned_by (e.is_at setup) e.told setup x (Some (Decide c.in-Some.k)) (next_within setup x old.last old.left) old c.close.new.self
     c.close.result
-    (sym (next_going setup x last old.left going used
-    ∙ ap (λ o. option_or (option_map Decide o) (offer_or_act setup x last old.left)) opened))
+    (sym (next_going setup x old.last old.left going used
+    ∙ ap (λ o. option_or (option_map Decide o) (offer_or_act setup x old.last old.left)) opened))
     (c.close.ensures.turned setup x at going opened)
 
 pub returns-in-None-clause-turned : goal.returns-in-None-clause-turned
-returns-in-None-clause-turned g c = λ setup x last at seats is.
+returns-in-None-clause-turned g c = λ setup x at seats.
     let e = g.E.Engine in
     let old = c.args.self.now in
     let going = still_going x c.finish.result (c.finish.ensures setup x at) (sym c.is_some.ensures ∙ c.if-is_some.false) in
     let used = sym (c.is_used_up.ensures setup x at going seats) ∙ c.if-is_used_up.false in
     let opened = sym (c.«open».ensures setup x at) ∙ c.in-None.is in
-    turned_by (e.is_at setup) e.told setup x (offer_or_act setup x last old.left) (next_within setup x last old.left) old
+    turned_by (e.is_at setup) e.told setup x (offer_or_act setup x old.last old.left) (next_within setup x old.last old.left) old
     c.open_or_act.new.self c.open_or_act.result
-    (sym (next_going setup x last old.left going used
-    ∙ ap (λ o. option_or (option_map Decide o) (offer_or_act setup x last old.left)) opened))
-    (c.open_or_act.ensures.turned setup x last (record { there = at; going = going; none_open = opened }) is)
+    (sym (next_going setup x old.last old.left going used
+    ∙ ap (λ o. option_or (option_map Decide o) (offer_or_act setup x old.last old.left)) opened))
+    (c.open_or_act.ensures.turned setup x (record { there = at; going = going; fits = seats; none_open = opened }))

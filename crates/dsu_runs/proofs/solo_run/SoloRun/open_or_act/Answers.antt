@@ -4,29 +4,29 @@ use Rattle.std.specs.Option.{option_or}
 use Rattle.run_types.specs.declared.run.Event.TheVariants.{Offer}
 use Rattle.source_model.specs.Schedules.{first_act, slots_after}
 use Rattle.dsu_runs.specs.Turns.{offer_or_act}
+use Rattle.dsu_runs.proofs.Acting.{turned_by, with_running}
 use Rattle.dsu_runs.proofs.Offering.{act_left, act_within_moves, opened}
-use Rattle.dsu_runs.proofs.Turns.{turned_by}
 use Rattle.dsu_runs.proofs.solo_run.SoloRun.open_or_act.Goals as goal
 
 pub returns-in-Some-clause-turned : goal.returns-in-Some-clause-turned
-returns-in-Some-clause-turned g c = λ setup x last goes is.
+returns-in-Some-clause-turned g c = λ setup x goes.
     let e = g.E.Engine in
     let old = c.args.self.now in
     let made = c.make.ensures in
     let is_due = sym (c.due.ensures setup x goes.there) ∙ c.in-Some.is in
-    turned_by (e.is_at setup) e.told setup x (Some (Offer c.in-Some.k)) (offer_or_act setup x last old.left) old
-    (record { running = c.make.new.self; first = old.first; left = old.left }) c.make.result
-    (sym (ap (λ o. option_or (option_map Offer o) (act_left x last old.left)) is_due))
+    turned_by (e.is_at setup) e.told setup x (Some (Offer c.in-Some.k)) (offer_or_act setup x old.last old.left) old
+    (with_running old c.make.new.self) c.make.result
+    (sym (ap (λ o. option_or (option_map Offer o) (act_left x old.last old.left)) is_due))
     (opened (e.is_at setup) e.told setup x old c.make.new.self c.in-Some.k c.make.result goes is_due
     (made.made setup x goes.there, made.history, made.moves))
 
 pub returns-else-self-eq0-clause-turned : goal.returns-else-self-eq0-clause-turned
-returns-else-self-eq0-clause-turned g c = λ setup x last goes is.
+returns-else-self-eq0-clause-turned g c = λ setup x goes.
     let e = g.E.Engine in
     let old = c.args.self.now in
     let is_due = sym (c.due.ensures setup x goes.there) ∙ c.in-None.is in
-    let act = first_act x (slots_after (length x.seats) last) in
-    turned_by (e.is_at setup) e.told setup x act (offer_or_act setup x last old.left) old c.act_in_turn.new.self c.act_in_turn.result
-    (sym (ap (λ o. option_or (option_map Offer o) (act_left x last old.left)) is_due
-    ∙ act_within_moves x last old.left c.if-self-eq0.false))
-    (c.act_in_turn.ensures.turned setup x last goes is)
+    let act = first_act x (slots_after (length x.seats) old.last) in
+    turned_by (e.is_at setup) e.told setup x act (offer_or_act setup x old.last old.left) old c.act_in_turn.new.self c.act_in_turn.result
+    (sym (ap (λ o. option_or (option_map Offer o) (act_left x old.last old.left)) is_due
+    ∙ act_within_moves x old.last old.left c.if-self-eq0.false))
+    (c.act_in_turn.ensures.turned setup x goes)

@@ -1,5 +1,4 @@
-use Rattle.std.proofs.Common.{◌<◌, arith, length, subst, sym}
-use Rattle.std.specs.Prelude.{◌^◌}
+use Rattle.std.proofs.Common.{arith}
 use Rattle.source_model.specs.JournalLaws.{texts_of}
 use Rattle.plain_engine.specs.Plain.{state_shown}
 use Rattle.plain_engine.proofs.Moving.{unmoved}

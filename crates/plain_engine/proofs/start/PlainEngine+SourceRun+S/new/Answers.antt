@@ -1,4 +1,5 @@
-use Rattle.std.proofs.Common.{◌<◌, ◌∷◌, ℕ, List, arith, length, refl, subst, sym}
+use Rattle.std.proofs.Common.{refl}
+use Rattle.std.proofs.lemmas.Result.{IfErr-weaker}
 use Rattle.plain_engine.proofs.Starting.{some_texts}
 use Rattle.plain_engine.proofs.start.PlainEngine+SourceRun+S.new.Goals as goal
 
@@ -8,3 +9,7 @@ over-requires-clause-some g c = some_texts c.args.text c.args.offers.items _ c.i
 pub returns-in-Ok-clause-start : goal.returns-in-Ok-clause-start
 returns-in-Ok-clause-start g c =
     c.over.ensures.start c.args.text c.args.offers.items c.args.objects c.requires.equal c.in-Ok.ensures.trees c.in-Ok.ensures.run refl
+
+pub returns-in-Ok-clause-fault : goal.returns-in-Ok-clause-fault
+returns-in-Ok-clause-fault g c =
+    IfErr-weaker c.over.result _ _ (λ e is. is c.args.text c.args.offers.items c.in-Ok.ensures.trees) c.over.ensures.fault

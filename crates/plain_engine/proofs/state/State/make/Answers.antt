@@ -1,4 +1,4 @@
-use Rattle.std.proofs.Common.{◌≡◌, length, ◌∙◌, ◌++◌, ◌∷◌, [], Ok, Some, ap, sym, arith}
+use Rattle.std.proofs.Common.{◌∙◌, ◌++◌, ◌∷◌, [], Ok, Some, ap, sym}
 use Rattle.source_model.specs.JournalLaws.{texts_of}
 use Rattle.source_model.specs.Runs as source
 use Rattle.source_runner.specs.declared.run.SourceMove.TheVariants.{Move}
@@ -26,7 +26,7 @@ returns-then-threads-clause-made g c = λ setup x at.
     stepped (texts_of setup) setup.limits at.run.moves (Move slot) new c.step.result Done
     (c.in_ok-step.was ∙ ap Ok c.in-Done.is) (c.step.ensures.stepped (texts_of setup) setup.limits at.run.moves at.run.run) in
     let there = new.reached (texts_of setup) setup.limits moves came in
-    let many : length c.args.self.now.seats ≡ 16 = omega arith in
+    let many = c.is_at_check_in.ensures.many in
     made_alone setup x s at new slot c.leads-leads.result c.step.ensures.same
     (λ going. sym (c.is_at_check_in.ensures.value x at.seats going) ∙ c.if-is_at_check_in.false) came there.0 there.1
     (c.leads-leads.ensures (texts_of setup) setup.limits at.run.moves at.run.run) c.threads-threads.result many

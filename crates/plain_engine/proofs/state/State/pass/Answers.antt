@@ -1,4 +1,4 @@
-use Rattle.std.proofs.Common.{◌≡◌, ◌<◌, false, ◌∙◌, ap, refl, sym, subst, arith, slice_set, Some, []}
+use Rattle.std.proofs.Common.{◌≡◌, ◌<◌, false, ◌∙◌, ap, refl, sym, subst, arith, slice_get, slice_index_or, slice_set, Some, []}
 use Rattle.std.specs.Option.{is_none, is_some}
 use Rattle.std.specs.Prelude.{Option, None, true}
 use Rattle.std.proofs.lemmas.Bool.{true≢false, false≢true}
@@ -7,6 +7,7 @@ use Rattle.run_types.specs.declared.run.Event.TheVariants.{CheckIn}
 use Rattle.source_model.specs.JournalLaws.{texts_of}
 use Rattle.source_model.specs.Worlds.{in_slot, is_over}
 use Rattle.source_runner.specs.Queries.{innermost_in}
+use Rattle.plain_engine.specs.Kept.{empty}
 use Rattle.plain_engine.specs.Steps.{Happened}
 use Rattle.plain_engine.specs.Plain.{state_shown}
 use Rattle.plain_engine.proofs.QuietEvents.{passes, stays_put}
@@ -40,10 +41,12 @@ returns-clause-made g c = λ setup x at.
     let going = sym (c.has_ended.ensures setup x at.run) ∙ c.if-has_ended.false in
     let below : slot < 16 = c.is_at_check_in.ensures.within c.if-not-is_at_check_in.false in
     let one = passes setup x slot s at going (sym (c.is_at_check_in.ensures.value x at.seats going) ∙ c.if-not-is_at_check_in.false) below _
-    (slice_get-get_or s.seats slot _ (omega (arith, below))) c.frame-frame.result
+    (subst (λ seats. slice_get seats slot ≡ Some (slice_index_or c.all.result.now slot empty)) c.all.ensures.same
+    (slice_get-get_or c.all.result.now slot empty (omega (arith, below, c.all.ensures.many)))) c.frame-frame.result
     (λ on. asked setup x s.run at.run (λ x. innermost_in (in_slot x.world slot)) _
     (c.frame-frame.ensures (texts_of setup) setup.limits at.run.moves at.run.run (given setup x s.run at.run (λ x. is_over x.world) false on)))
     c.marks_are_of_frames.ensures c.frames_come_through_their_bodies.ensures
     (none_is x.open_offer
     (ap is_some (sym (c.open.ensures setup x s.installed.names at.book)) ∙ sym c.is_some.ensures ∙ c.if-is_some.false)) in
-    subst (λ new. Happened setup (CheckIn slot) x (record s { seats = slice_set s.seats slot new }) []) (sym c.passed.ensures) one
+    subst (λ seats. Happened setup (CheckIn slot) x (record s { seats = seats }) []) (sym c.set.ensures)
+    (subst (λ new. Happened setup (CheckIn slot) x (record s { seats = slice_set s.seats slot new }) []) (sym c.passed.ensures) one)

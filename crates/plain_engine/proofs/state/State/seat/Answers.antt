@@ -1,22 +1,25 @@
-use Rattle.std.proofs.Common.{◌<◌, ◌≤◌, arith, length, subst, sym}
-use Rattle.std.proofs.lemmas.Option.{slice_get-get_or}
+use Rattle.std.proofs.Common.{◌∙◌, arith, subst, sym}
+use Rattle.std.proofs.lemmas.Option.{slice_get_within}
 use Rattle.source_model.specs.Guards.{bodies_of, seat_of}
 use Rattle.source_model.specs.Worlds.{is_over}
 use Rattle.plain_engine.specs.Asked.{IsHeld}
 use Rattle.plain_engine.specs.Plain.{state_shown}
 use Rattle.plain_engine.proofs.Querying.{held_inside, held_outside}
+use Rattle.plain_engine.proofs.Threads.{past_last}
 use Rattle.plain_engine.proofs.state.State.seat.Goals as goal
 
-pub returns-then-slot-ge-SLOTS : goal.returns-then-slot-ge-SLOTS
-returns-then-slot-ge-SLOTS g c = λ x are going.
+pub returns-in-None : goal.returns-in-None
+returns-in-None g c = λ x are going.
     let s = state_shown g.M.Machine.shown c.args.self.now in
-    let past : 16 ≤ c.args.slot = omega (arith, c.if-slot-ge-SLOTS.true) in
+    let past = past_last s.seats c.args.slot (sym c.get.ensures.at ∙ c.in-None.is) in
+    let many = c.get.ensures.many in
     subst (λ kept. IsHeld s.run.words (bodies_of x) (is_over x.world) kept (seat_of x c.args.slot)) (sym c.empty.ensures)
-    (held_outside x s.run s.seats c.args.slot are past)
+    (held_outside x s.run s.seats c.args.slot are (omega (arith, past, many)))
 
-pub returns : goal.returns
-returns g c = λ x are going.
+pub returns-in-Some : goal.returns-in-Some
+returns-in-Some g c = λ x are going.
     let s = state_shown g.M.Machine.shown c.args.self.now in
-    let below : c.args.slot < 16 = omega (arith, c.if-slot-ge-SLOTS.false) in
-    let there : c.args.slot < length c.args.self.now.seats = omega arith in
-    held_inside x s.run s.seats c.args.slot _ are going below (slice_get-get_or s.seats c.args.slot _ there)
+    let at = sym c.get.ensures.at ∙ c.in-Some.is in
+    let inside = slice_get_within s.seats c.args.slot c.in-Some.seat at in
+    let many = c.get.ensures.many in
+    held_inside x s.run s.seats c.args.slot c.in-Some.seat are going (omega (arith, inside, many)) at

@@ -1,8 +1,12 @@
 //! What small texts print, how they end and which events are made, what the threads of a deadlock wait for, and a sink that
-//! fails.
-use crate::plain::{Plain, engine_of};
+//! fails. Each run is made by both engines.
+use crate::compiled::compiled_of;
+use crate::plain::engine_of;
 use crate::runs::{End, has_ended};
+use dsu_io::MemorySink;
 use dsu_runs::{Engine, Ran, StopCause, Waiting, replay, solo};
+use plain_engine::PlainEngine;
+use run_machine::Machine;
 use run_types::{Ending, Event, TrapKind};
 use std::alloc::Global;
 
@@ -23,21 +27,27 @@ struct Printed {
     out: &'static str,
 }
 
-/// A solo run of a text, over a sink whose calls with these numbers fail.
-fn solo_run(alloc: Global, text: &str, failing: &[u64], moves: u32) -> Option<Ran<Plain>> {
-    Some(solo(alloc, engine_of(alloc, text, &[], failing)?, moves))
-}
-
 /// Whether a run ended so.
-fn has_printed(ran: Ran<Plain>, want: &Printed) -> bool {
+fn has_printed<M: Machine>(ran: Ran<PlainEngine<M, MemorySink>>, want: &Printed) -> bool {
     let has_ended = has_ended(&ran, &want.end);
     let (sink, _answers, _names) = ran.engine.into_parts();
     has_ended && sink.bytes() == want.out.as_bytes()
 }
 
-/// Whether a solo run of at most ten moves ends so.
+/// Whether the solo run of an engine, of at most ten moves, ends so.
+fn ends_over<M: Machine>(
+    alloc: Global,
+    engine: PlainEngine<M, MemorySink>,
+    want: &Printed,
+) -> bool {
+    has_printed(solo(alloc, engine, 10), want)
+}
+
+/// Whether a solo run ends so, over a sink whose calls with these numbers fail.
 fn ends(alloc: Global, text: &str, failing: &[u64], want: &Printed) -> Option<bool> {
-    Some(has_printed(solo_run(alloc, text, failing, 10)?, want))
+    let plain = ends_over(alloc, engine_of(alloc, text, &[], failing)?, want);
+    let compiled = ends_over(alloc, compiled_of(alloc, text, failing)?, want);
+    Some(plain && compiled)
 }
 
 /// `main` is entered, passes the check-in, prints and returns.
@@ -105,10 +115,21 @@ static CANNOT_HAPPEN: Printed = Printed {
     out: "14\n",
 };
 
+/// Whether an engine's replay of a journal ends so.
+fn replays_over<M: Machine>(
+    alloc: Global,
+    engine: PlainEngine<M, MemorySink>,
+    journal: &[(u32, Event)],
+    want: &Printed,
+) -> bool {
+    has_printed(replay(alloc, engine, journal), want)
+}
+
 /// Whether the replay of a journal ends so.
 fn replays(alloc: Global, text: &str, journal: &[(u32, Event)], want: &Printed) -> Option<bool> {
-    let ran = replay(alloc, engine_of(alloc, text, &[], &[])?, journal);
-    Some(has_printed(ran, want))
+    let plain = replays_over(alloc, engine_of(alloc, text, &[], &[])?, journal, want);
+    let compiled = replays_over(alloc, compiled_of(alloc, text, &[])?, journal, want);
+    Some(plain && compiled)
 }
 
 #[test]
@@ -134,16 +155,27 @@ static DEADLOCKED: Printed = Printed {
 };
 
 /// Whether `main` waits for `b` and the other thread for `a`.
-fn wait_for_each_other(engine: &Plain) -> bool {
+fn wait_for_each_other<E: Engine>(engine: &E) -> bool {
     engine.waits(0) == Some(Waiting::Mutex("b", 1))
         && engine.waits(1) == Some(Waiting::Mutex("a", 0))
 }
 
-/// Whether a solo run ends so, with two threads that wait so.
-fn deadlocks(alloc: Global, text: &str, want: &Printed) -> Option<bool> {
-    let ran = solo_run(alloc, text, &[], 20)?;
+/// Whether the solo run of an engine, of at most 20 moves, ends so, with two threads that wait so.
+fn deadlocks_over<M: Machine>(
+    alloc: Global,
+    engine: PlainEngine<M, MemorySink>,
+    want: &Printed,
+) -> bool {
+    let ran = solo(alloc, engine, 20);
     let are_waiting = wait_for_each_other(&ran.engine);
-    Some(has_printed(ran, want) && are_waiting)
+    has_printed(ran, want) && are_waiting
+}
+
+/// Whether a solo run ends so.
+fn deadlocks(alloc: Global, text: &str, want: &Printed) -> Option<bool> {
+    let plain = deadlocks_over(alloc, engine_of(alloc, text, &[], &[])?, want);
+    let compiled = deadlocks_over(alloc, compiled_of(alloc, text, &[])?, want);
+    Some(plain && compiled)
 }
 
 #[test]
