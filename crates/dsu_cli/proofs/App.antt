@@ -4,7 +4,7 @@ use Rattle.clap.specs.Words.{Rule, is_simple}
 use Rattle.clap.specs.Walk.{arg_by_id, arg_by_index, arg_by_long}
 use Rattle.clap.specs.Simple.{Shape, built, filled, with_index}
 use Rattle.dsu_cli.specs.declared.setting.Setting.{Setting}
-use Rattle.dsu_cli.specs.declared.setting.Setting.TheVariants.{Offer, Workers, Moves, Objects}
+use Rattle.dsu_cli.specs.declared.setting.Setting.TheVariants.{Offer, Workers, Moves, Objects, Engine}
 use Rattle.dsu_cli.specs.declared.setting.Switch.{Switch}
 use Rattle.dsu_cli.specs.declared.setting.Switch.TheVariants.{Journal, Explain}
 use Rattle.dsu_cli.specs.Words.{Text}
@@ -34,12 +34,14 @@ by_long Offer = refl
 by_long Workers = refl
 by_long Moves = refl
 by_long Objects = refl
+by_long Engine = refl
 
 pub by_id : (s : Setting) → arg_by_id rules (name_of s) ≡ Some (option_built (name_of s))
 by_id Offer = refl
 by_id Workers = refl
 by_id Moves = refl
 by_id Objects = refl
+by_id Engine = refl
 
 pub files_by_id : arg_by_id rules (codes "files") ≡ Some files_built
 files_by_id = refl

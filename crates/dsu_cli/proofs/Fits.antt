@@ -9,8 +9,8 @@ use Rattle.std.proofs.lemmas.Slice.Eq.{bytes_eq-Decides}
 use Rattle.dsu_cli.specs.declared.command.Command.{Command}
 use Rattle.dsu_cli.specs.declared.command.Command.TheVariants as command
 use Rattle.dsu_cli.specs.declared.setting.Setting.{Setting}
-use Rattle.dsu_cli.specs.declared.setting.Setting.TheVariants.{Offer, Workers, Moves, Objects}
-use Rattle.dsu_cli.specs.Words.{Text, Item, positional, option, switch, line, fits, is_switch, item_fits, is_number, is_value, positionals, positionals_fit, values}
+use Rattle.dsu_cli.specs.declared.setting.Setting.TheVariants.{Offer, Workers, Moves, Objects, Engine}
+use Rattle.dsu_cli.specs.Words.{Text, Item, positional, option, switch, line, fits, is_engine, is_switch, item_fits, is_number, is_value, positionals, positionals_fit, values}
 use Rattle.dsu_cli.specs.Fit.{name_of, setting_of, value_test}
 use Rattle.dsu_cli.specs.Sorted.{is_known}
 use Rattle.dsu_cli.proofs.Names.{known, name_view, other, setting_named, setting_other}
@@ -26,11 +26,22 @@ number_is_value digits least most (c ∷ cs) is =
     let above = leb-true 48 c digit.0 in
     not_from_false (c == 45) (ne_eqb c 45 (λ e. omega arith))
 
+-- the name of an engine is a value
+engine_is_value : (word : Text) → is_engine word ≡ true → is_value word ≡ true
+engine_is_value word is = elim (cases_Bool (bytes_eq word (codes "compiled"))) [
+  | inl compiled ↦ ap is_value ((bytes_eq-Decides word _).0 compiled)
+  | inr a ↦ elim (cases_Bool (bytes_eq word (codes "plain"))) [
+    | inl plain ↦ ap is_value ((bytes_eq-Decides word _).0 plain)
+    | inr b ↦ absurd (true≢false (sym is ∙ (rw (a, b) refl)))
+  ]
+]
+
 setting_value : (s : Setting) (v : Text) → value_test s v ≡ true → is_value v ≡ true
 setting_value Offer v is = (and_parts _ _ is).0
 setting_value Workers v is = number_is_value 7 1 8 v is
 setting_value Moves v is = number_is_value 7 1 1600000 v is
 setting_value Objects v is = number_is_value 7 1 65536 v is
+setting_value Engine v is = engine_is_value v is
 
 -- an option that a command has takes the values that pass its test
 pub option_tested : (c : Command) (s : Setting) (v : Text) → item_fits (line c) (option (name_of s) v) ≡ true → value_test s v ≡ true
@@ -38,15 +49,21 @@ option_tested command.Run Offer v e = sym (or-false _) ∙ e
 option_tested command.Run Workers v e = sym (or-false _) ∙ e
 option_tested command.Run Moves v e = sym (or-false _) ∙ e
 option_tested command.Run Objects v e = sym (or-false _) ∙ e
+option_tested command.Run Engine v e = sym (or-false _) ∙ e
 option_tested command.Replay Offer v e = sym (or-false _) ∙ e
 option_tested command.Replay Workers v e = absurd (true≢false (sym e))
 option_tested command.Replay Moves v e = absurd (true≢false (sym e))
 option_tested command.Replay Objects v e = sym (or-false _) ∙ e
+option_tested command.Replay Engine v e = sym (or-false _) ∙ e
 option_tested command.Check s v e = absurd (true≢false (sym e))
 option_tested command.Effects s v e = absurd (true≢false (sym e))
 option_tested command.Changes s v e = absurd (true≢false (sym e))
 option_tested command.Admits s v e = absurd (true≢false (sym e))
-option_tested command.Gen s v e = absurd (true≢false (sym e))
+option_tested command.Gen Offer v e = absurd (true≢false (sym e))
+option_tested command.Gen Workers v e = absurd (true≢false (sym e))
+option_tested command.Gen Moves v e = absurd (true≢false (sym e))
+option_tested command.Gen Objects v e = absurd (true≢false (sym e))
+option_tested command.Gen Engine v e = sym (or-false _) ∙ e
 
 explain_known : (name : Text) → item_fits (line command.Check) (switch name) ≡ true → is_switch name ≡ true
 explain_known name e = ap (λ b. bytes_eq name (codes "journal") || b) (sym (or-false _) ∙ e) ∙ or-true _

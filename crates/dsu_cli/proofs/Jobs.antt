@@ -10,14 +10,16 @@ use Rattle.clap.specs.declared.parser.matches.ArgMatches.{ArgMatches}
 use Rattle.dsu_cli.specs.declared.command.Command.{Command}
 use Rattle.dsu_cli.specs.declared.command.Command.TheVariants as command
 use Rattle.dsu_cli.specs.declared.setting.Setting.{Setting}
-use Rattle.dsu_cli.specs.declared.setting.Setting.TheVariants.{Offer, Workers, Moves, Objects}
+use Rattle.dsu_cli.specs.declared.setting.Setting.TheVariants.{Offer, Workers, Moves, Objects, Engine}
 use Rattle.dsu_cli.specs.declared.setting.Switch.TheVariants.{Journal}
 use Rattle.dsu_cli.specs.declared.job.Offer as offers
+use Rattle.dsu_cli.specs.declared.job.EngineKind.{EngineKind}
+use Rattle.dsu_cli.specs.declared.job.EngineKind.TheVariants as engine
 use Rattle.dsu_cli.specs.declared.job.Job.{Job}
-use Rattle.dsu_cli.specs.declared.job.Job.TheVariants.{Run, Replay}
-use Rattle.dsu_cli.specs.Words.{Text, Item, command_of, fits, items, job, job_if_fits, job_of, line, offer_of, positionals, positionals_fit}
+use Rattle.dsu_cli.specs.declared.job.Job.TheVariants.{Run, Replay, Gen}
+use Rattle.dsu_cli.specs.Words.{Text, Item, command_of, engine_named, engine_of, fits, items, job, job_if_fits, job_of, line, offer_of, positionals, positionals_fit}
 use Rattle.dsu_cli.specs.Fit.{fits_items, job_of_items, name_of, value_test}
-use Rattle.dsu_cli.specs.Sorted.{AreKnown, Sorts, given}
+use Rattle.dsu_cli.specs.Sorted.{AreKnown, Sorts, engine_given, given}
 use Rattle.dsu_cli.proofs.Fits.{fits_known, values_pass}
 
 -- what was given for an option passes its test
@@ -40,31 +42,45 @@ abbrev number_given : Text → ArgMatches → Option ℕ
 number_given id m = option_map (digits_value 10) (slice_get (given id m) 0)
 
 module _ (its : List Item) (m : ArgMatches) (sorts : Sorts its m) where
-  pub run_is : (file : Text) (offers : List offers.Offer) (workers : Option ℕ) (moves objects : ℕ) (journal : Bool) → fits (line command.Run) its ≡ true
+  engine_is : engine_given m ≡ engine_of its
+  engine_is = ap (λ vs. unwrap_or (option_and_then engine_named (slice_get vs 0)) engine.Compiled) (sorts.options Engine)
+
+  pub run_is : (file : Text) (offers : List offers.Offer) (workers : Option ℕ) (moves objects : ℕ) (chosen : EngineKind) (journal : Bool) → fits (line command.Run) its ≡ true
       → slice_get (given (codes "files") m) 0 ≡ Some file → offers ≡ filter_map offer_of (given (codes "offer") m)
       → workers ≡ number_given (codes "workers") m → moves ≡ unwrap_or (number_given (codes "moves") m) 1000000
-      → objects ≡ unwrap_or (number_given (codes "objects") m) 4096 → journal ≡ nat_lt 0 (length (given (codes "journal") m))
-      → job command.Run its (positionals its) ≡ Some (Run (record { file = file; offers = offers; workers = workers; moves = moves; objects = objects; journal = journal }))
-  run_is file offers workers moves objects journal fit f o w mo ob j =
+      → objects ≡ unwrap_or (number_given (codes "objects") m) 4096 → chosen ≡ engine_given m → journal ≡ nat_lt 0 (length (given (codes "journal") m))
+      → job command.Run its (positionals its) ≡ Some (Run (record { file = file; offers = offers; workers = workers; moves = moves; objects = objects; engine = chosen; journal = journal }))
+  run_is file offers workers moves objects chosen journal fit f o w mo ob en j =
       let words = one_positional _ (positionals its) file (and_parts _ _ (and_parts _ _ fit).1).0 (sym (ap (λ ws. slice_get ws 0) sorts.files) ∙ f) in
       let o-is = o ∙ ap (filter_map offer_of) (sorts.options Offer) in
       let w-is = w ∙ ap (λ vs. option_map (digits_value 10) (slice_get vs 0)) (sorts.options Workers) in
       let mo-is = mo ∙ ap (λ vs. unwrap_or (option_map (digits_value 10) (slice_get vs 0)) 1000000) (sorts.options Moves) in
       let ob-is = ob ∙ ap (λ vs. unwrap_or (option_map (digits_value 10) (slice_get vs 0)) 4096) (sorts.options Objects) in
+      let en-is = en ∙ engine_is in
       let j-is = j ∙ ap (nat_lt 0) (sorts.switches Journal) in
       ap (job command.Run its) words
-      ∙ sym (λ i. Some (Run (record { file = file; offers = o-is i; workers = w-is i; moves = mo-is i; objects = ob-is i; journal = j-is i })))
+      ∙ sym (λ i. Some (Run (record { file = file; offers = o-is i; workers = w-is i; moves = mo-is i; objects = ob-is i; engine = en-is i; journal = j-is i })))
 
-  pub replay_is : (file journal : Text) (offers : List offers.Offer) (objects : ℕ) → fits (line command.Replay) its ≡ true
+  pub replay_is : (file journal : Text) (offers : List offers.Offer) (objects : ℕ) (chosen : EngineKind) → fits (line command.Replay) its ≡ true
       → slice_get (given (codes "files") m) 0 ≡ Some file → slice_get (given (codes "files") m) 1 ≡ Some journal
-      → offers ≡ filter_map offer_of (given (codes "offer") m) → objects ≡ unwrap_or (number_given (codes "objects") m) 4096
-      → job command.Replay its (positionals its) ≡ Some (Replay (record { file = file; journal = journal; offers = offers; objects = objects }))
-  replay_is file journal offers objects fit f g o ob =
+      → offers ≡ filter_map offer_of (given (codes "offer") m) → objects ≡ unwrap_or (number_given (codes "objects") m) 4096 → chosen ≡ engine_given m
+      → job command.Replay its (positionals its) ≡ Some (Replay (record { file = file; journal = journal; offers = offers; objects = objects; engine = chosen }))
+  replay_is file journal offers objects chosen fit f g o ob en =
       let words = two_positionals _ _ (positionals its) file journal (and_parts _ _ (and_parts _ _ fit).1).0
       (sym (ap (λ ws. slice_get ws 0) sorts.files) ∙ f) (sym (ap (λ ws. slice_get ws 1) sorts.files) ∙ g) in
       let o-is = o ∙ ap (filter_map offer_of) (sorts.options Offer) in
       let ob-is = ob ∙ ap (λ vs. unwrap_or (option_map (digits_value 10) (slice_get vs 0)) 4096) (sorts.options Objects) in
-      ap (job command.Replay its) words ∙ sym (λ i. Some (Replay (record { file = file; journal = journal; offers = o-is i; objects = ob-is i })))
+      let en-is = en ∙ engine_is in
+      ap (job command.Replay its) words
+      ∙ sym (λ i. Some (Replay (record { file = file; journal = journal; offers = o-is i; objects = ob-is i; engine = en-is i })))
+
+  pub gen_is : (seed size : Text) (chosen : EngineKind) → fits (line command.Gen) its ≡ true
+      → slice_get (given (codes "files") m) 0 ≡ Some seed → slice_get (given (codes "files") m) 1 ≡ Some size → chosen ≡ engine_given m
+      → job command.Gen its (positionals its) ≡ Some (Gen (digits_value 10 seed) (digits_value 10 size) chosen)
+  gen_is seed size chosen fit f g en =
+      let words = two_positionals _ _ (positionals its) seed size (and_parts _ _ (and_parts _ _ fit).1).0
+      (sym (ap (λ ws. slice_get ws 0) sorts.files) ∙ f) (sym (ap (λ ws. slice_get ws 1) sorts.files) ∙ g) in
+      ap (job command.Gen its) words ∙ ap (λ e. Some (Gen (digits_value 10 seed) (digits_value 10 size) e)) (sym (en ∙ engine_is))
 
 -- words that fit are known items
 pub record Fitting (c : Command) (words : List Text) : Type 0 where

@@ -6,7 +6,7 @@ use Rattle.std.proofs.lemmas.Bool.{cases_Bool}
 use Rattle.std.proofs.lemmas.Option.{none-some, same_Some}
 use Rattle.std.proofs.lemmas.Slice.Eq.{bytes_eq-Decides}
 use Rattle.dsu_cli.specs.declared.setting.Setting.{Setting}
-use Rattle.dsu_cli.specs.declared.setting.Setting.TheVariants.{Offer, Workers, Moves, Objects}
+use Rattle.dsu_cli.specs.declared.setting.Setting.TheVariants.{Offer, Workers, Moves, Objects, Engine}
 use Rattle.dsu_cli.specs.declared.setting.Switch.{Switch}
 use Rattle.dsu_cli.specs.declared.setting.Switch.TheVariants.{Journal, Explain}
 use Rattle.dsu_cli.specs.Words.{Text, is_switch}
@@ -18,6 +18,7 @@ pub record IsOther (name : Text) : Type 0 where
   pub workers : bytes_eq name (codes "workers") ≡ false
   pub moves : bytes_eq name (codes "moves") ≡ false
   pub objects : bytes_eq name (codes "objects") ≡ false
+  pub engine : bytes_eq name (codes "engine") ≡ false
 
 pub data NameView (name : Text) : Type 0 where
   known : (setting : Setting) → name ≡ name_of setting → NameView name
@@ -32,7 +33,10 @@ name_view name = elim (cases_Bool (bytes_eq name (codes "offer"))) [
       | inl is ↦ known Moves ((bytes_eq-Decides name _).0 is)
       | inr d ↦ elim (cases_Bool (bytes_eq name (codes "objects"))) [
         | inl is ↦ known Objects ((bytes_eq-Decides name _).0 is)
-        | inr e ↦ other (record { offer = a; workers = b; moves = d; objects = e })
+        | inr e ↦ elim (cases_Bool (bytes_eq name (codes "engine"))) [
+          | inl is ↦ known Engine ((bytes_eq-Decides name _).0 is)
+          | inr f ↦ other (record { offer = a; workers = b; moves = d; objects = e; engine = f })
+        ]
       ]
     ]
   ]
@@ -43,9 +47,10 @@ setting_named Offer = refl
 setting_named Workers = refl
 setting_named Moves = refl
 setting_named Objects = refl
+setting_named Engine = refl
 
 pub setting_other : (name : Text) → IsOther name → setting_of name ≡ None
-setting_other name h = rw (h.offer, h.workers, h.moves, h.objects) refl
+setting_other name h = rw (h.offer, h.workers, h.moves, h.objects, h.engine) refl
 
 -- the name of an option that is known
 pub name_known : (name : Text) (setting : Setting) → setting_of name ≡ Some setting → name ≡ name_of setting
@@ -133,3 +138,4 @@ setting_no_switch Offer = refl
 setting_no_switch Workers = refl
 setting_no_switch Moves = refl
 setting_no_switch Objects = refl
+setting_no_switch Engine = refl

@@ -8,7 +8,7 @@ use Rattle.std.proofs.lemmas.Slice.Eq.{bytes_eq-Decides}
 use Rattle.std.proofs.Common.{append-nil, append_assoc}
 use Rattle.clap.specs.Walk.{Row, all_of}
 use Rattle.dsu_cli.specs.declared.setting.Setting.{Setting}
-use Rattle.dsu_cli.specs.declared.setting.Setting.TheVariants.{Offer, Workers, Moves, Objects}
+use Rattle.dsu_cli.specs.declared.setting.Setting.TheVariants.{Offer, Workers, Moves, Objects, Engine}
 use Rattle.dsu_cli.specs.declared.setting.Switch.{Switch}
 use Rattle.dsu_cli.specs.Words.{Text, Item, positional, option, switch, positionals, uses, values}
 use Rattle.dsu_cli.specs.Fit.{name_of, switch_name}
@@ -66,6 +66,7 @@ setting_apart Offer = refl
 setting_apart Workers = refl
 setting_apart Moves = refl
 setting_apart Objects = refl
+setting_apart Engine = refl
 
 files_step : (item : Item) (rows : List Row) → is_known item ≡ true → values_in (codes "files") (put_item rows item) ≡ values_in (codes "files") rows ++ of_files item
 files_step (positional word) rows k = put_same (codes "files") word rows
@@ -96,6 +97,7 @@ files_apart Offer = refl
 files_apart Workers = refl
 files_apart Moves = refl
 files_apart Objects = refl
+files_apart Engine = refl
 
 option_step : (s : Setting) (item : Item) (rows : List Row) → is_known item ≡ true
     → values_in (name_of s) (put_item rows item) ≡ values_in (name_of s) rows ++ of_option (name_of s) item

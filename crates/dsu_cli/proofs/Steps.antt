@@ -34,7 +34,7 @@ positionals_end (test ∷ tests) (suc k) = positionals_end tests k ∙ both_more
 
 pub words_end : (l : Line) (s : Seen) → s.waiting ≡ None → fits_from l s [] ≡ nat_le (length l.positionals) s.positionals
 words_end l s none =
-    rw (none, once_ends s.workers, once_ends s.moves, once_ends s.objects, once_ends s.journal, once_ends s.explain, le-leb 0 s.offers_left (omega arith), positionals_end l.positionals s.positionals) (and-true _)
+    rw (none, once_ends s.workers, once_ends s.moves, once_ends s.objects, once_ends s.engine, once_ends s.journal, once_ends s.explain, le-leb 0 s.offers_left (omega arith), positionals_end l.positionals s.positionals) (and-true _)
 
 -- ---- one more positional
 
@@ -83,6 +83,17 @@ module _ (l : Line) (s : Seen) (word : Text) (next : Option Seen) (waits : IfSom
       let no_value : is_switch text ≡ true = ap is_switch is ∙ switch_named used in
       rw (waiting, dashes, whole, no_value, is) (step_items l s (use_of used) next words steps waits)
 
+-- an item that the command doesn't have
+misfit : (l : Line) (s : Seen) (item : Item) (found : Option (List Item)) → item_fits l item ≡ false → option_map_or (fits_after l s) (then_items item found) false ≡ false
+misfit l s item None unknown = refl
+misfit l s item (Some its) unknown = and_left _ _ (and_left _ _ unknown)
+
+-- `--name=value` of an option that no command has
+pub after_unknown_pair : (l : Line) (s : Seen) (word text name value : Text) → s.waiting ≡ None → behind_dashes word ≡ Some text
+    → name_and_value text ≡ Some (name, value) → item_fits l (option name value) ≡ false → StepsTo l s word None
+after_unknown_pair l s word text name value waiting dashes parts unknown words =
+    rw (waiting, dashes, parts) (misfit l s (option name value) (items None words) unknown)
+
 module _ (l : Line) (s : Seen) (word text : Text) (waiting : s.waiting ≡ None) (dashes : behind_dashes word ≡ Some text)
     (whole : name_and_value text ≡ None) (other : is_switch text ≡ false) where
   -- an option whose value is the next word
@@ -93,24 +104,20 @@ module _ (l : Line) (s : Seen) (word text : Text) (waiting : s.waiting ≡ None)
   pub after_unknown : ((value : Text) → item_fits l (option text value) ≡ false) → StepsTo l s word None
   after_unknown unknown words = rw (waiting, dashes, whole, other) (never words)
     where
-      with_item : (value : Text) (found : Option (List Item)) → option_map_or (fits_after l s) (then_items (option text value) found) false ≡ false
-      with_item value None = refl
-      with_item value (Some its) = and_left _ _ (and_left _ _ (unknown value))
-
       never : (words : List Text) → option_map_or (fits_after l s) (items (Some text) words) false ≡ false
       never [] = refl
-      never (value ∷ words) = with_item value (items None words)
+      never (value ∷ words) = misfit l s (option text value) (items None words) (unknown value)
 
 -- no command has an option of another name
 pub unknown_option : (c : Command) (name value : Text) → setting_of name ≡ None → item_fits (line c) (option name value) ≡ false
 unknown_option command.Run name value none =
     let h = name_other name none in
-    rw (h.offer, h.workers, h.moves, h.objects) refl
+    rw (h.offer, h.workers, h.moves, h.objects, h.engine) refl
 unknown_option command.Replay name value none =
     let h = name_other name none in
-    rw (h.offer, h.objects) refl
+    rw (h.offer, h.objects, h.engine) refl
 unknown_option command.Check name value none = refl
 unknown_option command.Effects name value none = refl
 unknown_option command.Changes name value none = refl
 unknown_option command.Admits name value none = refl
-unknown_option command.Gen name value none = refl
+unknown_option command.Gen name value none = rw (name_other name none).engine refl

@@ -11,7 +11,7 @@ use Rattle.clap.specs.Values.{reading_of}
 use Rattle.clap.specs.declared.builder.value_parser.ValueParser.TheVariants as vp
 use Rattle.clap.specs.declared.parser.matches.ValueSource.TheVariants.{CommandLine}
 use Rattle.dsu_cli.specs.declared.setting.Setting.{Setting}
-use Rattle.dsu_cli.specs.declared.setting.Setting.TheVariants.{Offer, Workers, Moves, Objects}
+use Rattle.dsu_cli.specs.declared.setting.Setting.TheVariants.{Offer, Workers, Moves, Objects, Engine}
 use Rattle.dsu_cli.specs.declared.setting.Switch.{Switch}
 use Rattle.dsu_cli.specs.Words.{Text, Item, is_value}
 use Rattle.dsu_cli.specs.Words as words
@@ -52,6 +52,7 @@ settle_ok rows _ (last Offer word) = refl
 settle_ok rows _ (last Workers word) = refl
 settle_ok rows _ (last Moves word) = refl
 settle_ok rows _ (last Objects word) = refl
+settle_ok rows _ (last Engine word) = refl
 
 -- the step of a word: where it leads, and that it passes
 pub record Turns (from : Walk) (word : Text) (to : Walk) : Type 0 where
@@ -124,6 +125,7 @@ files_held rows _ word (last Offer v) = refl
 files_held rows _ word (last Workers v) = refl
 files_held rows _ word (last Moves v) = refl
 files_held rows _ word (last Objects v) = refl
+files_held rows _ word (last Engine v) = refl
 
 files_pass : (rows : List Row) (p : Option (Text × List Text)) → Pending p → positional_passes rules false files_built (held_at rows p) ≡ true
 files_pass rows _ nothing = refl
@@ -132,6 +134,7 @@ files_pass rows _ (last Offer v) = refl
 files_pass rows _ (last Workers v) = refl
 files_pass rows _ (last Moves v) = refl
 files_pass rows _ (last Objects v) = refl
+files_pass rows _ (last Engine v) = refl
 
 module _ (rows : List Row) (p : Option (Text × List Text)) (w : Waiting) (word : Text) (pending : Pending p) (rests : Resting w) where
   abbrev held : Held
@@ -178,6 +181,7 @@ value_met Offer rows word = refl
 value_met Workers rows word = refl
 value_met Moves rows word = refl
 value_met Objects rows word = refl
+value_met Engine rows word = refl
 
 pub turn_value : (rows : List Row) (s : Setting) (word : Text) → is_value word ≡ true
     → Turns (at rows (Some (name_of s, [])) (waits_for (name_of s))) word (at rows (Some (name_of s, word ∷ [])) idle)

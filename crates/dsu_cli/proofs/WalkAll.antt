@@ -9,7 +9,7 @@ use Rattle.clap.specs.Lexer.{long_of}
 use Rattle.clap.specs.Walk.{Row, Walk, Waiting, idle, option as waits_for, positional as takes_more, walked}
 use Rattle.clap.specs.Takes.{walk_passes}
 use Rattle.dsu_cli.specs.declared.setting.Setting.{Setting}
-use Rattle.dsu_cli.specs.declared.setting.Setting.TheVariants.{Offer, Workers, Moves, Objects}
+use Rattle.dsu_cli.specs.declared.setting.Setting.TheVariants.{Offer, Workers, Moves, Objects, Engine}
 use Rattle.dsu_cli.specs.Words.{Text, Item, positional, option, switch, behind_dashes, is_switch, items, name_and_value, then_items}
 use Rattle.dsu_cli.specs.Fit.{name_of, switch_name}
 use Rattle.dsu_cli.specs.Sorted.{is_known}
@@ -90,6 +90,7 @@ last_value rows Offer word = refl
 last_value rows Workers word = refl
 last_value rows Moves word = refl
 last_value rows Objects word = refl
+last_value rows Engine word = refl
 
 not_dashes : (word text : Text) → word ≡ 45 ∷ 45 ∷ text → (text ≡ [] → ⊥) → bytes_eq word (45 ∷ 45 ∷ []) ≡ false
 not_dashes word [] is some = absurd (some refl)
@@ -108,6 +109,7 @@ name_is_some Offer text e none = nil_cons _ _ (sym none ∙ e)
 name_is_some Workers text e none = nil_cons _ _ (sym none ∙ e)
 name_is_some Moves text e none = nil_cons _ _ (sym none ∙ e)
 name_is_some Objects text e none = nil_cons _ _ (sym none ∙ e)
+name_is_some Engine text e none = nil_cons _ _ (sym none ∙ e)
 
 whole_long : (word text : Text) → word ≡ 45 ∷ 45 ∷ text → (text ≡ [] → ⊥) → name_and_value text ≡ None → long_of word ≡ Some (text, None)
 whole_long word [] is some e = absurd (some refl)

@@ -4,14 +4,14 @@ use Rattle.std.specs.List.{list_all}
 use Rattle.std.specs.Option.{option_map_or}
 use Rattle.std.specs.Str.{bytes_eq}
 use Rattle.dsu_cli.specs.declared.setting.Setting.{Setting}
-use Rattle.dsu_cli.specs.declared.setting.Setting.TheVariants.{Offer, Workers, Moves, Objects}
+use Rattle.dsu_cli.specs.declared.setting.Setting.TheVariants.{Offer, Workers, Moves, Objects, Engine}
 use Rattle.dsu_cli.specs.declared.setting.Switch.{Switch}
 use Rattle.dsu_cli.specs.declared.setting.Switch.TheVariants.{Journal, Explain}
 use Rattle.dsu_cli.specs.declared.command.Command.{Command}
 use Rattle.dsu_cli.specs.declared.job.Job.{Job}
 use Rattle.dsu_cli.specs.declared.command.Command.TheVariants as command
 use Rattle.dsu_cli.specs.declared.fit.Seen.{Seen}
-use Rattle.dsu_cli.specs.Words.{Text, Item, Line, item_fits, items, fits, is_offer, is_workers, is_moves, is_objects, job_if_fits, positionals, positionals_fit, switch, uses}
+use Rattle.dsu_cli.specs.Words.{Text, Item, Line, item_fits, items, fits, is_engine, is_offer, is_workers, is_moves, is_objects, job_if_fits, positionals, positionals_fit, switch, uses}
 
 -- the option with a value that has this name
 abbrev pub setting_of : Text → Option Setting
@@ -20,6 +20,7 @@ setting_of name =
     else if bytes_eq name (codes "workers") then Some Workers
     else if bytes_eq name (codes "moves") then Some Moves
     else if bytes_eq name (codes "objects") then Some Objects
+    else if bytes_eq name (codes "engine") then Some Engine
     else None
 
 -- the test of its value
@@ -28,12 +29,14 @@ value_test Offer = is_offer
 value_test Workers = is_workers
 value_test Moves = is_moves
 value_test Objects = is_objects
+value_test Engine = is_engine
 
 abbrev pub name_of : Setting → Text
 name_of Offer = codes "offer"
 name_of Workers = codes "workers"
 name_of Moves = codes "moves"
 name_of Objects = codes "objects"
+name_of Engine = codes "engine"
 
 -- the option without a value that has this name
 abbrev pub switch_of : Text → Option Switch
@@ -55,6 +58,8 @@ abbrev pub has : Command → Setting → Bool
 has command.Run _ = true
 has command.Replay Offer = true
 has command.Replay Objects = true
+has command.Replay Engine = true
+has command.Gen Engine = true
 has _ _ = false
 
 -- the next positional passes its test
@@ -72,7 +77,8 @@ abbrev pub fits_after : Line → Seen → List Item → Bool
 fits_after l seen items = list_all (item_fits l) items && (positionals_fit (drop seen.positionals l.positionals) (positionals items)
     && (nat_le (uses (codes "offer") items) seen.offers_left && (nat_le (times seen.workers + uses (codes "workers") items) 1
     && (nat_le (times seen.moves + uses (codes "moves") items) 1 && (nat_le (times seen.objects + uses (codes "objects") items) 1
-    && (nat_le (times seen.journal + uses (codes "journal") items) 1 && nat_le (times seen.explain + uses (codes "explain") items) 1))))))
+    && (nat_le (times seen.engine + uses (codes "engine") items) 1 && (nat_le (times seen.journal + uses (codes "journal") items) 1
+    && nat_le (times seen.explain + uses (codes "explain") items) 1)))))))
 
 -- the words fit after those that were seen
 abbrev pub fits_from : Line → Seen → List Text → Bool

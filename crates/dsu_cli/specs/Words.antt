@@ -1,5 +1,5 @@
 -- The words of a command line: which of them fit, and the job that they name.
-use Rattle.std.specs.Prelude.{ℕ, ◌+◌, ◌-◌, ◌^◌, ◌&&◌, ◌||◌, ◌==◌, Bool, true, false, not, List, [], ◌∷◌, length, take, drop, Option, Some, None, option_map, option_and_then, unwrap_or, slice_get, nat_le, nat_lt, if◌then◌else◌, codes}
+use Rattle.std.specs.Prelude.{ℕ, ◌+◌, ◌-◌, ◌^◌, ◌&&◌, ◌||◌, ◌==◌, Bool, true, false, not, List, [], ◌∷◌, length, take, drop, Option, Some, None, option_map, option_and_then, is_some, unwrap_or, slice_get, nat_le, nat_lt, if◌then◌else◌, codes}
 use Rattle.std.specs.List.{list_all, list_any, filter_map, position, before_last, after_last}
 use Rattle.std.specs.Option.{option_map_or}
 use Rattle.std.specs.Str.{bytes_eq, all_ascii_digits}
@@ -7,6 +7,8 @@ use Rattle.std.specs.Str.Parse.{digits_value}
 use Rattle.dsu_cli.specs.declared.job.Job.{Job}
 use Rattle.dsu_cli.specs.declared.job.Job.TheVariants.{Run, Replay, Check, Effects, Changes, Admits, Gen}
 use Rattle.dsu_cli.specs.declared.job.Offer.{Offer}
+use Rattle.dsu_cli.specs.declared.job.EngineKind.{EngineKind}
+use Rattle.dsu_cli.specs.declared.job.EngineKind.TheVariants as engine
 use Rattle.dsu_cli.specs.declared.job.Detail.{Detail}
 use Rattle.dsu_cli.specs.declared.job.Detail.TheVariants.{Plain, Explained}
 use Rattle.dsu_cli.specs.declared.command.Command.{Command}
@@ -43,6 +45,17 @@ is_seed = is_number 19 0 (2 ^ 63 - 1)
 
 abbrev pub is_size : Text → Bool
 is_size = is_number 7 1 200
+
+-- the engine of this name
+abbrev pub engine_named : Text → Option EngineKind
+engine_named text =
+    if bytes_eq text (codes "compiled") then Some engine.Compiled
+    else if bytes_eq text (codes "plain") then Some engine.Plain
+    else None
+
+-- the name of an engine
+abbrev pub is_engine : Text → Bool
+is_engine text = is_some (engine_named text)
 
 -- `@`
 abbrev pub is_at : ℕ → Bool
@@ -124,16 +137,16 @@ pub record Line : Type 0 where
   pub switches : List Text
 
 abbrev pub line : Command → Line
--- run FILE [--offer FILE@LINES]... [--workers W] [--moves N] [--objects N] [--journal] [--explain]
+-- run FILE [--offer FILE@LINES]... [--workers W] [--moves N] [--objects N] [--engine E] [--journal] [--explain]
 line command.Run = record {
   positionals = is_value ∷ [];
-  options = (codes "offer", is_offer) ∷ (codes "workers", is_workers) ∷ (codes "moves", is_moves) ∷ (codes "objects", is_objects) ∷ [];
+  options = (codes "offer", is_offer) ∷ (codes "workers", is_workers) ∷ (codes "moves", is_moves) ∷ (codes "objects", is_objects) ∷ (codes "engine", is_engine) ∷ [];
   switches = codes "journal" ∷ codes "explain" ∷ [];
 }
--- replay FILE JOURNAL [--offer FILE@LINES]... [--objects N] [--explain]
+-- replay FILE JOURNAL [--offer FILE@LINES]... [--objects N] [--engine E] [--explain]
 line command.Replay = record {
   positionals = is_value ∷ is_value ∷ [];
-  options = (codes "offer", is_offer) ∷ (codes "objects", is_objects) ∷ [];
+  options = (codes "offer", is_offer) ∷ (codes "objects", is_objects) ∷ (codes "engine", is_engine) ∷ [];
   switches = codes "explain" ∷ [];
 }
 -- check FILE [--explain]
@@ -144,8 +157,8 @@ line command.Effects = record { positionals = is_value ∷ []; options = []; swi
 line command.Changes = record { positionals = is_value ∷ is_value ∷ []; options = []; switches = codes "explain" ∷ [] }
 -- admits OLD NEW [--explain]
 line command.Admits = record { positionals = is_value ∷ is_value ∷ []; options = []; switches = codes "explain" ∷ [] }
--- gen SEED SIZE [--explain]
-line command.Gen = record { positionals = is_seed ∷ is_size ∷ []; options = []; switches = codes "explain" ∷ [] }
+-- gen SEED SIZE [--engine E] [--explain]
+line command.Gen = record { positionals = is_seed ∷ is_size ∷ []; options = (codes "engine", is_engine) ∷ []; switches = codes "explain" ∷ [] }
 
 -- an item is one that the command has; a positional is tested by its place
 abbrev pub item_fits : Line → Item → Bool
@@ -166,7 +179,8 @@ is_once name items = nat_le (uses name items) 1
 abbrev pub fits : Line → List Item → Bool
 fits l items = list_all (item_fits l) items && (positionals_fit l.positionals (positionals items)
     && (nat_le (uses (codes "offer") items) 63 && (is_once (codes "workers") items
-    && (is_once (codes "moves") items && (is_once (codes "objects") items && (is_once (codes "journal") items && is_once (codes "explain") items))))))
+    && (is_once (codes "moves") items && (is_once (codes "objects") items && (is_once (codes "engine") items
+    && (is_once (codes "journal") items && is_once (codes "explain") items)))))))
 
 -- ---- the job of items that fit
 
@@ -181,6 +195,10 @@ offers_of items = filter_map offer_of (values (codes "offer") items)
 abbrev pub number_of : Text → List Item → Option ℕ
 number_of name items = option_map (digits_value 10) (slice_get (values name items) 0)
 
+-- the engine that the items name; the compiled one where they name none
+abbrev pub engine_of : List Item → EngineKind
+engine_of items = unwrap_or (option_and_then engine_named (slice_get (values (codes "engine") items) 0)) engine.Compiled
+
 -- the job of a command, by its items and, in their order, its positionals
 abbrev pub job : Command → List Item → List Text → Option Job
 job command.Run items (file ∷ []) = Some (Run (record {
@@ -189,6 +207,7 @@ job command.Run items (file ∷ []) = Some (Run (record {
   workers = number_of (codes "workers") items;
   moves = unwrap_or (number_of (codes "moves") items) 1000000;
   objects = unwrap_or (number_of (codes "objects") items) 4096;
+  engine = engine_of items;
   journal = nat_lt 0 (uses (codes "journal") items);
 }))
 job command.Replay items (file ∷ journal ∷ []) = Some (Replay (record {
@@ -196,12 +215,13 @@ job command.Replay items (file ∷ journal ∷ []) = Some (Replay (record {
   journal = journal;
   offers = offers_of items;
   objects = unwrap_or (number_of (codes "objects") items) 4096;
+  engine = engine_of items;
 }))
 job command.Check items (file ∷ []) = Some (Check file)
 job command.Effects items (file ∷ []) = Some (Effects file)
 job command.Changes items (old ∷ new ∷ []) = Some (Changes old new)
 job command.Admits items (old ∷ new ∷ []) = Some (Admits old new)
-job command.Gen items (seed ∷ size ∷ []) = Some (Gen (digits_value 10 seed) (digits_value 10 size))
+job command.Gen items (seed ∷ size ∷ []) = Some (Gen (digits_value 10 seed) (digits_value 10 size) (engine_of items))
 job _ items _ = None
 
 -- the command of a name

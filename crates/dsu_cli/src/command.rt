@@ -49,7 +49,8 @@ impl Command {
     {
         match (self, setting) {
             (Command::Run, _) => true,
-            (Command::Replay, Setting::Offer | Setting::Objects) => true,
+            (Command::Replay, Setting::Offer | Setting::Objects | Setting::Engine) => true,
+            (Command::Gen, Setting::Engine) => true,
             _ => false,
         }
     }

@@ -17,6 +17,7 @@ pub struct Seen {
     pub workers: bool,
     pub moves: bool,
     pub objects: bool,
+    pub engine: bool,
     pub journal: bool,
     pub explain: bool,
 }
@@ -49,6 +50,7 @@ impl Seen {
             workers: false,
             moves: false,
             objects: false,
+            engine: false,
             journal: false,
             explain: false,
         }
@@ -116,6 +118,10 @@ impl Seen {
             }),
             Setting::Objects if !self.objects => Some(Seen {
                 objects: true,
+                ..seen
+            }),
+            Setting::Engine if !self.engine => Some(Seen {
+                engine: true,
                 ..seen
             }),
             _ => None,

@@ -8,6 +8,15 @@ pub struct Offer {
     pub lines: u32,
 }
 
+/// Which engine runs a program.
+#[derive(Clone, Copy)]
+pub enum EngineKind {
+    /// The engine that executes code.
+    Compiled,
+    /// The engine that walks trees.
+    Plain,
+}
+
 /// `run`: a program's text and how it is run.
 #[derive(Drop)]
 pub struct RunJob {
@@ -20,6 +29,7 @@ pub struct RunJob {
     pub moves: u32,
     /// The most objects that live at once.
     pub objects: u32,
+    pub engine: EngineKind,
     /// Whether the journal is written.
     pub journal: bool,
 }
@@ -33,6 +43,7 @@ pub struct ReplayJob {
     pub offers: List<Offer>,
     /// The most objects that live at once.
     pub objects: u32,
+    pub engine: EngineKind,
 }
 
 /// What the words ask for.
@@ -48,8 +59,8 @@ pub enum Job {
     Changes(Text, Text),
     /// The text of a run, and the one that it could take.
     Admits(Text, Text),
-    /// The seed and the size of a made-up program.
-    Gen(u64, u32),
+    /// The seed and the size of a made-up program, and the engine that runs it.
+    Gen(u64, u32, EngineKind),
 }
 
 /// Whether a command explains what it does.

@@ -19,5 +19,5 @@ mod read;
 mod setting;
 mod sorted;
 
-pub use job::{CliFault, Detail, Job, Offer, ReplayJob, Request, RunJob};
+pub use job::{CliFault, Detail, EngineKind, Job, Offer, ReplayJob, Request, RunJob};
 pub use read::read_words;

@@ -5,13 +5,15 @@ ghost use Rattle.std.specs.Str.Parse.{digits_value};
 ghost use Rattle.dsu_cli.specs.Words.{Item, detail_of, detail_of_items, is_number, is_offer, items, job_of, line, offer_of};
 ghost use Rattle.dsu_cli.specs.declared.job.Detail.TheVariants.{Plain};
 ghost use Rattle.dsu_cli.specs.Fit.{fits_items, job_of_items};
-ghost use Rattle.dsu_cli.specs.Sorted.{IsJobOf, IsRead, Sorts, given};
+ghost use Rattle.dsu_cli.specs.Sorted.{IsJobOf, IsRead, Sorts, engine_given, given};
 
 use crate::command::{Command, MOST_SEED, MOST_SIZE, SEED_DIGITS};
 use crate::fit::fit;
-use crate::job::{CliFault, Detail, Job, Offer, ReplayJob, Request, RunJob};
+use crate::job::{CliFault, Detail, EngineKind, Job, Offer, ReplayJob, Request, RunJob};
 use crate::number::{DIGITS, number};
-use crate::setting::{MOST_LINES, MOST_MOVES, MOST_OBJECTS, MOST_WORKERS, file_and_lines};
+use crate::setting::{
+    MOST_LINES, MOST_MOVES, MOST_OBJECTS, MOST_WORKERS, engine_named, file_and_lines,
+};
 use crate::sorted::sorted;
 use clap::ArgMatches;
 use dsu_io::{List, Text};
@@ -20,6 +22,8 @@ use std::alloc::{AllocError, Global};
 const DEFAULT_MOVES: u32 = 1_000_000;
 
 const DEFAULT_OBJECTS: u32 = 4096;
+
+const DEFAULT_ENGINE: EngineKind = EngineKind::Compiled;
 
 /// The job that the words after the program's name ask for, and whether they ask for it to be explained.
 ///
@@ -73,6 +77,7 @@ fn job(alloc: Global, command: Command, matches: &ArgMatches<'_>) -> Result<Job,
             workers: number_of(matches, "workers", MOST_WORKERS),
             moves: number_of(matches, "moves", MOST_MOVES).unwrap_or(DEFAULT_MOVES),
             objects: number_of(matches, "objects", MOST_OBJECTS).unwrap_or(DEFAULT_OBJECTS),
+            engine: engine(matches),
             journal: is_used(matches, "journal"),
         })),
         Command::Replay => Ok(Job::Replay(ReplayJob {
@@ -80,6 +85,7 @@ fn job(alloc: Global, command: Command, matches: &ArgMatches<'_>) -> Result<Job,
             journal: file(alloc, matches, 1)?,
             offers: offers(alloc, matches)?,
             objects: number_of(matches, "objects", MOST_OBJECTS).unwrap_or(DEFAULT_OBJECTS),
+            engine: engine(matches),
         })),
         Command::Check => Ok(Job::Check(file(alloc, matches, 0)?)),
         Command::Effects => Ok(Job::Effects(file(alloc, matches, 0)?)),
@@ -88,7 +94,7 @@ fn job(alloc: Global, command: Command, matches: &ArgMatches<'_>) -> Result<Job,
         Command::Gen => {
             let seed = known_number(positional(matches, 0), SEED_DIGITS, 0, MOST_SEED);
             let size = known_number(positional(matches, 1), DIGITS, 1, MOST_SIZE);
-            Ok(Job::Gen(seed, size as u32))
+            Ok(Job::Gen(seed, size as u32, engine(matches)))
         }
     }
 }
@@ -137,6 +143,16 @@ fn number_of(matches: &ArgMatches<'_>, id: &str, most: u64) -> Option<u32>
     match matches.get_str(id) {
         Some(word) => Some(known_number(word, DIGITS, 1, most) as u32),
         None => None,
+    }
+}
+
+/// The engine that the words name; the compiled one where they name none.
+fn engine(matches: &ArgMatches<'_>) -> EngineKind
+    ensures { result ≡ engine_given matches.now }
+{
+    match matches.get_str("engine") {
+        Some(name) => engine_named(name).unwrap_or(DEFAULT_ENGINE),
+        None => DEFAULT_ENGINE,
     }
 }
 

@@ -1,7 +1,8 @@
 ghost use Rattle.std.specs.Prelude.{◌≡◌, option_map};
-ghost use Rattle.dsu_cli.specs.Words.{file_and_lines, is_offer, is_value};
+ghost use Rattle.dsu_cli.specs.Words.{engine_named, file_and_lines, is_engine, is_offer, is_value};
 ghost use Rattle.dsu_cli.specs.Fit.{setting_of, switch_of, value_test};
 
+use crate::job::EngineKind;
 use crate::number::{DIGITS, is_number};
 
 pub const MOST_WORKERS: u64 = 8;
@@ -19,6 +20,7 @@ pub enum Setting {
     Workers,
     Moves,
     Objects,
+    Engine,
 }
 
 impl Setting {
@@ -31,6 +33,7 @@ impl Setting {
             "workers" => Some(Setting::Workers),
             "moves" => Some(Setting::Moves),
             "objects" => Some(Setting::Objects),
+            "engine" => Some(Setting::Engine),
             _ => None,
         }
     }
@@ -44,6 +47,7 @@ impl Setting {
             Setting::Workers => is_number(word, DIGITS, 1, MOST_WORKERS),
             Setting::Moves => is_number(word, DIGITS, 1, MOST_MOVES),
             Setting::Objects => is_number(word, DIGITS, 1, MOST_OBJECTS),
+            Setting::Engine => is_engine(word),
         }
     }
 }
@@ -66,6 +70,24 @@ impl Switch {
             _ => None,
         }
     }
+}
+
+/// The engine of this name.
+pub fn engine_named(word: &str) -> Option<EngineKind>
+    ensures { result ≡ engine_named word.now }
+{
+    match word {
+        "compiled" => Some(EngineKind::Compiled),
+        "plain" => Some(EngineKind::Plain),
+        _ => None,
+    }
+}
+
+/// Whether the word is the name of an engine.
+pub fn is_engine(word: &str) -> bool
+    ensures { result ≡ is_engine word.now }
+{
+    engine_named(word).is_some()
 }
 
 /// Whether the word can be a positional that names a file.

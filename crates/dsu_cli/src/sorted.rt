@@ -34,6 +34,7 @@ fn parser<'a>(alloc: Global) -> Result<Command<'a>, AllocError>
         .arg(option(alloc, "workers"))?
         .arg(option(alloc, "moves"))?
         .arg(option(alloc, "objects"))?
+        .arg(option(alloc, "engine"))?
         .arg(switch(alloc, "journal"))?
         .arg(switch(alloc, "explain"))
 }

@@ -55,6 +55,16 @@ came_as plan setup texts journal file finish r o run_out out err status ending h
     (sym status) (ap (λ h. h.items) (sym history)) (sym ending) same)
     came
 
+-- the call that an engine's run came to, with the sink that the engine was handed and the texts as they are known elsewhere
+pub handed_in : {O : Type 0} (plan : Plan) (setup : Setup) (journal : Bool) (told : O → Option (List ℕ)) (faults : O → ℕ) (o : Outcome O)
+    (err : Output) (sink out : O) (texts other : List (List ℕ)) (file named : List ℕ) → sink ≡ out → texts ≡ other → file ≡ named
+    → Came plan setup texts journal file (call_of o (output_of told faults sink o.out) err)
+    → Came plan setup other journal named (call_of o (output_of told faults out o.out) err)
+handed_in {O} plan setup journal told faults o err sink out texts other file named same is known came =
+    subst {A = O} (λ s. Came plan setup other journal named (call_of o (output_of told faults s o.out) err)) same
+    (subst {A = List (List ℕ)} (λ ts. Came plan setup ts journal named (call_of o (output_of told faults sink o.out) err)) is
+    (subst {A = List ℕ} (λ f. Came plan setup texts journal f (call_of o (output_of told faults sink o.out) err)) known came))
+
 -- the version in force and the answers are those of the guard
 in_force_is : (f : InForce) (version : ℕ) → f.version ≡ version → f ≡ record { version = version; names = f.names }
 in_force_is f version is = ap (λ (v : ℕ). record { version = v; names = f.names }) is

@@ -72,7 +72,7 @@ module _ {T : Type 0} (setup : Setup) (is_at : Guard → T → Type 0) (told : T
       record { impossible = record { event = s.event; next = s.next; never = s.never }; printed = s.printed }
   replay_stopped lines ran g Memory s = s
   replay_stopped lines ran g (Misused line) s = s.misused
-  replay_stopped lines ran g (UndefinedName line) s = s.undefined
+  replay_stopped lines ran g (UndefinedName line) s = (s.offer, s.undefined)
 
   pub ran_by_journal : (lines : List (ℕ × Event)) (ran : Ran T) → Replayed setup is_at told faults engine lines ran
       → RanBy (ByJournal lines) setup is_at told faults engine ran

@@ -62,7 +62,7 @@ module _ {T : Type 0} (plan : Plan) (setup : Setup) (is_at : Guard → T → Typ
 
   -- nor does an offer's text use a name that it doesn't define
   pub never_undefined : (line : ℕ) → r.cause ≡ UndefinedName line → ⊥
-  never_undefined line is = accepted_offers_have_none setup accepted (stopped (UndefinedName line) is)
+  never_undefined line is = let u = stopped (UndefinedName line) is in accepted_offers_have_none setup u.0 accepted u.1
 
   -- the ending is that of the guard, with main's number as it is
   pub ends_as : (end : Ending) → EndedBy plan setup is_at told by.guard end engine r → end ≡ ending_of by.guard

@@ -12,6 +12,7 @@ use Rattle.source_model.specs.Journals.{answers}
 use Rattle.source_model.specs.JournalLaws.{JournalIsARun, SeatsAlwaysFit}
 use Rattle.accepted_runs.specs.AcceptedRuns.{TransactionsShareAVersion, TextsAreAccepted}
 use Rattle.typed_journals.specs.TypedJournals.{DeadlockedThreadsWait, MainsResultIsAnInt}
+use Rattle.dsu_cli.specs.declared.job.EngineKind.{EngineKind}
 use Rattle.dsu_cli.specs.declared.job.Job.TheVariants.{Gen}
 use Rattle.dsu_report.specs.Statuses.{status_of_ending}
 use Rattle.dsu_report.specs.declared.fault.FaultLine.{FaultLine}
@@ -121,12 +122,12 @@ no_file_failed faults line (inl is) = inl (none_yet faults, is)
 no_file_failed faults line (inr wrong) = inr (none_yet faults, wrong)
 
 module _ (seed size : ℕ) (program next : Program) (call : Call) where
-  pub gen_answers : (content : Contents) (faults : FailedReads) → IsKnownProgram (Some (program_text seed size)) program
+  pub gen_answers : (engine : EngineKind) (content : Contents) (faults : FailedReads) → IsKnownProgram (Some (program_text seed size)) program
       → IsKnownProgram (Some (offer_text seed size)) next → Comes seed size (generated_setup size program next) call
-      → Answers (Gen seed size) content faults faults call
-  gen_answers content faults first second (inl s) = did (none_yet faults) (program, first, next, second, inl s)
-  gen_answers content faults first second (inr (inl s)) = did (none_yet faults) (program, first, next, second, inr s)
-  gen_answers content faults first second (inr (inr s)) = short (none_yet faults) s
+      → Answers (Gen seed size engine) content faults faults call
+  gen_answers engine content faults first second (inl s) = did (none_yet faults) (program, first, next, second, inl s)
+  gen_answers engine content faults first second (inr (inl s)) = did (none_yet faults) (program, first, next, second, inr s)
+  gen_answers engine content faults first second (inr (inr s)) = short (none_yet faults) s
 
   pub gen_done : Comes seed size (generated_setup size program next) call → IsDone call.status ⊎ IsExcused call.status
   gen_done (inl s) = inl (done_by call.status _ s.status)

@@ -95,7 +95,7 @@ pub record AdmitsFailed (program : Program) (text : List ℕ) (next : Program) (
   pub out : ShowsPrefix call.out printed
   pub err : Writes call.err (fault_line Write [])
 
--- what a job came to whose files have no fault
+-- what a job came to whose files have no fault; the engine that makes a run changes nothing of it
 abbrev pub Does : Job → Contents → Call → Type 0
 Does (Run job) content call =
     (program : Program) × HoldsProgram (content job.file) program
@@ -120,7 +120,7 @@ Does (Admits old new) content call =
     (text : List ℕ) × (program : Program) × IsSource (content old) text program
     × (newer : List ℕ) × (next : Program) × IsSource (content new) newer next
     × (AdmitsShown program text next newer call ⊎ AdmitsFailed program text next newer call)
-Does (Gen seed size) content call =
+Does (Gen seed size engine) content call =
     (program : Program) × IsKnownProgram (Some (program_text seed size)) program
     × (next : Program) × IsKnownProgram (Some (offer_text seed size)) next
     × (Summed seed size (generated_setup size program next) call ⊎ SummaryFailed seed size (generated_setup size program next) call)

@@ -34,7 +34,7 @@ is_built (Check file) = true
 is_built (Effects file) = true
 is_built (Changes old new) = true
 is_built (Admits old new) = true
-is_built (Gen seed size) = true
+is_built (Gen seed size engine) = true
 
 -- ---- offers
 
@@ -123,7 +123,7 @@ FileStops (Check named) content before now line file = ProgramStops named conten
 FileStops (Effects named) content before now line file = ProgramStops named content before now line file
 FileStops (Changes old new) content before now line file = PairStops old new content before now line file
 FileStops (Admits old new) content before now line file = PairStops old new content before now line file
-FileStops (Gen seed size) content before now line file =
+FileStops (Gen seed size engine) content before now line file =
     NoneFailed before now × GeneratedFault (program_text seed size) (offer_text seed size) line file
 
 -- ---- files whose contents are known
@@ -163,7 +163,7 @@ IsReady (Check file) content = (program : Program) × IsKnownProgram (content fi
 IsReady (Effects file) content = (program : Program) × IsKnownProgram (content file) program
 IsReady (Changes old new) content = IsReadyPair old new content
 IsReady (Admits old new) content = IsReadyPair old new content
-IsReady (Gen seed size) content =
+IsReady (Gen seed size engine) content =
     ((program : Program) × IsKnownProgram (Some (program_text seed size)) program)
     × ((next : Program) × IsKnownProgram (Some (offer_text seed size)) next)
 
@@ -205,5 +205,5 @@ IsKnownFault (Check named) content line file = (file ≡ named) × KnownProgramF
 IsKnownFault (Effects named) content line file = (file ≡ named) × KnownProgramFault (content named) line
 IsKnownFault (Changes old new) content line file = KnownPairFault old new content line file
 IsKnownFault (Admits old new) content line file = KnownPairFault old new content line file
-IsKnownFault (Gen seed size) content line file =
+IsKnownFault (Gen seed size engine) content line file =
     GeneratedFault (program_text seed size) (offer_text seed size) line file

@@ -8,7 +8,7 @@ use Rattle.source_model.specs.Endings.{ending, int_ending}
 use Rattle.dsu_report.specs.Statuses.{status_of_ending}
 use Rattle.effects.specs.Rows.{AreRows}
 use Rattle.dsu_runs.specs.Ran.{FailedAt, Printed}
-use Rattle.dsu_runs.specs.UndefinedNames.{HasUndefinedOffer}
+use Rattle.dsu_runs.specs.UndefinedNames.{UsesUndefined}
 use Rattle.dsu_runs.specs.declared.ran.Ran.{Ran}
 use Rattle.dsu_runs.specs.declared.ran.StopCause.{StopCause}
 use Rattle.dsu_runs.specs.declared.ran.StopCause.TheVariants.{Ended, SinkFailed, CannotHappen, Memory, Misused, UndefinedName}
@@ -42,7 +42,7 @@ StoppedBy plan setup is_at told faults engine ran g SinkFailed =
 StoppedBy plan setup is_at told faults engine ran g (CannotHappen line) = RefusedBy plan setup told g line engine ran
 StoppedBy plan setup is_at told faults engine ran g Memory = Printed (told engine) (told ran.engine) g
 StoppedBy plan setup is_at told faults engine ran g (Misused line) = g.world.misused ≡ true
-StoppedBy plan setup is_at told faults engine ran g (UndefinedName line) = HasUndefinedOffer setup
+StoppedBy plan setup is_at told faults engine ran g (UndefinedName line) = (k : ℕ) × UsesUndefined setup k
 
 -- the events of a plan were made by an engine, up to why no further one was
 pub record RanBy {T : Type 0} (plan : Plan) (setup : Setup) (is_at : Guard → T → Type 0) (told : T → Option (List ℕ))

@@ -1,5 +1,6 @@
 ghost use Rattle.std.specs.Prelude.{◌⊎◌, ℕ, List, []};
 ghost use Rattle.c_tree.specs.declared.def.Program.{Program};
+ghost use Rattle.c_front.specs.Accepted.{Accepted};
 ghost use Rattle.dsu_cli.specs.declared.job.Job.TheVariants.{Admits};
 ghost use Rattle.dsu_report.specs.declared.fault.FaultLine.{FaultLine as Line};
 ghost use Rattle.dsu_commands.specs.Answers.{AdmitsFailed, AdmitsShown, Answers, IsDone, IsExcused};
@@ -48,6 +49,7 @@ fn admits_from<F: Files, O: Sink, E: Sink>(
     out: O,
     err: &mut E,
 ) -> Outcome<O>
+    requires { Accepted older.now.text.items older.now.typed }
     ensures answers { AdmitsTo (F.content files.old) (F.faults files.old) (F.faults files.new)
         older.now.typed older.now.text.items new.now
         (call_of result (output_of O.told O.faults out result.out) (output_of E.told E.faults err.old err.new)) }
@@ -71,6 +73,8 @@ fn print_admission<O: Sink, E: Sink>(
     out: O,
     err: &mut E,
 ) -> Outcome<O>
+    requires older { Accepted older.now.text.items older.now.typed }
+    requires newer { Accepted newer.now.text.items newer.now.typed }
     ensures { AdmitsShown older.now.typed older.now.text.items newer.now.typed newer.now.text.items
         (call_of result (output_of O.told O.faults out result.out) (output_of E.told E.faults err.old err.new))
         ⊎ AdmitsFailed older.now.typed older.now.text.items newer.now.typed newer.now.text.items

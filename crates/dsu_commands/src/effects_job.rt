@@ -1,4 +1,5 @@
 ghost use Rattle.std.specs.Prelude.{◌⊎◌, ℕ, List, []};
+ghost use Rattle.c_front.specs.Accepted.{Accepted};
 ghost use Rattle.dsu_cli.specs.declared.job.Job.TheVariants.{Effects};
 ghost use Rattle.dsu_report.specs.declared.fault.FaultLine.{FaultLine as Line};
 ghost use Rattle.dsu_commands.specs.Answers.{Answers, EffectsFailed, EffectsShown, IsDone, IsExcused};
@@ -42,6 +43,7 @@ fn print_effects<O: Sink, E: Sink>(
     out: O,
     err: &mut E,
 ) -> Outcome<O>
+    requires { Accepted source.now.text.items source.now.typed }
     ensures { EffectsShown source.now.typed source.now.text.items
         (call_of result (output_of O.told O.faults out result.out) (output_of E.told E.faults err.old err.new))
         ⊎ EffectsFailed source.now.typed source.now.text.items

@@ -5,6 +5,7 @@ ghost use Rattle.c_tree.specs.declared.def.Program.{Program};
 ghost use Rattle.source_model.specs.Guards.{Guard, Setup, first_guard};
 ghost use Rattle.source_model.specs.Journals.{answers};
 ghost use Rattle.accepted_runs.specs.AcceptedRuns.{TextsAreAccepted};
+ghost use Rattle.dsu_cli.specs.declared.job.EngineKind.{EngineKind};
 ghost use Rattle.dsu_cli.specs.declared.job.Job.TheVariants.{Gen};
 ghost use Rattle.dsu_report.specs.declared.fault.FaultLine.{FaultLine as Line};
 ghost use Rattle.run_machine.specs.Sources.{source_shown};
@@ -21,7 +22,7 @@ use crate::finish::Finish;
 use crate::generated::generated;
 use crate::offers::Offers;
 use crate::outcome::{InForce, Outcome, outcome_of};
-use crate::stopped::{stop, stop_after};
+use crate::stopped::{stop, stop_after, stop_before};
 use crate::summary::summary_of;
 use accepted_runs::accepted_runs_are_version_consistent;
 use c_types::Typed;
@@ -52,11 +53,14 @@ pub fn run_generated<O: Sink, E: Sink>(
     err: &mut E,
 ) -> Outcome<O>
     requires some { 0 < size }
-    // No file is read.
-    ensures answers { (content : Contents) (faults : FailedReads) → Answers (Gen seed size) content faults faults
+    // No file is read. The run has an offer, so the plain engine makes it, whichever is asked for.
+    ensures answers { (engine : EngineKind) (content : Contents) (faults : FailedReads)
+        → Answers (Gen seed size engine) content faults faults
         (call_of result (output_of O.told O.faults out result.out) (output_of E.told E.faults err.old err.new)) }
-    ensures complete { (content : Contents) → IsReady (Gen seed size) content → IsDone result.status ⊎ IsExcused result.status }
-    ensures first { (content : Contents) (line : Line) (file : ListOf ℕ) → IsKnownFault (Gen seed size) content line file
+    ensures complete { (engine : EngineKind) (content : Contents) → IsReady (Gen seed size engine) content
+        → IsDone result.status ⊎ IsExcused result.status }
+    ensures first { (engine : EngineKind) (content : Contents) (line : Line) (file : ListOf ℕ)
+        → IsKnownFault (Gen seed size engine) content line file
         → IsExcused result.status ⊎ Stopped line file
         (call_of result (output_of O.told O.faults out result.out) (output_of E.told E.faults err.old err.new)) }
 {
@@ -94,7 +98,7 @@ fn run_offered<O: Sink, E: Sink>(
     } = offers;
     match PlainEngine::new(alloc, program, programs, lines, OBJECTS, NullSink::new()) {
         Ok(engine) => run_engine(alloc, seed, size, engine, &texts, out, err),
-        Err(_) => stop(alloc, FaultLine::Memory, "", out, err),
+        Err(failed) => stop_before(alloc, failed.why, out, err),
     }
 }
 

@@ -8,7 +8,7 @@
 //! error have in each case. Two further clauses say when it must be done, and when a fault must be reported.
 //!
 //! Read in this order: `outcome` (what a call hands back), `stopped` (calls that come to nothing), `input` and `offers` (the
-//! files of a job), `report` (what is printed), `finish` (a run at its end), `run`, `replay`, `check`, `effects_job`,
+//! files of a job), `engines` (which engine makes a run), `report` (what is printed), `finish` (a run at its end), `run`, `replay`, `check`, `effects_job`,
 //! `changes_job`, `admits_job`; `generated` (the texts of a generated program and its offer), `summary` (what is printed of their run),
 //! `gen_job`.
 #![tactic(auto)]
@@ -17,6 +17,7 @@ mod admits_job;
 mod changes_job;
 mod check;
 mod effects_job;
+mod engines;
 mod finish;
 mod gen_job;
 mod generated;

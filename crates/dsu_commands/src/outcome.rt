@@ -1,8 +1,14 @@
 ghost use Rattle.std.specs.Prelude.{◌≡◌, [], None};
-ghost use Rattle.dsu_commands.specs.Schedules.{IsKept};
+ghost use Rattle.source_model.specs.Guards.{Setup};
+ghost use Rattle.plain_engine.specs.Plain.{IsAt};
+ghost use Rattle.dsu_commands.specs.Schedules.{Hands, IsKept};
 
 use crate::finish::Finish;
+use dsu_io::Sink;
+use dsu_runs::Ran;
 use name_sets::Names;
+use plain_engine::PlainEngine;
+use run_machine::Machine;
 use run_types::{Ending, Event};
 use source_model::OfferAnswer;
 use std::alloc::Global;
@@ -79,4 +85,23 @@ pub(crate) fn outcome_of<O>(
         },
         None => without_end(alloc, finish.status, out, history),
     }
+}
+
+/// What a call came to that made a run, from what its engine left and how the run was reported.
+pub(crate) fn outcome_of_run<M: Machine, O: Sink>(
+    alloc: Global,
+    ran: Ran<PlainEngine<M, O>>,
+    finish: Finish,
+) -> Outcome<O>
+    ensures status { result.status ≡ finish.status }
+    ensures out { result.out ≡ ran.engine.sink }
+    ensures history { result.history ≡ ran.history }
+    ensures ending { result.ending ≡ finish.ending }
+    ensures versions { (setup : Setup) → Hands setup (λ g. IsAt M.shown setup g ran.engine.state ran.engine.printed ran.engine.written)
+        finish.ending result.answers.items result.installed }
+{
+    let version = ran.engine.version();
+    let (out, answers, names) = ran.engine.into_parts();
+    let in_force = InForce { version, names };
+    outcome_of(alloc, finish, out, ran.history, answers, in_force)
 }

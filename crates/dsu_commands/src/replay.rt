@@ -11,6 +11,7 @@ ghost use Rattle.dsu_report.specs.declared.fault.FaultLine.{FaultLine as Line};
 ghost use Rattle.effects.specs.Rows.{AreRows};
 ghost use Rattle.dsu_runs.specs.Replays.{events_of};
 ghost use Rattle.dsu_runs.specs.Setups.{setup_of};
+ghost use Rattle.plain_engine.specs.Plain.{IsAt};
 ghost use Rattle.dsu_commands.specs.Answers.{Answers, IsDone, IsExcused};
 ghost use Rattle.dsu_commands.specs.Calls.{Stopped, call_of, output_of, run_call};
 ghost use Rattle.dsu_commands.specs.Jobs.{AreKnownPrograms, IsKnownFault, IsKnownJournal, IsReady, KnownOfferFault, KnownReplayFault, lines_of};
@@ -20,18 +21,21 @@ ghost use Rattle.dsu_commands.specs.Runs.{Came};
 ghost use Rattle.dsu_commands.specs.Schedules.{Hands};
 ghost use Rattle.dsu_commands.specs.declared.outcome.InForce.{InForce as Installed};
 
+use crate::engines::engine_for;
 use crate::finish::{Finish, report_run};
 use crate::input::{events_of, program_of};
 use crate::offers::{Offers, offers_in};
-use crate::outcome::{InForce, Outcome, outcome_of};
-use crate::stopped::stop;
+use crate::outcome::{Outcome, outcome_of_run};
+use crate::stopped::{stop, stop_before};
 use c_types::Typed;
-use dsu_cli::ReplayJob;
+use compiled_engine::compiled_engine;
+use dsu_cli::{EngineKind, ReplayJob};
 use dsu_io::{Files, List, Sink};
 use dsu_report::FaultLine;
 use dsu_runs::{Engine, Ran, replay, rules_exist};
 use frame_bodies::texts_of_programs_are_accepted;
 use plain_engine::PlainEngine;
+use run_machine::Machine;
 use run_types::Event;
 use std::alloc::Global;
 
@@ -137,22 +141,81 @@ fn replay_events<O: Sink, E: Sink>(
         (call_of result (output_of O.told O.faults out result.out) (output_of E.told E.faults err.old err.new))
         ⊎ Stopped FaultLine.Memory [] (call_of result (output_of O.told O.faults out result.out) (output_of E.told E.faults err.old err.new)) }
 {
+    match engine_for(job.engine, &offers) {
+        EngineKind::Compiled => {
+            replay_compiled(alloc, program, &offers.texts, lines, job, out, err)
+        }
+        EngineKind::Plain => replay_plain(alloc, program, offers, lines, job, out, err),
+    }
+}
+
+/// Makes the events of a journal on a program without offers, on the compiled engine.
+fn replay_compiled<O: Sink, E: Sink>(
+    alloc: Global,
+    program: Typed,
+    texts: &[List<u8>],
+    lines: &[(u32, Event)],
+    job: &ReplayJob,
+    out: O,
+    err: &mut E,
+) -> Outcome<O>
+    requires accepted { TextsAreAccepted (setup_of program [] [] job.now.objects) }
+    ensures { Came (ByJournal lines.now) (setup_of program [] [] job.now.objects) texts.now false job.now.journal
+        (call_of result (output_of O.told O.faults out result.out) (output_of E.told E.faults err.old err.new))
+        ⊎ Stopped FaultLine.Memory [] (call_of result (output_of O.told O.faults out result.out) (output_of E.told E.faults err.old err.new)) }
+{
+    match compiled_engine(alloc, program, job.objects, out) {
+        Ok(engine) => replay_over(alloc, engine, texts, lines, job.journal.as_str(), err),
+        Err(failed) => stop_before(alloc, failed.why, failed.sink, err),
+    }
+}
+
+/// Makes the events of a journal on a program, on the plain engine.
+fn replay_plain<O: Sink, E: Sink>(
+    alloc: Global,
+    program: Typed,
+    offers: Offers,
+    lines: &[(u32, Event)],
+    job: &ReplayJob,
+    out: O,
+    err: &mut E,
+) -> Outcome<O>
+    requires equal { length offers.programs.items ≡ length offers.lines.items }
+    requires few { length offers.lines.items ≤ 63 }
+    requires accepted { TextsAreAccepted (setup_of program offers.programs.items offers.lines.items job.now.objects) }
+    ensures { Came (ByJournal lines.now) (setup_of program offers.programs.items offers.lines.items job.now.objects)
+        offers.texts.items false job.now.journal
+        (call_of result (output_of O.told O.faults out result.out) (output_of E.told E.faults err.old err.new))
+        ⊎ Stopped FaultLine.Memory [] (call_of result (output_of O.told O.faults out result.out) (output_of E.told E.faults err.old err.new)) }
+{
     let Offers {
         texts,
         programs,
         lines: printed,
     } = offers;
     match PlainEngine::new(alloc, program, programs, printed, job.objects, out) {
-        Ok(engine) => {
-            let file = job.journal.as_str();
-            let (ran, finish) = replay_engine(alloc, engine, &texts, lines, file, err);
-            let version = ran.engine.version();
-            let (out, answers, names) = ran.engine.into_parts();
-            let in_force = InForce { version, names };
-            outcome_of(alloc, finish, out, ran.history, answers, in_force)
-        }
-        Err(out) => stop(alloc, FaultLine::Memory, "", out, err),
+        Ok(engine) => replay_over(alloc, engine, &texts, lines, job.journal.as_str(), err),
+        Err(failed) => stop_before(alloc, failed.why, failed.sink, err),
     }
+}
+
+/// Has an engine that is at its start make the events of a journal, which is in that file, reports the run, and hands back what it
+/// left. `texts` has those that are offered.
+fn replay_over<M: Machine, O: Sink, E: Sink>(
+    alloc: Global,
+    engine: PlainEngine<M, O>,
+    texts: &[List<u8>],
+    lines: &[(u32, Event)],
+    file: &str,
+    err: &mut E,
+) -> Outcome<O>
+    ensures { (setup : Setup) → TextsAreAccepted setup
+        → IsAt M.shown setup (first_guard setup) engine.state engine.printed engine.written
+        → Came (ByJournal lines.now) setup texts.now false file.now
+        (call_of result (output_of O.told O.faults engine.sink result.out) (output_of E.told E.faults err.old err.new)) }
+{
+    let (ran, finish) = replay_engine(alloc, engine, texts, lines, file, err);
+    outcome_of_run(alloc, ran, finish)
 }
 
 /// Has an engine make the events of a journal, which is in that file, and reports the run. `texts` has those that are offered.

@@ -7,6 +7,7 @@ ghost use Rattle.accepted_runs.specs.AcceptedRuns.{TextsAreAccepted};
 ghost use Rattle.dsu_cli.specs.declared.job.Job.TheVariants.{Run};
 ghost use Rattle.dsu_report.specs.declared.fault.FaultLine.{FaultLine as Line};
 ghost use Rattle.dsu_runs.specs.Setups.{setup_of};
+ghost use Rattle.plain_engine.specs.Plain.{IsAt};
 ghost use Rattle.dsu_commands.specs.Answers.{Answers, IsDone, IsExcused};
 ghost use Rattle.dsu_commands.specs.Calls.{Stopped, call_of, output_of, run_call};
 ghost use Rattle.dsu_commands.specs.Jobs.{AreKnownPrograms, IsKnownFault, IsReady, KnownOfferFault};
@@ -16,18 +17,21 @@ ghost use Rattle.dsu_commands.specs.Runs.{Came};
 ghost use Rattle.dsu_commands.specs.Schedules.{Hands};
 ghost use Rattle.dsu_commands.specs.declared.outcome.InForce.{InForce as Installed};
 
+use crate::engines::engine_for;
 use crate::finish::{Finish, report_run};
 use crate::input::program_of;
 use crate::offers::{Offers, offers_in};
-use crate::outcome::{InForce, Outcome, outcome_of};
-use crate::stopped::stop;
+use crate::outcome::{Outcome, outcome_of_run};
+use crate::stopped::{stop, stop_before};
 use c_types::Typed;
-use dsu_cli::RunJob;
+use compiled_engine::compiled_engine;
+use dsu_cli::{EngineKind, RunJob};
 use dsu_io::{Files, List, Sink};
 use dsu_report::FaultLine;
 use dsu_runs::{Engine, Ran, solo};
 use frame_bodies::texts_of_programs_are_accepted;
 use plain_engine::PlainEngine;
+use run_machine::Machine;
 use source_model::solo_schedule_is_prompt;
 use std::alloc::Global;
 
@@ -99,21 +103,76 @@ fn run_program<O: Sink, E: Sink>(
         (call_of result (output_of O.told O.faults out result.out) (output_of E.told E.faults err.old err.new))
         ⊎ Stopped FaultLine.Memory [] (call_of result (output_of O.told O.faults out result.out) (output_of E.told E.faults err.old err.new)) }
 {
+    match engine_for(job.engine, &offers) {
+        EngineKind::Compiled => run_compiled(alloc, program, &offers.texts, job, out, err),
+        EngineKind::Plain => run_plain(alloc, program, offers, job, out, err),
+    }
+}
+
+/// Runs a program without offers by the solo schedule on the compiled engine.
+fn run_compiled<O: Sink, E: Sink>(
+    alloc: Global,
+    program: Typed,
+    texts: &[List<u8>],
+    job: &RunJob,
+    out: O,
+    err: &mut E,
+) -> Outcome<O>
+    requires accepted { TextsAreAccepted (setup_of program [] [] job.now.objects) }
+    ensures { Came (BySchedule job.now.moves) (setup_of program [] [] job.now.objects) texts.now job.now.journal []
+        (call_of result (output_of O.told O.faults out result.out) (output_of E.told E.faults err.old err.new))
+        ⊎ Stopped FaultLine.Memory [] (call_of result (output_of O.told O.faults out result.out) (output_of E.told E.faults err.old err.new)) }
+{
+    match compiled_engine(alloc, program, job.objects, out) {
+        Ok(engine) => run_over(alloc, engine, texts, job, err),
+        Err(failed) => stop_before(alloc, failed.why, failed.sink, err),
+    }
+}
+
+/// Runs a program by the solo schedule on the plain engine.
+fn run_plain<O: Sink, E: Sink>(
+    alloc: Global,
+    program: Typed,
+    offers: Offers,
+    job: &RunJob,
+    out: O,
+    err: &mut E,
+) -> Outcome<O>
+    requires equal { length offers.programs.items ≡ length offers.lines.items }
+    requires few { length offers.lines.items ≤ 63 }
+    requires accepted { TextsAreAccepted (setup_of program offers.programs.items offers.lines.items job.now.objects) }
+    ensures { Came (BySchedule job.now.moves) (setup_of program offers.programs.items offers.lines.items job.now.objects)
+        offers.texts.items job.now.journal []
+        (call_of result (output_of O.told O.faults out result.out) (output_of E.told E.faults err.old err.new))
+        ⊎ Stopped FaultLine.Memory [] (call_of result (output_of O.told O.faults out result.out) (output_of E.told E.faults err.old err.new)) }
+{
     let Offers {
         texts,
         programs,
         lines,
     } = offers;
     match PlainEngine::new(alloc, program, programs, lines, job.objects, out) {
-        Ok(engine) => {
-            let (ran, finish) = run_engine(alloc, engine, &texts, job, err);
-            let version = ran.engine.version();
-            let (out, answers, names) = ran.engine.into_parts();
-            let in_force = InForce { version, names };
-            outcome_of(alloc, finish, out, ran.history, answers, in_force)
-        }
-        Err(out) => stop(alloc, FaultLine::Memory, "", out, err),
+        Ok(engine) => run_over(alloc, engine, &texts, job, err),
+        Err(failed) => stop_before(alloc, failed.why, failed.sink, err),
     }
+}
+
+/// Runs an engine that is at its start by the solo schedule, reports the run, and hands back what it left. `texts` has those
+/// that are offered.
+fn run_over<M: Machine, O: Sink, E: Sink>(
+    alloc: Global,
+    engine: PlainEngine<M, O>,
+    texts: &[List<u8>],
+    job: &RunJob,
+    err: &mut E,
+) -> Outcome<O>
+    ensures { (setup : Setup) → TextsAreAccepted setup
+        → IsAt M.shown setup (first_guard setup) engine.state engine.printed engine.written
+        → Came (BySchedule job.now.moves) setup texts.now job.now.journal []
+        (call_of result (output_of O.told O.faults engine.sink result.out) (output_of E.told E.faults err.old err.new)) }
+{
+    let (ran, finish) = run_engine(alloc, engine, texts, job, err);
+    outcome_of_run(alloc, ran, finish)
 }
 
 /// Runs an engine by the solo schedule, and reports the run. `texts` has those that are offered.

@@ -6,6 +6,7 @@ ghost use Rattle.dsu_commands.specs.Calls.{Stopped, call_of, output_of, Writes};
 use crate::outcome::{Outcome, without_end};
 use dsu_io::Sink;
 use dsu_report::{FaultLine, write_fault};
+use installed_versions::FirstFault;
 use run_types::Event;
 use std::alloc::Global;
 
@@ -20,6 +21,22 @@ pub fn stop<O: Sink, E: Sink>(
     ensures { Stopped fault file.now (call_of result (output_of O.told O.faults out result.out) (output_of E.told E.faults err.old err.new)) }
 {
     stop_after(alloc, Vec::new(alloc), fault, file, out, err)
+}
+
+/// Reports that a run of an accepted text didn't start, which is so only where memory ran out.
+pub(crate) fn stop_before<O: Sink, E: Sink>(
+    alloc: Global,
+    why: FirstFault,
+    out: O,
+    err: &mut E,
+) -> Outcome<O>
+    requires { why ≡ FirstFault.Memory }
+    ensures { Stopped FaultLine.Memory [] (call_of result (output_of O.told O.faults out result.out) (output_of E.told E.faults err.old err.new)) }
+{
+    match why {
+        FirstFault::Memory => stop(alloc, FaultLine::Memory, "", out, err),
+        FirstFault::UndefinedName | FirstFault::StoreFull => unreachable!(),
+    }
 }
 
 /// Reports a fault after some events.

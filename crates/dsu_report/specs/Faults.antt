@@ -13,12 +13,12 @@ use Rattle.dsu_report.specs.declared.fault.FaultLine.TheVariants.{Usage, Place, 
 -- the usage text
 unfoldable pub usage_text : List ℕ
 usage_text =
-    codes "usage: ginseng run FILE [--offer FILE@LINES]... [--workers W] [--moves N] [--objects N] [--journal] [--explain]\n"
-    ++ codes "       ginseng replay FILE JOURNAL [--offer FILE@LINES]... [--objects N] [--explain]\n"
+    codes "usage: ginseng run FILE [--offer FILE@LINES]... [--workers W] [--moves N] [--objects N] [--engine E] [--journal] [--explain]\n"
+    ++ codes "       ginseng replay FILE JOURNAL [--offer FILE@LINES]... [--objects N] [--engine E] [--explain]\n"
     ++ codes "       ginseng check FILE [--explain]\n"
     ++ codes "       ginseng effects FILE [--explain]\n"
     ++ codes "       ginseng changes OLD NEW [--explain]\n"
-    ++ codes "       ginseng gen SEED SIZE [--explain]\n"
+    ++ codes "       ginseng gen SEED SIZE [--engine E] [--explain]\n"
     ++ codes "       ginseng admits OLD NEW [--explain]\n"
 
 -- the words of a fault of the types

@@ -10,12 +10,12 @@ use itoa::Buffer;
 
 /// What standard error has where the words name no command.
 pub const USAGE: &str = "\
-usage: ginseng run FILE [--offer FILE@LINES]... [--workers W] [--moves N] [--objects N] [--journal] [--explain]
-       ginseng replay FILE JOURNAL [--offer FILE@LINES]... [--objects N] [--explain]
+usage: ginseng run FILE [--offer FILE@LINES]... [--workers W] [--moves N] [--objects N] [--engine E] [--journal] [--explain]
+       ginseng replay FILE JOURNAL [--offer FILE@LINES]... [--objects N] [--engine E] [--explain]
        ginseng check FILE [--explain]
        ginseng effects FILE [--explain]
        ginseng changes OLD NEW [--explain]
-       ginseng gen SEED SIZE [--explain]
+       ginseng gen SEED SIZE [--engine E] [--explain]
        ginseng admits OLD NEW [--explain]
 ";
 

@@ -21,4 +21,4 @@ IsInRange (Check file) = ⊤
 IsInRange (Effects file) = ⊤
 IsInRange (Changes old new) = ⊤
 IsInRange (Admits old new) = ⊤
-IsInRange (Gen seed size) = 0 < size
+IsInRange (Gen seed size engine) = 0 < size

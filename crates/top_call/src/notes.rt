@@ -141,7 +141,7 @@ fn notes_for<F: Files>(alloc: Global, job: &Job, files: &mut F, report: &[u8]) -
         Job::Changes(old, new) | Job::Admits(old, new) => {
             notes_in_either(alloc, old.as_str(), new.as_str(), files, report)
         }
-        Job::Gen(_, _) => None,
+        Job::Gen(_, _, _) => None,
     }
 }
 

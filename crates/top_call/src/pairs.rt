@@ -20,7 +20,7 @@ pub(crate) fn notes_of_pair<F: Files>(alloc: Global, job: &Job, files: &mut F) -
         Job::Changes(old, new) | Job::Admits(old, new) => {
             notes_of_files(alloc, job, old.as_str(), new.as_str(), files)
         }
-        Job::Run(_) | Job::Replay(_) | Job::Check(_) | Job::Effects(_) | Job::Gen(_, _) => None,
+        Job::Run(_) | Job::Replay(_) | Job::Check(_) | Job::Effects(_) | Job::Gen(_, _, _) => None,
     }
 }
 

@@ -61,8 +61,11 @@ pub(crate) fn notes_of_run<F: Files>(
                 ending,
             )
         }
-        Job::Check(_) | Job::Effects(_) | Job::Changes(_, _) | Job::Admits(_, _) | Job::Gen(_, _) =>
-            None,
+        Job::Check(_)
+        | Job::Effects(_)
+        | Job::Changes(_, _)
+        | Job::Admits(_, _)
+        | Job::Gen(_, _, _) => None,
     }
 }
 

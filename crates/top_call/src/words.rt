@@ -44,6 +44,6 @@ fn is_built(job: &Job) -> bool
         | Job::Effects(_)
         | Job::Changes(_, _)
         | Job::Admits(_, _)
-        | Job::Gen(_, _) => true,
+        | Job::Gen(_, _, _) => true,
     }
 }

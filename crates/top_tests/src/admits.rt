@@ -1,4 +1,6 @@
 //! Where runs of small texts could take newer ones, and sinks that fail.
+ghost use Rattle.c_front.specs.Accepted.{Accepted};
+
 use crate::fixtures::{sink_of, typed_of};
 use admits_report::write_admission;
 use c_types::Typed;
@@ -164,14 +166,16 @@ static REFUSED: [Row; 2] = [
     ),
 ];
 
-/// Writes where a run of a tree could take a newer text, and says how the call ended.
+/// Writes where a run of a tree, that of a text, could take a newer text, and says how the call ended.
 fn write_from(
     alloc: Global,
     old: &Typed,
     old_text: &str,
     new: &str,
     sink: &mut MemorySink,
-) -> Option<Result<(), ReportFault>> {
+) -> Option<Result<(), ReportFault>>
+    requires { Accepted old_text.now old.now }
+{
     let typed = typed_of(alloc, new)?;
     let (older, newer) = (old_text.as_bytes(), new.as_bytes());
     let ended = write_admission(alloc, old, older, &typed, newer, sink);

@@ -4,7 +4,7 @@
 //! A row is words that single blanks separate (two blanks make an empty word), and, of words that fit, ` => ` and the job that
 //! they name, with ` explained` behind it where it is to be explained. `¶` separates rows. A table of as many texts as there
 //! are rows would be dear to prove.
-use dsu_cli::{CliFault, Detail, Job, Offer, ReplayJob, Request, RunJob, read_words};
+use dsu_cli::{CliFault, Detail, EngineKind, Job, Offer, ReplayJob, Request, RunJob, read_words};
 use dsu_io::Text;
 use std::alloc::{AllocError, Global};
 use std::process::Abort;
@@ -27,19 +27,30 @@ fn push_offers(alloc: Global, shown: &mut String, offers: &[Offer]) -> Option<()
     shown.push_str(".").ok()
 }
 
-/// A run: its file, workers, moves and objects, whether it has a journal, and its offers.
+/// The name of an engine.
+fn engine_shown(engine: EngineKind) -> &'static str {
+    match engine {
+        EngineKind::Compiled => "compiled",
+        EngineKind::Plain => "plain",
+    }
+}
+
+/// A run: its file, workers, moves, objects and engine, whether it has a journal, and its offers.
 fn run_shown(alloc: Global, job: &RunJob) -> Option<String> {
     let (file, workers, journal) = (job.file.as_str(), job.workers, job.journal);
-    let (moves, objects) = (job.moves, job.objects);
-    let mut shown = format!(in alloc; "run {file} {workers:?} {moves} {objects} {journal}").ok()?;
+    let (moves, objects, engine) = (job.moves, job.objects, engine_shown(job.engine));
+    let mut shown = format!(in alloc;
+        "run {file} {workers:?} {moves} {objects} {engine} {journal}"
+    ).ok()?;
     push_offers(alloc, &mut shown, job.offers.as_slice())?;
     Some(shown)
 }
 
-/// A replay: its file, journal, objects and offers.
+/// A replay: its file, journal, objects, engine and offers.
 fn replay_shown(alloc: Global, job: &ReplayJob) -> Option<String> {
     let (file, journal, objects) = (job.file.as_str(), job.journal.as_str(), job.objects);
-    let mut shown = format!(in alloc; "replay {file} {journal} {objects}").ok()?;
+    let engine = engine_shown(job.engine);
+    let mut shown = format!(in alloc; "replay {file} {journal} {objects} {engine}").ok()?;
     push_offers(alloc, &mut shown, job.offers.as_slice())?;
     Some(shown)
 }
@@ -70,7 +81,10 @@ fn job_shown(alloc: Global, job: &Job) -> Option<String> {
         Job::Effects(file) => files_shown(alloc, "effects", file, None),
         Job::Changes(old, new) => files_shown(alloc, "changes", old, Some(new)),
         Job::Admits(old, new) => files_shown(alloc, "admits", old, Some(new)),
-        Job::Gen(seed, size) => format!(in alloc; "gen {seed} {size}.").ok(),
+        Job::Gen(seed, size, engine) => {
+            let engine = engine_shown(*engine);
+            format!(in alloc; "gen {seed} {size} {engine}.").ok()
+        }
     }
 }
 
@@ -106,42 +120,49 @@ fn are_named(rt: &impl Abort, alloc: Global, rows: &str) {
 }
 
 static RUNS: &str = "\
-    run a.c => run a.c None 1000000 4096 false.¶\
-    run run => run run None 1000000 4096 false.¶\
-    run a=b => run a=b None 1000000 4096 false.¶\
-    run @ => run @ None 1000000 4096 false.¶\
-    run a.c --journal => run a.c None 1000000 4096 true.¶\
-    run --journal a.c => run a.c None 1000000 4096 true.¶\
-    run a.c --workers 1 => run a.c Some(1) 1000000 4096 false.¶\
-    run a.c --workers=8 => run a.c Some(8) 1000000 4096 false.¶\
-    run --workers 0000002 a.c => run a.c Some(2) 1000000 4096 false.¶\
-    run a.c --moves 1 => run a.c None 1 4096 false.¶\
-    run a.c --moves=1600000 => run a.c None 1600000 4096 false.¶\
-    run --moves 0000004 a.c => run a.c None 4 4096 false.¶\
-    run a.c --objects 1 => run a.c None 1000000 1 false.¶\
-    run a.c --objects=65536 => run a.c None 1000000 65536 false.¶\
-    run a.c --offer b.c@0 => run a.c None 1000000 4096 false, b.c after 0.¶\
-    run a.c --offer=b.c@1000000 => run a.c None 1000000 4096 false, b.c after 1000000.¶\
-    run --offer b.c@0000007 a.c => run a.c None 1000000 4096 false, b.c after 7.¶\
-    run a.c --offer b.c@3 --offer=c.c@0 => run a.c None 1000000 4096 false, b.c after 3, c.c after 0.¶\
-    run --offer=c.c@0 a.c --offer b.c@3 => run a.c None 1000000 4096 false, c.c after 0, b.c after 3.¶\
-    run a.c --offer b.c@3 --offer b.c@3 => run a.c None 1000000 4096 false, b.c after 3, b.c after 3.¶\
-    run a.c --offer=b@c@7 => run a.c None 1000000 4096 false, b@c after 7.¶\
-    run a.c --offer b@@7 => run a.c None 1000000 4096 false, b@ after 7.¶\
-    run a.c --offer @@7 => run a.c None 1000000 4096 false, @ after 7.¶\
-    run a.c --offer=b=c@7 => run a.c None 1000000 4096 false, b=c after 7.¶\
-    run a.c --offer b--c@7 => run a.c None 1000000 4096 false, b--c after 7.¶\
-    run --workers 2 a.c --moves=5 --objects 6 --journal --offer b.c@1 => run a.c Some(2) 5 6 true, b.c after 1.¶\
-    run --offer b.c@1 --journal --objects=6 --moves 5 --offer=c.c@2 --workers=3 a.c => run a.c Some(3) 5 6 true, b.c after 1, c.c after 2.¶\
-    run a.c --moves 4096 --objects 4096 => run a.c None 4096 4096 false.¶\
-    run offer --journal => run offer None 1000000 4096 true.¶\
-    run journal => run journal None 1000000 4096 false.¶\
-    run files --offer files@1 => run files None 1000000 4096 false, files after 1.¶\
-    run a.c --workers 1 --moves 1 --objects 1 => run a.c Some(1) 1 1 false.¶\
-    run a.c --explain => run a.c None 1000000 4096 false. explained¶\
-    run --explain a.c --journal => run a.c None 1000000 4096 true. explained¶\
-    run --journal --explain --moves=5 a.c --offer b.c@1 => run a.c None 5 4096 true, b.c after 1. explained¶\
-    run explain => run explain None 1000000 4096 false.";
+    run a.c => run a.c None 1000000 4096 compiled false.¶\
+    run run => run run None 1000000 4096 compiled false.¶\
+    run a=b => run a=b None 1000000 4096 compiled false.¶\
+    run @ => run @ None 1000000 4096 compiled false.¶\
+    run a.c --journal => run a.c None 1000000 4096 compiled true.¶\
+    run --journal a.c => run a.c None 1000000 4096 compiled true.¶\
+    run a.c --workers 1 => run a.c Some(1) 1000000 4096 compiled false.¶\
+    run a.c --workers=8 => run a.c Some(8) 1000000 4096 compiled false.¶\
+    run --workers 0000002 a.c => run a.c Some(2) 1000000 4096 compiled false.¶\
+    run a.c --moves 1 => run a.c None 1 4096 compiled false.¶\
+    run a.c --moves=1600000 => run a.c None 1600000 4096 compiled false.¶\
+    run --moves 0000004 a.c => run a.c None 4 4096 compiled false.¶\
+    run a.c --objects 1 => run a.c None 1000000 1 compiled false.¶\
+    run a.c --objects=65536 => run a.c None 1000000 65536 compiled false.¶\
+    run a.c --offer b.c@0 => run a.c None 1000000 4096 compiled false, b.c after 0.¶\
+    run a.c --offer=b.c@1000000 => run a.c None 1000000 4096 compiled false, b.c after 1000000.¶\
+    run --offer b.c@0000007 a.c => run a.c None 1000000 4096 compiled false, b.c after 7.¶\
+    run a.c --offer b.c@3 --offer=c.c@0 => run a.c None 1000000 4096 compiled false, b.c after 3, c.c after 0.¶\
+    run --offer=c.c@0 a.c --offer b.c@3 => run a.c None 1000000 4096 compiled false, c.c after 0, b.c after 3.¶\
+    run a.c --offer b.c@3 --offer b.c@3 => run a.c None 1000000 4096 compiled false, b.c after 3, b.c after 3.¶\
+    run a.c --offer=b@c@7 => run a.c None 1000000 4096 compiled false, b@c after 7.¶\
+    run a.c --offer b@@7 => run a.c None 1000000 4096 compiled false, b@ after 7.¶\
+    run a.c --offer @@7 => run a.c None 1000000 4096 compiled false, @ after 7.¶\
+    run a.c --offer=b=c@7 => run a.c None 1000000 4096 compiled false, b=c after 7.¶\
+    run a.c --offer b--c@7 => run a.c None 1000000 4096 compiled false, b--c after 7.¶\
+    run --workers 2 a.c --moves=5 --objects 6 --journal --offer b.c@1 => run a.c Some(2) 5 6 compiled true, b.c after 1.¶\
+    run --offer b.c@1 --journal --objects=6 --moves 5 --offer=c.c@2 --workers=3 a.c => run a.c Some(3) 5 6 compiled true, b.c after 1, c.c after 2.¶\
+    run a.c --moves 4096 --objects 4096 => run a.c None 4096 4096 compiled false.¶\
+    run offer --journal => run offer None 1000000 4096 compiled true.¶\
+    run journal => run journal None 1000000 4096 compiled false.¶\
+    run files --offer files@1 => run files None 1000000 4096 compiled false, files after 1.¶\
+    run a.c --workers 1 --moves 1 --objects 1 => run a.c Some(1) 1 1 compiled false.¶\
+    run a.c --explain => run a.c None 1000000 4096 compiled false. explained¶\
+    run --explain a.c --journal => run a.c None 1000000 4096 compiled true. explained¶\
+    run --journal --explain --moves=5 a.c --offer b.c@1 => run a.c None 5 4096 compiled true, b.c after 1. explained¶\
+    run explain => run explain None 1000000 4096 compiled false.¶\
+    run a.c --engine compiled => run a.c None 1000000 4096 compiled false.¶\
+    run a.c --engine plain => run a.c None 1000000 4096 plain false.¶\
+    run --engine=plain a.c => run a.c None 1000000 4096 plain false.¶\
+    run --engine=compiled --journal a.c => run a.c None 1000000 4096 compiled true.¶\
+    run a.c --offer b.c@1 --engine plain --objects 2 => run a.c None 1000000 2 plain false, b.c after 1.¶\
+    run plain --engine plain --explain => run plain None 1000000 4096 plain false. explained¶\
+    run engine => run engine None 1000000 4096 compiled false.";
 
 #[test]
 fn words_name_their_runs(rt: HostRuntime) {
@@ -149,11 +170,11 @@ fn words_name_their_runs(rt: HostRuntime) {
 }
 
 static OTHERS: &str = "\
-    replay a.c a.j => replay a.c a.j 4096.¶\
-    replay a.j a.c => replay a.j a.c 4096.¶\
-    replay a.c --objects 9 a.j => replay a.c a.j 9.¶\
-    replay --offer=b.c@2 a.c a.j --offer c.c@1 => replay a.c a.j 4096, b.c after 2, c.c after 1.¶\
-    replay a.c --offer b@c@2 a.j --objects=65536 => replay a.c a.j 65536, b@c after 2.¶\
+    replay a.c a.j => replay a.c a.j 4096 compiled.¶\
+    replay a.j a.c => replay a.j a.c 4096 compiled.¶\
+    replay a.c --objects 9 a.j => replay a.c a.j 9 compiled.¶\
+    replay --offer=b.c@2 a.c a.j --offer c.c@1 => replay a.c a.j 4096 compiled, b.c after 2, c.c after 1.¶\
+    replay a.c --offer b@c@2 a.j --objects=65536 => replay a.c a.j 65536 compiled, b@c after 2.¶\
     check a.c => check a.c.¶\
     check check => check check.¶\
     effects a.c => effects a.c.¶\
@@ -163,19 +184,24 @@ static OTHERS: &str = "\
     admits a.c b.c => admits a.c b.c.¶\
     admits b.c a.c => admits b.c a.c.¶\
     admits admits changes => admits admits changes.¶\
-    gen 7 200 => gen 7 200.¶\
-    gen 0 1 => gen 0 1.¶\
-    gen 9223372036854775807 2 => gen 9223372036854775807 2.¶\
-    gen 0000000000000000007 0000003 => gen 7 3.¶\
-    gen 1 7 => gen 1 7.¶\
-    replay --explain a.c a.j => replay a.c a.j 4096. explained¶\
-    replay a.c a.j --objects 9 --explain => replay a.c a.j 9. explained¶\
+    gen 7 200 => gen 7 200 compiled.¶\
+    gen 0 1 => gen 0 1 compiled.¶\
+    gen 9223372036854775807 2 => gen 9223372036854775807 2 compiled.¶\
+    gen 0000000000000000007 0000003 => gen 7 3 compiled.¶\
+    gen 1 7 => gen 1 7 compiled.¶\
+    replay --explain a.c a.j => replay a.c a.j 4096 compiled. explained¶\
+    replay a.c a.j --objects 9 --explain => replay a.c a.j 9 compiled. explained¶\
     check a.c --explain => check a.c. explained¶\
     check explain => check explain.¶\
     effects --explain a.c => effects a.c. explained¶\
     changes a.c --explain b.c => changes a.c b.c. explained¶\
     admits --explain a.c b.c => admits a.c b.c. explained¶\
-    gen 7 --explain 200 => gen 7 200. explained";
+    gen 7 --explain 200 => gen 7 200 compiled. explained¶\
+    replay a.c a.j --engine compiled => replay a.c a.j 4096 compiled.¶\
+    replay --engine=plain a.c --objects 9 a.j --offer b.c@2 => replay a.c a.j 9 plain, b.c after 2.¶\
+    gen 7 200 --engine compiled => gen 7 200 compiled.¶\
+    gen --engine=plain 7 200 --explain => gen 7 200 plain. explained¶\
+    gen 7 --engine plain 3 => gen 7 3 plain.";
 
 #[test]
 fn words_name_their_other_jobs(rt: HostRuntime) {
@@ -183,7 +209,7 @@ fn words_name_their_other_jobs(rt: HostRuntime) {
 }
 
 /// Words that fit no line, most of them one step from words that do.
-static WRONG: [&str; 5] = [
+static WRONG: [&str; 6] = [
     "\
     ¶\
     \x20run a.c¶\
@@ -256,6 +282,39 @@ static WRONG: [&str; 5] = [
     run a.c --objects 0¶\
     run a.c --objects 65537¶\
     run a.c --objects 1 --objects=1",
+    // Engines.
+    "\
+    run a.c --engine¶\
+    run a.c --engine=¶\
+    run a.c --engine ¶\
+    run --engine a.c¶\
+    run a.c --engine fast¶\
+    run a.c --engine Plain¶\
+    run a.c --engine plains¶\
+    run a.c --engine plai¶\
+    run a.c --engine -plain¶\
+    run a.c --engine compile¶\
+    run a.c --engine=compiled=plain¶\
+    run a.c --engine --journal¶\
+    run a.c --engine plain --engine plain¶\
+    run a.c --engine=plain --engine compiled¶\
+    run a.c --engines plain¶\
+    run a.c --Engine plain¶\
+    run a.c -engine plain¶\
+    run a.c plain¶\
+    run a.c --plain¶\
+    replay a.c a.j --engine¶\
+    replay a.c a.j --engine tree¶\
+    replay a.c a.j --engine=plain --engine=plain¶\
+    check a.c --engine plain¶\
+    effects a.c --engine=compiled¶\
+    changes a.c b.c --engine plain¶\
+    admits a.c b.c --engine compiled¶\
+    gen 7 200 --engine¶\
+    gen 7 200 --engine code¶\
+    gen 7 200 --engine 1¶\
+    gen 7 200 --engine plain --engine plain¶\
+    gen 7 200 --objects 1",
     // Offers.
     "\
     run a.c --offer¶\

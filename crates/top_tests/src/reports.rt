@@ -12,12 +12,12 @@ use run_types::{Ending, TrapKind};
 use std::alloc::AllocError;
 
 const USAGE: &str = "\
-usage: ginseng run FILE [--offer FILE@LINES]... [--workers W] [--moves N] [--objects N] [--journal] [--explain]
-       ginseng replay FILE JOURNAL [--offer FILE@LINES]... [--objects N] [--explain]
+usage: ginseng run FILE [--offer FILE@LINES]... [--workers W] [--moves N] [--objects N] [--engine E] [--journal] [--explain]
+       ginseng replay FILE JOURNAL [--offer FILE@LINES]... [--objects N] [--engine E] [--explain]
        ginseng check FILE [--explain]
        ginseng effects FILE [--explain]
        ginseng changes OLD NEW [--explain]
-       ginseng gen SEED SIZE [--explain]
+       ginseng gen SEED SIZE [--engine E] [--explain]
        ginseng admits OLD NEW [--explain]
 ";
 

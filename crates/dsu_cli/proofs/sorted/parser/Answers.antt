@@ -17,5 +17,6 @@ returns c =
     let three = c.in_ok-arg-3.ensures.shape c.option-2.ensures.local ∙ ap₂ with_rule two c.option-2.ensures.rule in
     let four = c.in_ok-arg-4.ensures.shape c.option-3.ensures.local ∙ ap₂ with_rule three c.option-3.ensures.rule in
     let five = c.in_ok-arg-5.ensures.shape c.option-4.ensures.local ∙ ap₂ with_rule four c.option-4.ensures.rule in
-    let six = c.in_ok-arg-6.ensures.shape c.switch.ensures.local ∙ ap₂ with_rule five c.switch.ensures.rule in
-    IfOk-weaker c.arg-7.result _ _ (λ command h. h.shape c.switch-2.ensures.local ∙ ap₂ with_rule six c.switch-2.ensures.rule) c.arg-7.ensures
+    let six = c.in_ok-arg-6.ensures.shape c.option-5.ensures.local ∙ ap₂ with_rule five c.option-5.ensures.rule in
+    let seven = c.in_ok-arg-7.ensures.shape c.switch.ensures.local ∙ ap₂ with_rule six c.switch.ensures.rule in
+    IfOk-weaker c.arg-8.result _ _ (λ command h. h.shape c.switch-2.ensures.local ∙ ap₂ with_rule seven c.switch-2.ensures.rule) c.arg-8.ensures

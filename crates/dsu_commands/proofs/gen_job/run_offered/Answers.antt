@@ -7,6 +7,7 @@ use Rattle.dsu_runs.specs.Setups.{setup_of}
 use Rattle.source_model.specs.Guards.{first_guard}
 use Rattle.run_machine.specs.Sources.{source_shown}
 use Rattle.plain_engine.specs.Plain.{IsAt}
+use Rattle.installed_versions.proofs.Firsts.{accepted_programs_start}
 use Rattle.dsu_commands.specs.Generated.{generated_setup}
 use Rattle.dsu_commands.proofs.Summing.{only_offer_is_accepted}
 use Rattle.dsu_commands.proofs.gen_job.run_offered.Goals as goal
@@ -28,3 +29,8 @@ returns-in-Ok g c = λ next is.
     e.state e.printed e.written)
     offer.counts c.in-Ok.ensures.start))
     (c.deref.ensures.value ∙ offer.texts)
+
+pub stop_before-requires : goal.stop_before-requires
+stop_before-requires g c =
+    let accepted = c.requires.accepted in
+    accepted_programs_start accepted.0 c.args.program accepted.1 c.in-Err.failed.why c.in-Err.ensures.fault

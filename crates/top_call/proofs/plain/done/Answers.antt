@@ -1,4 +1,5 @@
 use Rattle.std.proofs.Common.{List, ℕ, subst, sym}
+use Rattle.dsu_cli.specs.declared.job.EngineKind.TheVariants.{Compiled}
 use Rattle.dsu_cli.specs.declared.job.Job.{Job as Asked}
 use Rattle.dsu_cli.specs.declared.job.Job.TheVariants.{Changes}
 use Rattle.dsu_commands.specs.Jobs.{IsKnownFault}
@@ -21,12 +22,12 @@ returns-in-Changes-clause-first g c = λ line file fault.
 
 pub returns-in-Gen-clause-answers : goal.returns-in-Gen-clause-answers
 returns-in-Gen-clause-answers g c =
-    rw c.in-Gen.is (c.run_generated.ensures.answers (g.F.Files.content c.args.files.now) (g.F.Files.faults c.args.files.now))
+    rw c.in-Gen.is (c.run_generated.ensures.answers _ (g.F.Files.content c.args.files.now) (g.F.Files.faults c.args.files.now))
 
 pub returns-in-Gen-clause-complete : goal.returns-in-Gen-clause-complete
 returns-in-Gen-clause-complete g c = λ ready.
-    c.run_generated.ensures.complete (g.F.Files.content c.args.files.now) (rw c.in-Gen.is at ready)
+    c.run_generated.ensures.complete Compiled (g.F.Files.content c.args.files.now) (rw c.in-Gen.is at ready)
 
 pub returns-in-Gen-clause-first : goal.returns-in-Gen-clause-first
 returns-in-Gen-clause-first g c = λ line file fault.
-    c.run_generated.ensures.first (g.F.Files.content c.args.files.now) line file (rw c.in-Gen.is at fault)
+    c.run_generated.ensures.first Compiled (g.F.Files.content c.args.files.now) line file (rw c.in-Gen.is at fault)

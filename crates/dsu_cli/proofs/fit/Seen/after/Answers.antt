@@ -3,7 +3,7 @@ use Rattle.std.specs.Option.{option_map}
 use Rattle.dsu_cli.specs.Words.{Text, line, behind_dashes, is_switch, name_and_value}
 use Rattle.dsu_cli.specs.Fit.{setting_of, switch_name}
 use Rattle.dsu_cli.proofs.Names.{not_switch, switch_known}
-use Rattle.dsu_cli.proofs.Steps.{after_waiting, after_positional, after_pair, after_switch, after_name, after_unknown, unknown_option}
+use Rattle.dsu_cli.proofs.Steps.{after_waiting, after_positional, after_pair, after_switch, after_name, after_unknown, after_unknown_pair, unknown_option}
 use Rattle.dsu_cli.proofs.fit.Seen.after.Goals as goal
 
 abbrev now_of : Option (Bor Text) → Option Text
@@ -30,6 +30,15 @@ returns-in-Some-name_and_value c =
     let known : setting_of c.in-Some-name_and_value.name.now ≡ Some c.in_ok-of.field-0 = sym c.of.ensures ∙ c.in_ok-of.was in
     after_pair (line c.args.command) c.args.self c.args.word.now c.with_value-in-Some-name_and_value.result c.with_value-in-Some-name_and_value.ensures.waits
     _ _ _ c.in_ok-of.field-0 c.in_default.is dashes parts known c.with_value-in-Some-name_and_value.ensures.steps
+
+pub returns-in_err-of : goal.returns-in_err-of
+returns-in_err-of c =
+    let dashes : behind_dashes c.args.word.now ≡ Some c.in-Some-behind_dashes.text.now = sym c.behind_dashes.ensures ∙ ap now_of c.in-Some-behind_dashes.is in
+    let parts : name_and_value c.in-Some-behind_dashes.text.now ≡ Some (c.in-Some-name_and_value.name.now, c.in-Some-name_and_value.value.now) =
+    sym c.name_and_value.ensures ∙ ap now_both c.in-Some-name_and_value.is in
+    let unknown : setting_of c.in-Some-name_and_value.name.now ≡ None = sym c.of.ensures ∙ c.in_err-of.was in
+    rw c.from_residual.ensures (after_unknown_pair (line c.args.command) c.args.self c.args.word.now _ _ _ c.in_default.is dashes parts
+    (unknown_option c.args.command _ c.in-Some-name_and_value.value.now unknown))
 
 pub returns-in-Some-of : goal.returns-in-Some-of
 returns-in-Some-of c =
