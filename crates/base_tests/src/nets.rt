@@ -17,12 +17,12 @@ fn sets_of(alloc: Global, rows: &[Ids]) -> Result<Vec<NameSet>, AllocError> {
 }
 
 /// The edges with these ends, without those that don't lie below `nodes`.
-fn edges_of(alloc: Global, nodes: usize, ends: &[(u32, u32)]) -> Result<Vec<Edge>, AllocError>
+fn edges_of(alloc: Global, nodes: usize, ends: &[(usize, usize)]) -> Result<Vec<Edge>, AllocError>
     ensures { IfOk result (λ edges. Fit nodes edges.items) }
 {
     let mut edges = Vec::new(alloc);
     for &(from, to) in ends {
-        if (from as usize) < nodes && (to as usize) < nodes {
+        if from < nodes && to < nodes {
             edges.push(Edge { from, to })?;
         }
     }
@@ -34,7 +34,7 @@ fn solved(
     alloc: Global,
     order: Order,
     seeds: &[Ids],
-    ends: &[(u32, u32)],
+    ends: &[(usize, usize)],
 ) -> Result<Vec<NameSet>, AllocError> {
     let seeds = sets_of(alloc, seeds)?;
     let edges = edges_of(alloc, seeds.len(), ends)?;
@@ -45,7 +45,7 @@ fn solved(
 fn are_least(
     alloc: Global,
     seeds: &[Ids],
-    ends: &[(u32, u32)],
+    ends: &[(usize, usize)],
     expected: &[Ids],
 ) -> Result<bool, AllocError> {
     let expected = sets_of(alloc, expected)?;

@@ -15,7 +15,7 @@ use crate::spots::section_of;
 use c_definitions::Known;
 use c_semantics::each_point_has_ways_and_a_place;
 use c_tree::{Def, DefKind, Function, Program};
-use effect_flow::{Flow, MOST_POINTS};
+use effect_flow::Flow;
 use name_resolution::resolve_body;
 use name_sets::Names;
 use point_places::places_of;
@@ -25,8 +25,6 @@ use std::alloc::{AllocError, Global};
 
 /// The bodies of the functions of a program, in the order of its text, by a table that has each function and each name that one
 /// uses.
-///
-/// `AllocError` is also the answer past 2^32 points, for which a flow has no room.
 pub fn bodies_of(alloc: Global, program: &Program, names: &Names) -> Result<Bodies, AllocError>
     requires table { IsTable names.now }
     requires known { ¬ HasUnknownFunction names.now (map bare_def program.now.definitions) }
@@ -161,9 +159,6 @@ fn add_outline(
     };
     let first = bodies.flow.points().len();
     let skeleton = &outline.skeleton;
-    if first > MOST_POINTS || skeleton.points.len() > MOST_POINTS - first {
-        return Err(AllocError);
-    }
     let section = section_of(alloc, id, first, skeleton, outline.places.as_slice())?;
     bodies.sections.push(section)?;
     bodies.flow.add(id, 1, skeleton)

@@ -9,7 +9,7 @@ pub struct Spot {
     /// Its number among the points of the body.
     pub number: usize,
     /// How many check-ins of the body come before it.
-    pub before: u32,
+    pub before: usize,
     /// Its place among the points of the flow.
     pub point: usize,
     /// The byte of the text where it is.

@@ -11,7 +11,7 @@ use skeletons::{Point, PointKind, Skeleton};
 use std::alloc::{AllocError, Global};
 
 /// The check-ins of a function's body in the order of their places. `first` is the place in the flow of the body's first
-/// point; a flow has room for the points.
+/// point.
 pub(crate) fn section_of(
     alloc: Global,
     function: NameId,
@@ -20,7 +20,7 @@ pub(crate) fn section_of(
     places: &[usize],
 ) -> Result<Section, AllocError>
     requires places { length places.now ≡ length skeleton.now.points.items }
-    requires fits { first + length skeleton.now.points.items ≤ 2 ^ 32 }
+    requires fits { first + length skeleton.now.points.items < 2 ^ 64 }
     ensures { IfOk result (λ section. (names : List (List ℕ))
         → IsSectionOf (meant names skeleton.now) places.now first function section) }
 {
@@ -37,7 +37,7 @@ fn spots_of(
     places: &[usize],
 ) -> Result<Vec<Spot>, AllocError>
     requires places { length places.now ≡ length skeleton.now.points.items }
-    requires fits { first + length skeleton.now.points.items ≤ 2 ^ 32 }
+    requires fits { first + length skeleton.now.points.items < 2 ^ 64 }
     ensures shown { IfOk result (λ spots. (names : List (List ℕ))
         → map shown spots.items ≡ check_ins_in (meant names skeleton.now) places.now) }
     ensures spots { IfOk result (λ spots. All (IsSpotOf first) spots.items) }
@@ -65,7 +65,7 @@ fn add_spot(
     point: Point,
     at: usize,
 ) -> Result<(), AllocError>
-    requires fits { first + number < 2 ^ 32 }
+    requires fits { first + number < 2 ^ 64 }
     requires few { length spots.old.items ≤ number }
     ensures few { OnOk result (length spots.new.items ≤ length spots.old.items + 1) }
     ensures shown { OnOk result ((names : List (List ℕ)) → map shown spots.new.items
@@ -78,10 +78,9 @@ fn add_spot(
     let PointKind::CheckIn(kind) = point.kind else {
         return Ok(());
     };
-    let before = spots.len() as u32;
     spots.push(Spot {
         number,
-        before,
+        before: spots.len(),
         point: first + number,
         at,
         kind,

@@ -9,3 +9,4 @@ pub mod OwnSeeds
 pub mod RowsOfStore
 pub mod RowTheorem
 pub mod Fits
+pub mod MarkCounts

@@ -1,4 +1,5 @@
 pub mod Edges
+pub mod Limits
 pub mod Marks
 pub mod Rows
 pub mod Steps

@@ -32,11 +32,11 @@ fn stays(point: &FlowPoint) -> bool
 }
 
 /// The node of the point at a place where a body goes on.
-fn landing_after(nodes: &Nodes, points: &[FlowPoint], place: u32) -> Option<u32>
+fn landing_after(nodes: &Nodes, points: &[FlowPoint], place: usize) -> Option<usize>
     requires { length points.now ≡ nodes.now.points }
     ensures { result ≡ landing_after nodes.now.points place (slice_get points.now place) }
 {
-    match point_at(points, place as usize) {
+    match point_at(points, place) {
         Some(point) => {
             if point.number == 0 {
                 None
@@ -49,7 +49,7 @@ fn landing_after(nodes: &Nodes, points: &[FlowPoint], place: u32) -> Option<u32>
 }
 
 /// The edge between two nodes, if both are there and a condition holds.
-fn edge_if(condition: bool, from: Option<u32>, to: Option<u32>) -> Option<Edge>
+fn edge_if(condition: bool, from: Option<usize>, to: Option<usize>) -> Option<Edge>
     ensures { result ≡ edge_if condition from to }
 {
     if !condition {
@@ -64,7 +64,12 @@ fn edge_if(condition: bool, from: Option<u32>, to: Option<u32>) -> Option<Edge>
 /// To a call: from the entries of the function. To the entries and the starts of the point's function: from the point, if
 /// it is an entry. To a return: from the points after the calls of its function. To the points after the calls: from the
 /// one after a call.
-fn of_point(nodes: &Nodes, points: &[FlowPoint], place: u32, point: &FlowPoint) -> [Option<Edge>; 5]
+fn of_point(
+    nodes: &Nodes,
+    points: &[FlowPoint],
+    place: usize,
+    point: &FlowPoint,
+) -> [Option<Edge>; 5]
     requires many { length points.now ≡ nodes.now.points }
     requires within { place < nodes.now.points }
     ensures { result ≡ of_point nodes.now.points nodes.now.names points.now place point.now }
@@ -93,8 +98,8 @@ fn of_way(nodes: &Nodes, points: &[FlowPoint], way: Way) -> Option<Edge>
     ensures { result
         ≡ of_ends nodes.now.points way (slice_get points.now way.from) (slice_get points.now way.to) }
 {
-    let from = point_at(points, way.from as usize)?;
-    let to = point_at(points, way.to as usize)?;
+    let from = point_at(points, way.from)?;
+    let to = point_at(points, way.to)?;
     edge_if(
         stays(&from),
         Some(nodes.landing(way.to, &to)),
@@ -129,7 +134,7 @@ fn add_points(edges: &mut Vec<Edge>, nodes: &Nodes, points: &[FlowPoint]) -> Res
         ≡ edges.old.items ++ edges_of_points nodes.now.points nodes.now.names points.now points.now) }
 {
     for (place, point) in points.iter().enumerate() {
-        let found = of_point(nodes, points, place as u32, point);
+        let found = of_point(nodes, points, place, point);
         add_present(edges, &found)?;
     }
     Ok(())

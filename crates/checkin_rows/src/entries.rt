@@ -14,19 +14,19 @@ use std::alloc::{AllocError, Global};
 #[derive(Clone, Copy)]
 pub(crate) struct Entry {
     pub(crate) mark: Mark,
-    pub(crate) node: u32,
+    pub(crate) node: usize,
 }
 
 /// How many check-ins of its body come before a point, where `number` come after the latest entry.
-fn check_ins_here(number: u32, point: &FlowPoint) -> u32
+fn check_ins_here(number: usize, point: &FlowPoint) -> usize
     ensures { result ≡ check_ins_here number point.now }
 {
     if point.number == 0 { 0 } else { number }
 }
 
 /// How many come up to a point.
-fn check_ins_to(number: u32, point: &FlowPoint) -> u32
-    requires { number + 1 < 2 ^ 32 }
+fn check_ins_to(number: usize, point: &FlowPoint) -> usize
+    requires { number + 1 < 2 ^ 64 }
     ensures value { result ≡ check_ins_to number (Some point.now) }
     ensures bound { result ≤ number + 1 }
 {
@@ -48,12 +48,12 @@ fn start_at(nodes: &Nodes, point: &FlowPoint) -> Option<Entry>
     let function = point.function.index();
     Some(Entry {
         mark: Mark::Start(function as u16),
-        node: (nodes.points + nodes.points + nodes.names + function) as u32,
+        node: nodes.points + nodes.points + nodes.names + function,
     })
 }
 
 /// The mark of a check-in, if the point is one.
-fn check_in_at(number: u32, place: u32, point: &FlowPoint) -> Option<Entry>
+fn check_in_at(number: usize, place: usize, point: &FlowPoint) -> Option<Entry>
     ensures { result ≡ check_in_at number place point.now }
 {
     if !point.point.kind.is_check_in() {
@@ -86,11 +86,11 @@ pub(crate) fn entries(
         ≡ entries_of nodes.now.points nodes.now.names points.now points.now) }
 {
     let mut entries = Vec::new(alloc);
-    let mut number: u32 = 0;
+    let mut number: usize = 0;
     for (place, point) in points.iter().enumerate() {
         let here = check_ins_here(number, point);
         add(&mut entries, start_at(nodes, point))?;
-        add(&mut entries, check_in_at(here, place as u32, point))?;
+        add(&mut entries, check_in_at(here, place, point))?;
         number = check_ins_to(number, point);
     }
     Ok(entries)

@@ -1,5 +1,6 @@
 //! The rows of marks, and the different rows among them.
 ghost use Rattle.std.specs.Prelude.{◌≡◌, ℕ, ◌+◌, ◌<◌, ◌≤◌, length, slice_get, IfOk};
+ghost use Rattle.checkin_rows.specs.Limits.{most_rows};
 ghost use Rattle.checkin_rows.specs.Rows.{AreDifferent, IsEmptyRow};
 ghost use Rattle.checkin_rows.specs.Steps.{AddsEntry, AreRowsOfMarks, AreKept};
 
@@ -58,7 +59,7 @@ pub(crate) fn gather(
 
 /// The different rows, and the place of each row among them.
 pub(crate) fn keep(alloc: Global, rows: &[Row]) -> Result<(Vec<u16>, IndexSet<Row>), AllocError>
-    requires { length rows.now ≤ 65535 }
+    requires { length rows.now ≤ most_rows }
     ensures kept { IfOk result (λ r. AreKept rows.now r.0.items r.1.keys) }
     ensures different { IfOk result (λ r. AreDifferent r.1.keys) }
 {

@@ -1,5 +1,6 @@
 //! The numbers of rows, and what has a row.
 ghost use Rattle.std.specs.Prelude.{◌≡◌, ℕ, ◌≤◌};
+ghost use Rattle.checkin_rows.specs.Limits.{most_rows};
 
 use std::marker::Model;
 
@@ -22,13 +23,13 @@ impl Model for RowId {
 pub enum Mark {
     Start(u16),
     /// The function, the generation of the body, and the number of the check-in in it.
-    CheckIn(u16, u32, u32),
+    CheckIn(u16, u32, usize),
 }
 
 impl RowId {
     /// The id with this number.
     pub(crate) fn at(index: usize) -> RowId
-        requires { index ≤ 65535 }
+        requires { index ≤ most_rows }
         ensures { result ≡ index }
     {
         RowId {

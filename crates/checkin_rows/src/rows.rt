@@ -3,8 +3,10 @@ ghost use Rattle.std.specs.Prelude.{◌≡◌, ℕ, ◌≤◌, List, length, IfO
 ghost use Rattle.c_tree.specs.BareExpr.{Bytes};
 ghost use Rattle.c_semantics.specs.Store.{Body};
 ghost use Rattle.effect_flow.specs.Flows.{IsFlowOf};
+ghost use Rattle.effect_flow.specs.Parts.{check_ins_among};
 ghost use Rattle.contextual_effects.specs.Effects.{AreEffectsOf};
 ghost use Rattle.checkin_rows.specs.Rows.{AreRowsOf, AreDifferent, IsNumber, IsEmptyRow, place_of, row_of};
+ghost use Rattle.checkin_rows.specs.Limits.{most_check_ins, most_rows};
 ghost use Rattle.checkin_rows.specs.Marks.{marks_of};
 
 use crate::entries::{entries, marks};
@@ -20,9 +22,6 @@ use name_sets::NameId;
 use std::alloc::{AllocError, Global};
 use std::marker::Model;
 
-/// The number of rows that have numbers, without that of no names.
-const MOST_ROWS: usize = 65_535;
-
 /// The rows of the check-ins and of the starts of a flow. Each different row is kept once.
 #[derive(Drop)]
 pub struct Rows {
@@ -36,6 +35,7 @@ pub struct Rows {
 
 impl Model for Rows {
     ghost use Rattle.std.specs.Prelude.{◌≤◌, length};
+    ghost use Rattle.checkin_rows.specs.Limits.{most_rows};
     ghost use Rattle.checkin_rows.specs.Rows.{Contents};
 
     ghost Value = { Contents };
@@ -47,12 +47,13 @@ impl Model for Rows {
       empty = r.empty;
     } };
 
-    ghost invariant = { λ r. length r.marks.keys ≤ 65535 };
+    ghost invariant = { λ r. length r.marks.keys ≤ most_rows };
 }
 
-/// The rows of a flow, by its effects. `AllocError` is also the answer where check-ins and functions are more than 65,535,
-/// the numbers for which there is room; up to 63,000 check-ins fit in each case.
+/// The rows of a flow of at most 63,000 check-ins, by its effects. With a row for the start of each function, of which a table
+/// of names has at most 2,048, their numbers fit 16 bits.
 pub fn rows_of(alloc: Global, flow: &Flow, effects: &Effects) -> Result<Rows, AllocError>
+    requires { check_ins_among flow.now.points ≤ most_check_ins }
     ensures rows { IfOk result (λ r. (names : List Bytes) (bodies : List Body)
         → IsFlowOf names bodies flow.now → AreEffectsOf names bodies effects.now → AreRowsOf names bodies r) }
     ensures numbers { IfOk result (λ r. r.marks ≡ marks_of flow.now.points) }
@@ -60,13 +61,10 @@ pub fn rows_of(alloc: Global, flow: &Flow, effects: &Effects) -> Result<Rows, Al
     ensures kept { IfOk result (λ r. AreDifferent r.kept) }
     ensures empty { IfOk result (λ r. IsEmptyRow r.empty) }
 {
-    let nodes = Nodes::of(flow)?;
+    let nodes = Nodes::of(flow);
     let sets = solution_of(alloc, &nodes, effects, flow)?;
     let entries = entries(alloc, &nodes, flow.points())?;
     let marks = marks(alloc, &entries)?;
-    if marks.len() > MOST_ROWS {
-        return Err(AllocError);
-    }
     let rows = gather(alloc, &entries, &sets, &marks)?;
     let (index, kept) = keep(alloc, &rows)?;
     Ok(Rows {
@@ -100,7 +98,7 @@ impl Rows {
 
     /// The number of the row of a check-in, by the function and generation of its body and its number there; 0 if the flow
     /// has none there.
-    pub fn row_id(&self, name: NameId, generation: u32, checkin: u32) -> RowId
+    pub fn row_id(&self, name: NameId, generation: u32, checkin: usize) -> RowId
         ensures { IsNumber self.now.marks (Mark.CheckIn name generation checkin) result }
     {
         self.number(Mark::CheckIn(name.index() as u16, generation, checkin))

@@ -34,24 +34,24 @@ impl Model for Solution {
 
 impl Solution {
     /// The prior set of a node.
-    pub(crate) fn prior(&self, node: u32) -> NameSet
+    pub(crate) fn prior(&self, node: usize) -> NameSet
         ensures { AreSame result (slice_index self.now.prior node) }
     {
-        set_at(&self.prior, node as usize)
+        set_at(&self.prior, node)
     }
 
     /// The future set of a node.
-    pub(crate) fn future(&self, node: u32) -> NameSet
+    pub(crate) fn future(&self, node: usize) -> NameSet
         ensures { AreSame result (slice_index self.now.future node) }
     {
-        set_at(&self.future, node as usize)
+        set_at(&self.future, node)
     }
 
     /// The concrete set of a node.
-    pub(crate) fn concrete(&self, node: u32) -> NameSet
+    pub(crate) fn concrete(&self, node: usize) -> NameSet
         ensures { AreSame result (slice_index self.now.concrete node) }
     {
-        set_at(&self.concrete, node as usize)
+        set_at(&self.concrete, node)
     }
 }
 

@@ -3,3 +3,4 @@ pub mod StoredBodies
 pub mod DirectUses
 pub mod Room
 pub mod Counting
+pub mod FlowCheckIns

@@ -6,6 +6,7 @@ ghost use Rattle.skeletons.specs.Meaning.{meant};
 ghost use Rattle.c_semantics.specs.Skeletons.{check_ins};
 ghost use Rattle.c_semantics.specs.Store.{Body, all_check_ins, all_tokens};
 ghost use Rattle.effect_flow.specs.Flows.{IsFlowOf};
+ghost use Rattle.effect_flow.specs.Parts.{check_ins_among};
 ghost use Rattle.code_store.specs.Limits.{most_check_ins, most_function_tokens, are_too_many};
 ghost use Rattle.code_store.specs.Stored.{meant_body, IsNewTo, IsStoreOf, AddsStored, AddsAllStored};
 ghost use Rattle.code_store.specs.Uses.{ids_used_by};
@@ -165,11 +166,12 @@ impl Store {
         uses
     }
 
-    /// The flow of all bodies, in their order.
+    /// The flow of all bodies, in their order. It has as few check-ins as they have.
     pub fn flow(&self, alloc: Global) -> Result<Flow, AllocError>
-        ensures { IfOk result (λ flow. (names : List (List ℕ)) (bodies : List Body)
+        ensures flow { IfOk result (λ flow. (names : List (List ℕ)) (bodies : List Body)
             → IsStoreOf names bodies self.now
             → IsFlowOf names bodies flow) }
+        ensures check_ins { IfOk result (λ flow. check_ins_among flow.points ≤ most_check_ins) }
     {
         let mut flow = Flow::new(alloc);
         for body in &self.bodies {

@@ -59,7 +59,7 @@ fn continues_at(points: &[FlowPoint], place: usize) -> bool
 }
 
 /// The edge between two nodes, if both are there and a condition holds.
-fn edge_if(condition: bool, from: Option<u32>, to: Option<u32>) -> Option<Edge>
+fn edge_if(condition: bool, from: Option<usize>, to: Option<usize>) -> Option<Edge>
     ensures { result ≡ edge_if condition from to }
 {
     if !condition {
@@ -92,7 +92,7 @@ fn nested_of_point(nodes: &Nodes, point: &FlowPoint) -> [Option<Edge>; 4]
     let called = nodes.alone(point.point.kind.called());
     [
         edge_if(true, own, called),
-        edge_if(point.point.is_enclosed(), Some(nodes.names as u32), called),
+        edge_if(point.point.is_enclosed(), Some(nodes.names), called),
         None,
         None,
     ]
@@ -102,7 +102,7 @@ fn nested_of_point(nodes: &Nodes, point: &FlowPoint) -> [Option<Edge>; 4]
 fn prior_of_point(
     nodes: &Nodes,
     nested: &NameSet,
-    place: u32,
+    place: usize,
     point: &FlowPoint,
 ) -> [Option<Edge>; 4]
     ensures { result ≡ prior_of_point nodes.now.points nodes.now.names nested.now place point.now }
@@ -123,14 +123,14 @@ fn future_of_point(
     nodes: &Nodes,
     nested: &NameSet,
     points: &[FlowPoint],
-    place: u32,
+    place: usize,
     point: &FlowPoint,
 ) -> [Option<Edge>; 4]
-    requires { place + 1 < 2 ^ 32 }
+    requires { place + 1 < 2 ^ 64 }
     ensures { result ≡ future_of_point nodes.now.points nodes.now.names nested.now points.now place point.now }
 {
     let goes = goes_on(nested, point);
-    let continues = continues_at(points, place as usize + 1);
+    let continues = continues_at(points, place + 1);
     [
         edge_if(goes, nodes.name(point.point.kind.used()), Some(place)),
         edge_if(goes, nodes.whole(point.point.kind.called()), Some(place)),
@@ -151,14 +151,14 @@ fn future_of_point(
 fn concrete_of_point(
     nodes: &Nodes,
     points: &[FlowPoint],
-    place: u32,
+    place: usize,
     point: &FlowPoint,
 ) -> [Option<Edge>; 4]
-    requires { place + 1 < 2 ^ 32 }
+    requires { place + 1 < 2 ^ 64 }
     ensures { result ≡ concrete_of_point nodes.now.points nodes.now.names points.now place point.now }
 {
     let returns = point.point.kind.is_return();
-    let continues = continues_at(points, place as usize + 1);
+    let continues = continues_at(points, place + 1);
     [
         edge_if(true, nodes.name(point.point.kind.used()), Some(place)),
         None,
@@ -212,10 +212,10 @@ impl System {
         nodes: &Nodes,
         nested: &NameSet,
         points: &[FlowPoint],
-        place: u32,
+        place: usize,
         point: &FlowPoint,
     ) -> [Option<Edge>; 4]
-        requires { place + 1 < 2 ^ 32 }
+        requires { place + 1 < 2 ^ 64 }
         ensures { result ≡ of_point self nodes.now.points nodes.now.names nested.now points.now place point.now }
     {
         match self {
@@ -237,10 +237,10 @@ impl System {
     ) -> [Option<Edge>; 3]
         ensures { result ≡ of_way self nodes.now.points nodes.now.names nested.now points.now way }
     {
-        let Some(from) = point_at(points, way.from as usize) else {
+        let Some(from) = point_at(points, way.from) else {
             return [None; 3];
         };
-        let Some(to) = point_at(points, way.to as usize) else {
+        let Some(to) = point_at(points, way.to) else {
             return [None; 3];
         };
         match self {
@@ -264,7 +264,7 @@ impl System {
             ++ edges_of_points self nodes.now.points nodes.now.names nested.now points.now points.now) }
     {
         for (place, point) in points.iter().enumerate() {
-            let found = self.of_point(nodes, nested, points, place as u32, point);
+            let found = self.of_point(nodes, nested, points, place, point);
             add_present(edges, &found)?;
         }
         Ok(())

@@ -1,14 +1,10 @@
 //! The numbers of what has a set.
-ghost use Rattle.std.specs.Prelude.{◌≡◌, ◌+◌, ◌^◌, ◌≤◌, IfOk};
+ghost use Rattle.std.specs.Prelude.{◌≡◌, ◌+◌, ◌^◌, ◌<◌, ◌≤◌};
 ghost use Rattle.contextual_effects.specs.Edges.{in_block};
 ghost use Rattle.contextual_effects.specs.Steps.{Numbers};
 
 use effect_flow::Flow;
-use name_sets::{MOST_NAMES, NameId};
-use std::alloc::AllocError;
-
-/// The number of nodes for which there is room.
-const MOST_NODES: usize = 0x1_0000_0000;
+use name_sets::NameId;
 
 /// How many points and ids there are. Points go by their places; then come three blocks with a number for each id: the
 /// calls of a function, a function as a whole, and a name.
@@ -16,34 +12,30 @@ const MOST_NODES: usize = 0x1_0000_0000;
 pub(crate) struct Nodes {
     pub(crate) points: usize,
     pub(crate) names: usize,
-    ghost fit: { points + 8192 ≤ 2 ^ 32 },
+    ghost fit: { points + 8192 < 2 ^ 64 },
     ghost few: { names ≤ 2048 },
 }
 
 /// The number of an id in the block that begins at `start`.
-fn in_block(start: usize, id: Option<NameId>) -> Option<u32>
-    requires { start + 2048 ≤ 2 ^ 32 }
+fn in_block(start: usize, id: Option<NameId>) -> Option<usize>
+    requires { start + 2048 < 2 ^ 64 }
     ensures { result ≡ in_block start id }
 {
     match id {
-        Some(id) => Some((start + id.index()) as u32),
+        Some(id) => Some(start + id.index()),
         None => None,
     }
 }
 
 impl Nodes {
-    /// Those of a flow. `AllocError` is also the answer where their numbers don't fit 32 bits.
-    pub(crate) fn of(flow: &Flow) -> Result<Nodes, AllocError>
-        ensures { IfOk result (λ n. Numbers n.points n.names flow.now) }
+    /// Those of a flow.
+    pub(crate) fn of(flow: &Flow) -> Nodes
+        ensures { Numbers result.points result.names flow.now }
     {
-        let points = flow.points().len();
-        if points > MOST_NODES - 4 * MOST_NAMES {
-            return Err(AllocError);
-        }
-        Ok(Nodes {
-            points,
+        Nodes {
+            points: flow.points().len(),
             names: flow.ids_end(),
-        })
+        }
     }
 
     /// How many there are.
@@ -54,28 +46,28 @@ impl Nodes {
     }
 
     /// A function in the system for nested functions, in which it has its id.
-    pub(crate) fn alone(&self, id: Option<NameId>) -> Option<u32>
+    pub(crate) fn alone(&self, id: Option<NameId>) -> Option<usize>
         ensures { result ≡ in_block 0 id }
     {
         in_block(0, id)
     }
 
     /// The calls of a function.
-    pub(crate) fn calls(&self, function: Option<NameId>) -> Option<u32>
+    pub(crate) fn calls(&self, function: Option<NameId>) -> Option<usize>
         ensures { result ≡ in_block self.now.points function }
     {
         in_block(self.points, function)
     }
 
     /// A function as a whole.
-    pub(crate) fn whole(&self, function: Option<NameId>) -> Option<u32>
+    pub(crate) fn whole(&self, function: Option<NameId>) -> Option<usize>
         ensures { result ≡ in_block (self.now.points + self.now.names) function }
     {
         in_block(self.points + self.names, function)
     }
 
     /// A name.
-    pub(crate) fn name(&self, name: Option<NameId>) -> Option<u32>
+    pub(crate) fn name(&self, name: Option<NameId>) -> Option<usize>
         ensures { result ≡ in_block (self.now.points + self.now.names + self.now.names) name }
     {
         in_block(self.points + self.names + self.names, name)

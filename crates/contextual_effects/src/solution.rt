@@ -162,13 +162,13 @@ fn nested_functions(alloc: Global, nodes: &Nodes, flow: &Flow) -> Result<NameSet
 }
 
 /// The effects of the points of a flow, and of the functions whose bodies it has: exactly the least sets that the rules
-/// allow. `AllocError` is also the answer where the points and names have no numbers below 2^32, past 4,294,959,104 points.
+/// allow.
 pub fn solve(alloc: Global, flow: &Flow) -> Result<Effects, AllocError>
     ensures effects { IfOk result (λ e. (names : List Bytes) (bodies : List Body)
         → IsFlowOf names bodies flow.now → AreEffectsOf names bodies e) }
     ensures places { IfOk result (λ e. AreForPoints (length flow.now.points) e) }
 {
-    let nodes = Nodes::of(flow)?;
+    let nodes = Nodes::of(flow);
     let nested = nested_functions(alloc, &nodes, flow)?;
     let whole = no_sets(alloc, nodes.names)?;
     let standard = standard_effects(alloc, &nodes, flow)?;

@@ -1,7 +1,8 @@
 -- What a body adds to a flow.
-use Rattle.std.specs.Prelude.{ℕ, suc, ◌+◌, ◌<◌, nat_lt, List, [], ◌∷◌, ◌++◌, IfSome, if◌then◌else◌}
+use Rattle.std.specs.Prelude.{ℕ, suc, ◌+◌, ◌<◌, nat_lt, List, [], ◌∷◌, ◌++◌, IfSome, count_by, if◌then◌else◌}
+use Rattle.c_semantics.specs.Skeletons.{is_check_in_kind}
 use Rattle.skeletons.specs.declared.point.Point.{Point}
-use Rattle.skeletons.specs.Meaning.{used_at}
+use Rattle.skeletons.specs.Meaning.{kind_of, used_at}
 use Rattle.effect_flow.specs.declared.flow.FlowPoint.{FlowPoint}
 use Rattle.effect_flow.specs.declared.flow.Way.{Way}
 
@@ -14,6 +15,10 @@ pub record Contents : Type 0 where
 pub record HasIdsBelow (limit : ℕ) (p : FlowPoint) : Type 0 where
   pub function : p.function < limit
   pub used : IfSome (used_at p.point.kind) (λ id. id < limit)
+
+-- how many of some points are check-ins
+abbrev pub check_ins_among : List FlowPoint → ℕ
+check_ins_among = count_by (λ p. is_check_in_kind (kind_of [] p.point.kind))
 
 -- the points of a body of a function, from number n on
 abbrev pub points_from : ℕ → ℕ → ℕ → List Point → List FlowPoint

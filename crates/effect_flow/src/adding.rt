@@ -1,5 +1,5 @@
 //! The points and ways of one body.
-ghost use Rattle.std.specs.Prelude.{◌≡◌, ◌+◌, ◌^◌, ◌≤◌, ◌++◌, length, IfOk, OnOk};
+ghost use Rattle.std.specs.Prelude.{◌≡◌, ◌+◌, ◌^◌, ◌<◌, ◌++◌, IfOk, OnOk};
 ghost use Rattle.effect_flow.specs.Parts.{points_from, ways_to, ways_from};
 
 use crate::{FlowPoint, Way};
@@ -15,7 +15,6 @@ pub(crate) fn points_of(
     generation: u32,
     points: &[Point],
 ) -> Result<Vec<FlowPoint>, AllocError>
-    requires { length points.now ≤ 2 ^ 32 }
     ensures { IfOk result (λ made. made.items ≡ points_from function generation 0 points.now) }
 {
     let mut made = Vec::with_capacity(alloc, points.len())?;
@@ -23,7 +22,7 @@ pub(crate) fn points_of(
         made.push(FlowPoint {
             function,
             generation,
-            number: number as u32,
+            number,
             point: *point,
         })?;
     }
@@ -35,10 +34,10 @@ fn add_ways_to(
     ways: &mut Vec<Way>,
     before: usize,
     size: usize,
-    from: u32,
+    from: usize,
     targets: &[u32],
 ) -> Result<(), AllocError>
-    requires { before + size ≤ 2 ^ 32 }
+    requires { before + size < 2 ^ 64 }
     ensures { OnOk result (ways.new.items ≡ ways.old.items ++ ways_to before size from targets.now) }
 {
     for target in targets {
@@ -46,7 +45,7 @@ fn add_ways_to(
         if target < size {
             ways.push(Way {
                 from,
-                to: (before + target) as u32,
+                to: before + target,
             })?;
         }
     }
@@ -60,7 +59,7 @@ pub(crate) fn ways_of(
     size: usize,
     next: &[List<u32>],
 ) -> Result<Vec<Way>, AllocError>
-    requires { before + size ≤ 2 ^ 32 }
+    requires { before + size < 2 ^ 64 }
     ensures { IfOk result (λ ways. ways.items ≡ ways_from before size 0 next.now) }
 {
     let mut ways = Vec::new(alloc);
@@ -68,8 +67,7 @@ pub(crate) fn ways_of(
         if number >= size {
             return Ok(ways);
         }
-        let from = (before + number) as u32;
-        add_ways_to(&mut ways, before, size, from, targets.as_slice())?;
+        add_ways_to(&mut ways, before, size, before + number, targets.as_slice())?;
     }
     Ok(ways)
 }

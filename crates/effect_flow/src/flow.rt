@@ -2,7 +2,7 @@
 ghost use Rattle.std.specs.Prelude.{◌≡◌, ℕ, ◌≤◌, List, [], ◌++◌, All, OnOk, OnErr};
 ghost use Rattle.name_sets.specs.Limit.{most_names};
 ghost use Rattle.name_sets.specs.Texts.{IsTable};
-ghost use Rattle.effect_flow.specs.Parts.{HasIdsBelow};
+ghost use Rattle.effect_flow.specs.Parts.{HasIdsBelow, points_from};
 ghost use Rattle.effect_flow.specs.Flows.{IsFlowOf, AddsBody};
 
 use crate::adding::{points_of, ways_of};
@@ -10,9 +10,6 @@ use name_sets::NameId;
 use skeletons::{Point, Skeleton};
 use std::alloc::{AllocError, Global};
 use std::marker::Model;
-
-/// The number of places, which is the number of points that a flow has room for.
-pub const MOST_POINTS: usize = 0x1_0000_0000;
 
 /// A point of a flow.
 #[derive(Clone, Copy)]
@@ -22,15 +19,15 @@ pub struct FlowPoint {
     /// The generation of the body.
     pub generation: u32,
     /// Its number in the body.
-    pub number: u32,
+    pub number: usize,
     pub point: Point,
 }
 
 /// Control may go from one point to another, in one body, without a point between. Points go by their place in the flow.
 #[derive(Clone, Copy)]
 pub struct Way {
-    pub from: u32,
-    pub to: u32,
+    pub from: usize,
+    pub to: usize,
 }
 
 /// The points of some bodies, and the ways between them. Contracts see the two lists.
@@ -102,7 +99,7 @@ impl Flow {
     }
 
     /// Adds the points and ways of a body, after those that are there. What `next` has past the last point, and targets
-    /// that are no points of the body, are passed over. `AllocError` is also the answer past 2^32 points.
+    /// that are no points of the body, are passed over.
     pub fn add(
         &mut self,
         function: NameId,
@@ -110,13 +107,12 @@ impl Flow {
         skeleton: &Skeleton,
     ) -> Result<(), AllocError>
         ensures body { OnOk result (AddsBody self.old function generation skeleton.now self.new) }
+        ensures points { OnOk result (self.new.points
+            ≡ self.old.points ++ points_from function generation 0 skeleton.now.points.items) }
         ensures fault { OnErr result (self.new ≡ self.old) }
     {
         let before = self.points.len();
         let size = skeleton.points.len();
-        if before > MOST_POINTS || size > MOST_POINTS - before {
-            return Err(AllocError);
-        }
         let alloc = *self.points.allocator();
         let points = points_of(alloc, function, generation, &skeleton.points)?;
         let ways = ways_of(alloc, before, size, &skeleton.next)?;

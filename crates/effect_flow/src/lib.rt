@@ -13,5 +13,5 @@ mod adding;
 mod flow;
 mod laws;
 
-pub use flow::{Flow, FlowPoint, MOST_POINTS, Way};
+pub use flow::{Flow, FlowPoint, Way};
 pub use laws::flows_are_exact;

@@ -1,6 +1,5 @@
 //! Bodies as tables of their points, and what is made of them. Names and functions go by the numbers of their ids.
-use checkin_rows::{Rows, rows_of};
-use code_store::StoredBody;
+use code_store::{Store, StoredBody};
 use contextual_effects::{Effects, solve};
 use dsu_io::List;
 use effect_flow::Flow;
@@ -124,20 +123,14 @@ pub(crate) fn effects_over(alloc: Global, bodies: &[StoredBody]) -> Result<Effec
     effects
 }
 
-/// The rows of a flow.
-fn rows_of_flow(alloc: Global, flow: &Flow) -> Result<Rows, AllocError> {
-    let effects = solve(alloc, flow)?;
-    let rows = rows_of(alloc, flow, &effects);
-    drop(effects);
-    rows
-}
-
-/// The rows over some bodies.
-pub(crate) fn rows_over(alloc: Global, bodies: &[StoredBody]) -> Result<Rows, AllocError> {
-    let flow = flow_of(alloc, bodies)?;
-    let rows = rows_of_flow(alloc, &flow);
-    drop(flow);
-    rows
+/// The store of some bodies, in their order.
+pub(crate) fn store_of(alloc: Global, bodies: Vec<StoredBody>) -> Result<Store, Fail> {
+    let mut store = Store::new(alloc);
+    if !store.has_room(&bodies) {
+        return Err("room for the bodies".into());
+    }
+    store.add_all(bodies)?;
+    Ok(store)
 }
 
 /// The set of the ids whose digits a text has.

@@ -16,7 +16,7 @@ static CALLER: [Drawn; 3] = [
     (After(CheckInKind::Call), 0, Either(1, 3)),
 ];
 
-fn has_ways(rt: &impl Abort, flow: &Flow, expected: &[(u32, u32)]) {
+fn has_ways(rt: &impl Abort, flow: &Flow, expected: &[(usize, usize)]) {
     assert_eq!(rt; flow.ways().len(), expected.len());
     for (way, (from, to)) in flow.ways().iter().zip(expected) {
         assert_eq!(rt; way.from, *from);
@@ -28,7 +28,7 @@ fn has_points(rt: &impl Abort, points: &[FlowPoint], body: (NameId, u32), expect
     assert_eq!(rt; points.len(), expected.len());
     for (number, (x, point)) in points.iter().zip(expected).enumerate() {
         assert_eq!(rt; (x.function, x.generation), body);
-        assert_eq!(rt; x.number as usize, number);
+        assert_eq!(rt; x.number, number);
         assert_eq!(rt; x.point, *point);
     }
 }

@@ -1,9 +1,10 @@
 //! The rows of two functions, one of which calls the other, which has two bodies.
 use crate::bodies::Kind::{After, Return, Uses};
 use crate::bodies::Next::{On, Out};
-use crate::bodies::{Body, Drawn, bodies_of, has, rows_over};
+use crate::bodies::{Body, Drawn, bodies_of, has, store_of};
 use checkin_rows::Rows;
 use name_sets::NameId;
+use rows_in_force::rows;
 use skeletons::{CheckInKind, Use};
 use std::process::Abort;
 use std::test::Fail;
@@ -42,7 +43,7 @@ static BODIES: [Body; 3] = [
 
 /// A function, the generation of a body and the number of a check-in in it, or no such pair for the function's start, and
 /// the number of the row.
-static NUMBERS: [(usize, Option<(u32, u32)>, usize); 8] = [
+static NUMBERS: [(usize, Option<(u32, usize)>, usize); 8] = [
     (0, None, 1),
     (0, Some((1, 0)), 2),
     (0, Some((1, 1)), 3),
@@ -87,7 +88,8 @@ fn rows_of_a_call(rt: HostRuntime) -> Result<(), Fail> {
     let f = NameId::new(0).ok_or("an id")?;
     let g = NameId::new(1).ok_or("an id")?;
     let bodies = bodies_of(alloc, &BODIES)?;
-    let rows = rows_over(alloc, &bodies)?;
+    let store = store_of(alloc, bodies)?;
+    let rows = rows(alloc, &store)?;
     has_numbers(&rt, &rows)?;
     has_sets(&rt, &rows, f, g);
     Ok(())

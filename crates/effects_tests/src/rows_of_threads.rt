@@ -2,7 +2,7 @@
 //! over its version with a newer body of function 3.
 use crate::bodies::Kind::{After, Begin, End, Print, Return, Uses};
 use crate::bodies::Next::{On, Out};
-use crate::bodies::{Body, Drawn, bodies_of, has, rows_over, skeleton};
+use crate::bodies::{Body, Drawn, bodies_of, has, skeleton, store_of};
 use checkin_rows::Rows;
 use code_store::{Store, StoredBody};
 use dsu_io::Boxed;
@@ -71,14 +71,14 @@ static BODIES: [Body; 5] = [
 /// The bodies, and the rows over them.
 #[derive(Drop)]
 struct WithRows {
-    bodies: Vec<StoredBody>,
+    store: Store,
     rows: Rows,
 }
 
 fn both_texts(alloc: Global) -> Result<Boxed<WithRows>, Fail> {
-    let bodies = bodies_of(alloc, &BODIES)?;
-    match rows_over(alloc, &bodies) {
-        Ok(rows) => Ok(Boxed::of(alloc, WithRows { bodies, rows })?),
+    let store = store_of(alloc, bodies_of(alloc, &BODIES)?)?;
+    match rows(alloc, &store) {
+        Ok(rows) => Ok(Boxed::of(alloc, WithRows { store, rows })?),
         Err(fault) => Err(fault.into()),
     }
 }
@@ -88,7 +88,8 @@ fn check_in_after_a_call(rt: HostRuntime) -> Result<(), Fail> {
     let alloc = rt.alloc();
     let main = NameId::new(3).ok_or("an id")?;
     let texts = both_texts(alloc)?;
-    let WithRows { bodies, rows } = texts.get();
+    let WithRows { store, rows } = texts.get();
+    let bodies = store.bodies();
     let row = row_of(rows, bodies, Origin::Passed(main, 2, 6));
     has(&rt, &row.prior, "012");
     has(&rt, &row.future, "01");
@@ -105,7 +106,8 @@ fn starts(rt: HostRuntime) -> Result<(), Fail> {
     let main = NameId::new(3).ok_or("an id")?;
     let unknown = NameId::new(4).ok_or("an id")?;
     let texts = both_texts(alloc)?;
-    let WithRows { bodies, rows } = texts.get();
+    let WithRows { store, rows } = texts.get();
+    let bodies = store.bodies();
     let row = row_of(rows, bodies, Origin::Start(main));
     has(&rt, &row.prior, "");
     has(&rt, &row.future, "012");

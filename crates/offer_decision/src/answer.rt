@@ -21,7 +21,7 @@ pub enum Decision {
 pub enum DecisionFault {
     /// A function of the text uses a name that the text doesn't define.
     UndefinedName,
-    /// There was no memory, or there are too many points or check-ins to number.
+    /// There was no memory, or a function has 2^32 points or more.
     Memory,
 }
 

@@ -61,9 +61,8 @@ fn without_patch(fault: PatchFault) -> Result<Decision, DecisionFault>
 
 /// The decision on an offer of a text, over the versions so far and the slots.
 ///
-/// `Memory` comes where there is no memory for the patch or the rows, and where there are too many points or check-ins to number,
-/// as [`rows`] says. `UndefinedName` comes only where a function of the text uses a name that the text doesn't define, as
-/// [`prepare`] says.
+/// `Memory` comes where there is no memory for the patch or the rows. `UndefinedName` comes only where a function of the text uses
+/// a name that the text doesn't define, as [`prepare`] says.
 pub fn decision(
     alloc: Global,
     versions: Versions<'_>,

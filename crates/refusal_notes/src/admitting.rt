@@ -49,7 +49,7 @@ fn check_ins(
     let Some(body) = code.body(place) else {
         return Ok(found);
     };
-    let mut number: u32 = 0;
+    let mut number: usize = 0;
     for point in 0..body.skeleton.points.len() {
         if let PointKind::CheckIn(kind) = body.skeleton.points[point].kind {
             let id = rows.row_id(body.function, body.generation, number);

@@ -41,7 +41,7 @@ fn add_body(chains: &mut Chains, place: usize, body: &StoredBody) -> Result<(), 
     chains.earlier.push(place_in(&chains.last, function))?;
     chains.first.push(chains.points)?;
     let points = body.skeleton.points.len();
-    chains.points = chains.points.checked_add(points).ok_or(AllocError)?;
+    chains.points = chains.points.saturating_add(points);
     if function < chains.last.len() {
         chains.last[function] = Some(place);
     }

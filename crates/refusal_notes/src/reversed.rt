@@ -6,15 +6,12 @@ use std::alloc::{AllocError, Global};
 /// A way from one point of a body to another.
 #[derive(Clone, Copy)]
 struct Step {
-    from: u32,
+    from: usize,
     to: u32,
 }
 
 /// Adds the steps from a point.
 fn add_steps(steps: &mut Vec<Step>, from: usize, targets: &[u32]) -> Result<(), AllocError> {
-    let Ok(from) = u32::try_from(from) else {
-        return Err(AllocError);
-    };
     for to in targets {
         steps.push(Step { from, to: *to })?;
     }
@@ -32,7 +29,7 @@ fn steps_of(alloc: Global, skeleton: &Skeleton) -> Result<Vec<Step>, AllocError>
 }
 
 /// The points from which some steps go to a point.
-fn origins(alloc: Global, steps: &[Step], to: usize) -> Result<Vec<u32>, AllocError> {
+fn origins(alloc: Global, steps: &[Step], to: usize) -> Result<Vec<usize>, AllocError> {
     let first = steps.partition_point(|step| (step.to as usize) < to);
     let mut found = Vec::new(alloc);
     for index in first..steps.len() {
@@ -45,13 +42,17 @@ fn origins(alloc: Global, steps: &[Step], to: usize) -> Result<Vec<u32>, AllocEr
 }
 
 /// For each point of a body those from which control may go to it without a point between.
-fn reversed(alloc: Global, skeleton: &Skeleton) -> Result<Vec<List<u32>>, AllocError> {
+fn reversed(alloc: Global, skeleton: &Skeleton) -> Result<Vec<List<usize>>, AllocError> {
     let steps = steps_of(alloc, skeleton)?;
     all_origins(alloc, &steps, skeleton.points.len())
 }
 
 /// For each of so many points those from which some steps go to it.
-fn all_origins(alloc: Global, steps: &[Step], count: usize) -> Result<Vec<List<u32>>, AllocError> {
+fn all_origins(
+    alloc: Global,
+    steps: &[Step],
+    count: usize,
+) -> Result<Vec<List<usize>>, AllocError> {
     let mut lists = Vec::new(alloc);
     for point in 0..count {
         let found = origins(alloc, steps, point)?;
@@ -64,7 +65,7 @@ fn all_origins(alloc: Global, steps: &[Step], count: usize) -> Result<Vec<List<u
 #[derive(Drop)]
 pub(crate) struct Backwards {
     alloc: Global,
-    bodies: Vec<Option<Vec<List<u32>>>>,
+    bodies: Vec<Option<Vec<List<usize>>>>,
 }
 
 impl Backwards {
@@ -87,7 +88,7 @@ impl Backwards {
     }
 
     /// Those of a body; none unless they are made.
-    pub(crate) fn of(&self, place: usize) -> &[List<u32>] {
+    pub(crate) fn of(&self, place: usize) -> &[List<usize>] {
         match self.bodies.get(place) {
             Some(Some(lists)) => lists.as_slice(),
             _ => &[],

@@ -40,11 +40,47 @@ fn goes_on(bound: Bound, point: Point) -> bool {
     }
 }
 
-/// The points that are next to one.
-fn targets_of(lists: &[List<u32>], point: usize) -> &[u32] {
-    match lists.get(point) {
-        Some(list) => list.as_slice(),
-        None => &[],
+/// For each point of a body the points that are next to it.
+#[derive(Clone, Copy)]
+enum Lists<'a> {
+    /// Those to which control goes.
+    After(&'a [List<u32>]),
+    /// Those from which it comes.
+    Before(&'a [List<usize>]),
+}
+
+impl<'a> Lists<'a> {
+    /// How many points have a list.
+    fn len(self) -> usize {
+        match self {
+            Lists::After(lists) => lists.len(),
+            Lists::Before(lists) => lists.len(),
+        }
+    }
+
+    /// How many points are next to one.
+    fn count_at(self, point: usize) -> usize {
+        match self {
+            Lists::After(lists) => match lists.get(point) {
+                Some(list) => list.as_slice().len(),
+                None => 0,
+            },
+            Lists::Before(lists) => match lists.get(point) {
+                Some(list) => list.as_slice().len(),
+                None => 0,
+            },
+        }
+    }
+
+    /// One of the points that are next to one, by its place among them.
+    fn target(self, point: usize, place: usize) -> Option<usize> {
+        match self {
+            Lists::After(lists) => match lists.get(point)?.as_slice().get(place) {
+                Some(target) => Some(*target as usize),
+                None => None,
+            },
+            Lists::Before(lists) => lists.get(point)?.as_slice().get(place).copied(),
+        }
     }
 }
 
@@ -113,10 +149,12 @@ impl<'a> Search<'a> {
         &mut self,
         waiting: &mut Vec<usize>,
         site: Site,
-        targets: &[u32],
+        lists: Lists<'_>,
     ) -> Result<(), AllocError> {
-        for target in targets {
-            let point = *target as usize;
+        for place in 0..lists.count_at(site.point) {
+            let Some(point) = lists.target(site.point, place) else {
+                return Ok(());
+            };
             if self.comes_to(Site { point, ..site }) {
                 waiting.push(point)?;
             }
@@ -137,14 +175,14 @@ impl<'a> Search<'a> {
         &mut self,
         waiting: &mut Vec<usize>,
         site: Site,
-        lists: &[List<u32>],
+        lists: Lists<'_>,
         bound: Bound,
     ) -> Result<bool, AllocError> {
         if self.visit(site)? {
             return Ok(true);
         }
         if self.goes_on_at(site, bound) {
-            self.enqueue(waiting, site, targets_of(lists, site.point))?;
+            self.enqueue(waiting, site, lists)?;
         }
         Ok(false)
     }
@@ -153,11 +191,11 @@ impl<'a> Search<'a> {
     fn walk(
         &mut self,
         from: Site,
-        lists: &[List<u32>],
+        lists: Lists<'_>,
         bound: Bound,
     ) -> Result<Option<Site>, AllocError> {
         let mut waiting = Vec::new(self.alloc);
-        self.enqueue(&mut waiting, from, targets_of(lists, from.point))?;
+        self.enqueue(&mut waiting, from, lists)?;
         for turn in 0..lists.len() {
             let Some(point) = waiting.get(turn).copied() else {
                 return Ok(None);
@@ -173,7 +211,7 @@ impl<'a> Search<'a> {
     /// The nearest use in a body after a point.
     pub(crate) fn after(&mut self, from: Site, bound: Bound) -> Result<Option<Site>, AllocError> {
         match self.code.body(from.body) {
-            Some(body) => self.walk(from, body.skeleton.next.as_slice(), bound),
+            Some(body) => self.walk(from, Lists::After(body.skeleton.next.as_slice()), bound),
             None => Ok(None),
         }
     }
@@ -191,7 +229,7 @@ impl<'a> Search<'a> {
         if let Some(body) = self.code.body(from.body) {
             ways.make(from.body, &body.skeleton)?;
         }
-        self.walk(from, ways.of(from.body), bound)
+        self.walk(from, Lists::Before(ways.of(from.body)), bound)
     }
 
     /// The use at a point that a thread has just made; a function that it called there is looked at later.

@@ -53,7 +53,7 @@ fn passed_row(rows: &Rows, bodies: &[StoredBody], function: NameId, version: u32
         Some(body) => number_after(body, point),
         None => 0,
     };
-    *rows.row(rows.row_id(function, generation, number))
+    *rows.row(rows.row_id(function, generation, number as usize))
 }
 
 /// The row in force by where it comes from, over the bodies of a store and their rows.

@@ -10,8 +10,7 @@ use code_store::Store;
 use contextual_effects::solve;
 use std::alloc::{AllocError, Global};
 
-/// The rows over all bodies of a store. `AllocError` is also the answer where there are too many points, check-ins or
-/// functions to number, as [`solve`] and [`rows_of`] say.
+/// The rows over all bodies of a store. It has few enough check-ins for their rows to have numbers.
 pub fn rows(alloc: Global, store: &Store) -> Result<Rows, AllocError>
     ensures { IfOk result (λ r. (names : List Bytes) (bodies : List Body)
         → IsStoreOf names bodies store.now → AreRowsOf names bodies r) }

@@ -5,8 +5,8 @@ ghost use Rattle.set_constraints.specs.Places.{node_at};
 /// The set of the node `to` contains that of the node `from`. Nodes go by their number.
 #[derive(Clone, Copy)]
 pub struct Edge {
-    pub from: u32,
-    pub to: u32,
+    pub from: usize,
+    pub to: usize,
 }
 
 /// The order in which nodes are looked at first. The answer doesn't depend on it, the time does: most edges should lead

@@ -27,7 +27,7 @@ impl Links {
         let mut last = vec![in alloc; 0; nodes]?;
         let mut previous = Vec::with_capacity(alloc, edges.len())?;
         for index in 0..edges.len() {
-            let from = edges[index].from as usize;
+            let from = edges[index].from;
             previous.push(last[from])?;
             last[from] = index + 1;
         }
@@ -52,7 +52,7 @@ impl Links {
         requires { index < length self.now.edges.items }
         ensures { result ≡ target self.now.edges.items index }
     {
-        self.edges[index].to as usize
+        self.edges[index].to
     }
 
     /// The place of the edge before this one that leaves the same node.

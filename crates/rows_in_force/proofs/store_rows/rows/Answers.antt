@@ -15,6 +15,6 @@ returns c =
     → AreEffectsOf names bodies c.in_ok-effects.effects → AreRowsOf names bodies r)
     (λ r. (names : List Bytes) (bodies : List Body) → IsStoreOf names bodies c.args.store.now → AreRowsOf names bodies r)
     (λ r rows names bodies store.
-    let flow = c.in_ok-flow.ensures names bodies store in
+    let flow = c.in_ok-flow.ensures.flow names bodies store in
     rows names bodies flow (c.in_ok-effects.ensures.effects names bodies flow))
     c.rows_of.ensures.rows

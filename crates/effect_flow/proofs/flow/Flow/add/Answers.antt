@@ -7,6 +7,10 @@ on_ok_both : {T E P Q R : Type 0} (r : Result T E) → (P → Q → R) → OnOk 
 on_ok_both (Ok x) f p q = f p q
 on_ok_both (Err e) f p q = tt
 
+on_ok : {T E P Q : Type 0} (r : Result T E) → (P → Q) → OnOk r P → OnOk r Q
+on_ok (Ok x) f p = f p
+on_ok (Err e) f p = tt
+
 pub returns-clause-body : goal.returns-clause-body
 returns-clause-body c =
     let old = c.args.self.now in
@@ -30,3 +34,12 @@ returns-clause-body c =
     (p ∙ ap (λ ps. old.points ++ ps) points)
     (w ∙ ap (λ ws. old.ways ++ ws) ways))
     c.append.ensures.points c.append.ensures.ways
+
+pub returns-clause-points : goal.returns-clause-points
+returns-clause-points c =
+    let code = c.args.skeleton.now in
+    let added : c.deref-3.result.now ≡ points_from c.args.function c.args.generation 0 code.points.items =
+    c.deref-3.ensures.value
+    ∙ c.in_ok-points.ensures
+    ∙ ap (points_from c.args.function c.args.generation 0) c.deref.ensures.value in
+    on_ok c.append.result (λ p. p ∙ ap (λ ps. c.args.self.now.points ++ ps) added) c.append.ensures.points
