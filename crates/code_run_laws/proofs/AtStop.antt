@@ -62,7 +62,7 @@ pub record AtStop : Type 1 where
   pub then_are : Stack → Type 0
   pub ready : Ready texts standing
   pub numbers : All (Numbered names) texts
-  pub matches : DataMatches names naming objects standing.world data_of
+  pub matches : DataMatches texts names naming objects standing.world data_of
 
 abbrev pub world_of : AtStop → World
 world_of a = a.standing.world
@@ -83,7 +83,7 @@ words_at a = map (word_of a.naming)
 
 -- what a stop comes to
 abbrev pub Comes : AtStop → Stop → List Value → Done → Type 0
-Comes a x values done = ComesAlike a.names a.standing a.naming a.objects a.then_are x values done done.came
+Comes a x values done = ComesAlike a.texts a.names a.standing a.naming a.then_are x values done done.came
 
 module _ (a : AtStop) where
   pub text_now : a.standing.world.text ≡ last_text a.texts
@@ -113,7 +113,7 @@ module _ (a : AtStop) where
   -- the frame goes on in such a world
   pub goes_beside : (x : Stop) (values after : List Value) (under : Stack) (w : World) (new : Data) (printed : List ℕ) → Beside w
       → w.output ≡ a.standing.world.output ++ printed → perform x a.standing values ≡ goes_on a.standing w after
-      → DataMatches a.names a.naming a.objects w new → a.then_are under → HaveTypes (tags_at a) under after → AllRanged after
+      → DataMatches a.texts a.names a.naming a.objects w new → a.then_are under → HaveTypes (tags_at a) under after → AllRanged after
       → Comes a x values (record { shared = new; printed = printed; came = On (words_at a after) })
   goes_beside x values after under w new printed beside output performs matches on have ranged = record {
     world = w;
@@ -147,7 +147,7 @@ module _ (a : AtStop) where
   -- it traps
   pub traps_here : (x : Stop) (values : List Value) (kind : TrapKind) → perform x a.standing values ≡ traps a.standing kind
       → Comes a x values (traps_with a.data_of kind)
-  traps_here x values kind performs = record { performs = performs; shared = a.matches; silent = refl }
+  traps_here x values kind performs = record { objects_after = a.objects; performs = performs; shared = a.matches; silent = refl }
 
   -- what it comes to is known by an equation
   pub comes_as : (x : Stop) (values : List Value) (done known : Done) → done ≡ known → Comes a x values known → Comes a x values done

@@ -1,5 +1,5 @@
 -- Code that stands for a world of which the run goes on, and what both come to amid a move of one thread.
-use Rattle.std.proofs.Common.{◌≡◌, ℕ, suc, ◌<◌, false, List, [], ◌∷◌, length, length-set, Option, Some, None, refl, sym, ap, subst, ◌∙◌}
+use Rattle.std.proofs.Common.{◌≡◌, ℕ, ◌<◌, false, List, length, length-set, Option, Some, None, refl, sym, subst, ◌∙◌}
 use Rattle.std.specs.Prelude.{slice_set}
 use Rattle.std.proofs.lemmas.List.{length-map}
 use Rattle.std.proofs.lemmas.Option.{none-some}
@@ -15,10 +15,11 @@ use Rattle.store_laws.specs.HandleLaws.{HandlesDistinguish}
 use Rattle.code_runs.specs.CodeData.{Data, Names, thread_word}
 use Rattle.code_runs.specs.CodeThreads.{CodeSlot, CodeWorld}
 use Rattle.code_runs.specs.CodeMoves.{going, with_slot}
-use Rattle.code_run_laws.specs.DataMatches.{DataMatches, ObjectsMatch}
+use Rattle.code_run_laws.specs.DataMatches.{DataMatches}
 use Rattle.code_run_laws.specs.ThreadMatches.{SlotMatches, SlotsMatch, SlotsStand}
 use Rattle.code_run_laws.specs.WorldMatches.{WorldMatches}
 use Rattle.code_run_laws.proofs.SharedAlike.{MoreNamed}
+use Rattle.code_run_laws.proofs.MatchedObjects.{as_many}
 use Rattle.code_run_laws.proofs.MoreNames.{no_more_named}
 use Rattle.code_run_laws.proofs.SlotsMatching.{set_matching}
 use Rattle.code_run_laws.proofs.SlotsStanding.{slots_standing}
@@ -27,10 +28,10 @@ use Rattle.code_run_laws.proofs.ThreadWords.{word_positive}
 -- ---- parts of a world
 
 -- what is shared matches whatever becomes of threads, output and records
-pub still_shared : (names : Names) (naming : Naming) (objects : Objects) (w : World) (d : Data) (slots : List Slot) (threads : ℕ)
-    (closed : List Closed) (finish : Option Finish) → DataMatches names naming objects w d
-    → DataMatches names naming objects (record w { slots = slots; threads = threads; closed = closed; finish = finish }) d
-still_shared names naming objects w d slots threads closed finish h = record {
+pub still_shared : (texts : List (List BareDef)) (names : Names) (naming : Naming) (objects : Objects) (w : World) (d : Data) (slots : List Slot) (threads : ℕ)
+    (closed : List Closed) (finish : Option Finish) → DataMatches texts names naming objects w d
+    → DataMatches texts names naming objects (record w { slots = slots; threads = threads; closed = closed; finish = finish }) d
+still_shared texts names naming objects w d slots threads closed finish h = record {
   rows = h.rows;
   cells = h.cells;
   ranged = h.ranged;
@@ -39,22 +40,16 @@ still_shared names naming objects w d slots threads closed finish h = record {
   capacity = h.capacity;
   mutexes = h.mutexes;
   holders = h.holders;
+  version = h.version;
 }
 
-as_many : (names : Names) (text : List BareDef) (naming : Naming) (os : List Object) (owns : Objects) → ObjectsMatch names text naming os owns
-    → length os ≡ length owns
-as_many names text naming [] [] h = refl
-as_many names text naming [] (own ∷ owns) h = absurd h
-as_many names text naming (o ∷ os) [] h = absurd h
-as_many names text naming (o ∷ os) (own ∷ owns) h = ap suc (as_many names text naming os owns h.1)
-
 -- all objects so far are told from one another
-pub told_apart : HandlesDistinguish → (names : Names) (naming : Naming) (objects : Objects) (w : World) (d : Data)
-    → ((r : ThreadRef) → naming.thread r ≡ thread_word r) → DataMatches names naming objects w d
+pub told_apart : HandlesDistinguish → (texts : List (List BareDef)) (names : Names) (naming : Naming) (objects : Objects) (w : World) (d : Data)
+    → ((r : ThreadRef) → naming.thread r ≡ thread_word r) → DataMatches texts names naming objects w d
     → Distinguishes (length (tags_of w.objects)) naming
-told_apart law names naming objects w d threads h =
+told_apart law texts names naming objects w d threads h =
     subst (λ n. Distinguishes n naming)
-    (sym (length-map w.objects (λ (o : Object). o.tag) ∙ as_many names w.text naming w.objects objects h.objects_match))
+    (sym (length-map w.objects (λ (o : Object). o.tag) ∙ sym (as_many names texts (tags_of w.objects) naming w.objects objects h.objects_match)))
     (law naming objects d.objects h.named (λ r. subst (λ n. 0 < n) (sym (threads r)) (word_positive r)))
 
 module _ (texts : List (List BareDef)) (names : Names) where
@@ -65,7 +60,7 @@ module _ (texts : List (List BareDef)) (names : Names) where
     pub names_now : Naming
     pub threads_named : (r : ThreadRef) → names_now.thread r ≡ thread_word r
     pub objects : Objects
-    pub shared : DataMatches names names_now objects now own.shared
+    pub shared : DataMatches texts names names_now objects now own.shared
     pub count : length own.slots ≡ length now.slots
     pub slots : SlotsMatch texts (tags_of now.objects) names_now now.slots own.slots
     pub threads : own.threads ≡ now.threads
@@ -103,7 +98,7 @@ module _ (texts : List (List BareDef)) (names : Names) where
       names_now = b.names_now;
       threads_named = b.threads_named;
       objects = b.objects;
-      shared = still_shared names b.names_now b.objects now own.shared (slice_set now.slots t s) now.threads now.closed now.finish b.shared;
+      shared = still_shared texts names b.names_now b.objects now own.shared (slice_set now.slots t s) now.threads now.closed now.finish b.shared;
       count = length-set own.slots t x ∙ b.count ∙ sym (length-set now.slots t s);
       slots = set_matching texts tags b.names_now now.slots own.slots t s x h b.slots;
       threads = b.threads;
@@ -134,7 +129,7 @@ module _ (texts : List (List BareDef)) (names : Names) where
       names_now = b.names_now;
       threads_named = b.threads_named;
       objects = b.objects;
-      shared = still_shared names b.names_now b.objects now own.shared now.slots n closed now.finish b.shared;
+      shared = still_shared texts names b.names_now b.objects now own.shared now.slots n closed now.finish b.shared;
       count = b.count;
       slots = b.slots;
       threads = e;
@@ -151,7 +146,7 @@ module _ (texts : List (List BareDef)) (names : Names) where
       naming = b.names_now;
       threads_named = b.threads_named;
       objects = b.objects;
-      shared = still_shared names b.names_now b.objects now own.shared slots now.threads now.closed (Some f) b.shared;
+      shared = still_shared texts names b.names_now b.objects now own.shared slots now.threads now.closed (Some f) b.shared;
       count = b.count ∙ sym e;
       slots = λ none. absurd (none-some f (sym none));
       standing = still standing;

@@ -120,7 +120,7 @@ module _ (laws : KnownLaws) (texts : List (List BareDef)) (names : Names) (w : W
       newest_rests : FrameRests texts tags naming newest next
       newest_rests =
           goes_on_resting laws.local texts tags naming
-          (told_apart laws.apart names naming r.matches.objects w own.shared r.matches.threads_named r.matches.shared) newest own_f next 1 []
+          (told_apart laws.apart texts names naming r.matches.objects w own.shared r.matches.threads_named r.matches.shared) newest own_f next 1 []
           (r.words (length texts) e.function) (is.function ∙ m.function) is.version (le_refl (length texts)) goes
           (laws.entered most_variables look (result_type (look e.function)) tags naming (parameters_of (look e.function))
           (resolved_body look (look e.function)) (bind (parameters_of (look e.function)) e.arguments) own_f.state.locals (coded.typed e.function)

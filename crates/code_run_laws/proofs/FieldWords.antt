@@ -15,7 +15,7 @@ use Rattle.bytecode.specs.Words.{Naming, word_of}
 use Rattle.tree_code.specs.Ranges.{Ranged}
 use Rattle.tree_code.proofs.WordValues.{zero_ranged, zero_word}
 use Rattle.code_runs.specs.CodeData.{field_number}
-use Rattle.code_run_laws.specs.DataMatches.{FieldsRanged, field_words}
+use Rattle.code_runs.specs.Layouts.{FieldsRanged, field_words}
 use Rattle.code_run_laws.proofs.NameNumbers.{next_place, next_set}
 
 module _ (tags : List Bytes) (naming : Naming) where

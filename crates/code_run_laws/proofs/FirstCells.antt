@@ -5,7 +5,7 @@ use Rattle.std.specs.Option.{option_map_or}
 use Rattle.c_tree.specs.BareExpr.{Bytes, BareExpr, BareType}
 use Rattle.c_tree.specs.BareDef.{BareDef, Struct, Forward, Mutex, Function, Prototype, Global, Array, TransformStruct, TransformGlobal}
 use Rattle.c_semantics.specs.Values.{Value, zero_of}
-use Rattle.c_semantics.specs.Constants.{constant, elements, filled, initial, no_old}
+use Rattle.c_semantics.specs.Constants.{constant, elements, filled, initial, initial_cells, no_old}
 use Rattle.source_model.specs.Worlds.{Cells, Limits, cells_at_first, cells_of, first_world}
 use Rattle.world_laws.proofs.Found.{cells_in}
 use Rattle.tree_code.specs.Ranges.{AllRanged, Ranged}
@@ -37,10 +37,16 @@ listed_ranged : (type : BareType) (es : List BareExpr) → AllRanged (map (λ e.
 listed_ranged type [] = tt
 listed_ranged type (e ∷ es) = (initial_ranged type (Some e), listed_ranged type es)
 
-filled_ranged : (type : BareType) (n : ℕ) (vs : List Value) → AllRanged vs → AllRanged (filled type n vs)
+pub filled_ranged : (type : BareType) (n : ℕ) (vs : List Value) → AllRanged vs → AllRanged (filled type n vs)
 filled_ranged type n vs h =
     both_ranged (take n vs) (replicate (n - length vs) (zero_of type)) (ranged_take n vs h)
     (ranged_copies (n - length vs) (zero_of type) (zero_ranged type))
+
+pub initial_cells_ranged : (d : BareDef) → AllRanged (initial_cells d)
+initial_cells_ranged (Global g) = (initial_ranged g.declared g.initial, tt)
+initial_cells_ranged (Array type name n values) =
+    filled_ranged type (elements n) (map (λ e. initial type (Some e)) (unwrap_or values [])) (listed_ranged type (unwrap_or values []))
+initial_cells_ranged _ = tt
 
 -- the cells of each entry are in range
 abbrev EachRanged : List Cells → Type 0
@@ -49,11 +55,8 @@ EachRanged (g ∷ gs) = AllRanged g.cells × EachRanged gs
 
 first_ranged : (text : List BareDef) → EachRanged (filter_map cells_at_first text)
 first_ranged [] = tt
-first_ranged (Global g ∷ text) = ((initial_ranged g.declared g.initial, tt), first_ranged text)
-first_ranged (Array type name n values ∷ text) = (
-  filled_ranged type (elements n) (map (λ e. initial type (Some e)) (unwrap_or values [])) (listed_ranged type (unwrap_or values [])),
-  first_ranged text,
-)
+first_ranged (Global g ∷ text) = (initial_cells_ranged (Global g), first_ranged text)
+first_ranged (Array type name n values ∷ text) = (initial_cells_ranged (Array type name n values), first_ranged text)
 first_ranged (Struct tag members ∷ text) = first_ranged text
 first_ranged (Forward tag ∷ text) = first_ranged text
 first_ranged (Mutex name ∷ text) = first_ranged text

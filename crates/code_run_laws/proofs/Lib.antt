@@ -14,10 +14,12 @@ pub mod AtStop
 pub mod WrittenCells
 pub mod SharedGlobals
 pub mod MatchedObjects
+pub mod BroughtFields
 pub mod SharedObjects
 pub mod SharedCreations
 pub mod SharedMutexes
 pub mod SharedPrints
+pub mod Freshened
 pub mod SharedStops
 pub mod FramesStill
 pub mod SlotsMatching
@@ -35,3 +37,7 @@ pub mod LawsOfMoves
 pub mod FirstCells
 pub mod StartsAlike
 pub mod StaysAlike
+pub mod LongerRuns
+pub mod InstalledObjects
+pub mod InstalledCells
+pub mod InstallsAlike

@@ -12,7 +12,7 @@ use Rattle.typed_trees.specs.ValueTypes.{Environment, HasType, HaveTypes, ScopeH
 use Rattle.typed_runs.specs.TypedWorlds.{tags_of}
 use Rattle.bytecode.specs.Words.{Naming, word_of}
 use Rattle.tree_code.specs.CodeLaws.{Holds, variables_in}
-use Rattle.code_run_laws.specs.DataMatches.{field_words}
+use Rattle.code_runs.specs.Layouts.{field_words}
 use Rattle.code_run_laws.proofs.SharedAlike.{MoreNamed}
 
 -- a naming has all words of itself

@@ -95,7 +95,7 @@ module _ (laws : KnownLaws) (texts : List (List BareDef)) (names : Names) (s : S
         → FrameRests texts tags naming (record caller { values = v ∷ caller.values }) next
     caller_rests v caller own_caller next hv rv awaits goes =
         goes_on_resting laws.local texts tags naming
-        (told_apart laws.apart names naming r.matches.objects s.world own.shared r.matches.threads_named r.matches.shared)
+        (told_apart laws.apart texts names naming r.matches.objects s.world own.shared r.matches.threads_named r.matches.shared)
         (record caller { values = v ∷ caller.values }) own_caller next own_caller.state.place
         (word_of naming v ∷ own_caller.state.stack) (r.words caller.version caller.function) awaits.0.function awaits.0.version awaits.0.known
         (subst (λ n. GoesOn texts own_caller own_caller.state.place (word_of naming v ∷ own_caller.state.stack) n next) awaits.0.standing goes)

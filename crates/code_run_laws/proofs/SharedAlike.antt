@@ -1,5 +1,6 @@
 -- What is to be shown of a stop that changes no other thread: what it does to words is what it does to values.
-use Rattle.std.specs.Prelude.{◌≡◌, ℕ, ◌<◌, List, [], ◌++◌, map, length, All, Some, None}
+use Rattle.std.specs.Prelude.{◌≡◌, ℕ, suc, ◌<◌, List, [], ◌++◌, map, length, All, Some, None}
+use Rattle.std.specs.FinMap.{get}
 use Rattle.run_types.specs.declared.trap.TrapKind.{TrapKind}
 use Rattle.c_tree.specs.BareExpr.{Bytes}
 use Rattle.c_tree.specs.BareDef.{BareDef}
@@ -18,11 +19,13 @@ use Rattle.typed_runs.specs.TypedWorlds.{tags_of}
 use Rattle.typed_runs.proofs.MoreObjects.{Grows}
 use Rattle.typed_runs.proofs.SameUses.{SameUse}
 use Rattle.typed_runs.proofs.Stops.{Ready}
-use Rattle.bytecode.specs.Words.{Naming, word_of}
+use Rattle.bytecode.specs.Words.{Naming, Distinguishes, word_of}
 use Rattle.tree_code.specs.Ranges.{AllRanged}
+use Rattle.object_store.specs.declared.object.Object.{Object}
 use Rattle.object_store.specs.Naming.{Objects}
 use Rattle.code_runs.specs.CodeData.{Data, Names}
 use Rattle.code_runs.specs.SharedStops.{Came, Done, Does, On, Traps}
+use Rattle.code_runs.specs.Layouts.{Freshens, used_object}
 use Rattle.code_run_laws.specs.DataMatches.{DataMatches}
 use Rattle.code_run_laws.proofs.NumberedTexts.{Numbered}
 
@@ -31,7 +34,14 @@ pub record MoreNamed (n : ℕ) (old new : Naming) : Type 0 where
   pub objects : (o : ℕ) → o < n → new.object o ≡ old.object o
   pub threads : (t : ThreadRef) → new.thread t ≡ old.thread t
 
-module _ (names : Names) (s : Standing) (naming : Naming) (objects : Objects) (then_are : Stack → Type 0) (x : Stop) (values : List Value) (done : Done) where
+-- the object whose field a stop uses has the layout of the text in force
+abbrev pub IsFresh : List (List BareDef) → Stop → List ℕ → Data → Type 0
+IsFresh texts x stack d =
+    (tag : Bytes) (h : ℕ) (own : Object) → used_object x stack ≡ Some (tag, h) → 0 < h → get d.objects.live h ≡ Some own
+    → suc own.layout ≡ length texts
+
+module _ (texts : List (List BareDef)) (names : Names) (s : Standing) (naming : Naming) (then_are : Stack → Type 0) (x : Stop) (values : List Value)
+    (done : Done) where
   -- the stop is made: the frame goes on with other values, of which its words are the words
   pub record GoesAlike (stack : List ℕ) : Type 0 where
     pub world : World
@@ -40,7 +50,7 @@ module _ (names : Names) (s : Standing) (naming : Naming) (objects : Objects) (t
     pub objects_after : Objects
     pub types_after : Stack
     pub performs : perform x s values ≡ goes_on s world values_after
-    pub shared : DataMatches names naming_after objects_after world done.shared
+    pub shared : DataMatches texts names naming_after objects_after world done.shared
     pub goes : then_are types_after
     pub have : HaveTypes (tags_of world.objects) types_after values_after
     pub ranged : AllRanged values_after
@@ -53,10 +63,11 @@ module _ (names : Names) (s : Standing) (naming : Naming) (objects : Objects) (t
     pub grows : Grows (tags_of s.world.objects) (tags_of world.objects)
     pub more : MoreNamed (length s.world.objects) naming naming_after
 
-  -- or it traps, and nothing changes
+  -- or it traps, and nothing changes, but that the object that it uses has newer words
   pub record TrapsAlike (kind : TrapKind) : Type 0 where
+    pub objects_after : Objects
     pub performs : perform x s values ≡ traps s kind
-    pub shared : DataMatches names naming objects s.world done.shared
+    pub shared : DataMatches texts names naming objects_after s.world done.shared
     pub silent : done.printed ≡ []
 
   abbrev pub ComesAlike : Came → Type 0
@@ -69,11 +80,12 @@ IsSameNow texts s x = (name : Bytes) → use_at x ≡ Some name → SameUse (ver
 
 abbrev pub SharedStopsAlike : Type 1
 SharedStopsAlike =
-    (texts : List (List BareDef)) (names : Names) (s : Standing) (naming : Naming) (objects : Objects) (d : Data) (x : Stop)
+    (texts : List (List BareDef)) (names : Names) (s : Standing) (naming : Naming) (objects : Objects) (d fresh : Data) (x : Stop)
     (values : List Value) (types : Stack) (then_are : Stack → Type 0) (stack : List ℕ) (done : Done)
-    → Ready texts s → All (Numbered names) texts
-    → DataMatches names naming objects s.world d
+    → Ready texts s → All (Numbered names) texts → Distinguishes (length (tags_of s.world.objects)) naming
+    → DataMatches texts names naming objects s.world d
     → StopTyped (version_in texts s.frame.version) (result_in texts s.frame.version s.frame.function) x types then_are
     → HaveTypes (tags_of s.world.objects) types values → AllRanged values → stack ≡ map (word_of naming) values
-    → IsSameNow texts s x → at_stop x s.world s.slot values ≡ None → Does names (last_text texts) s.slot x d stack done
-    → ComesAlike names s naming objects then_are x values done done.came
+    → IsSameNow texts s x → at_stop x s.world s.slot values ≡ None → Freshens texts names x stack d fresh
+    → Does names (last_text texts) s.slot x fresh stack done
+    → ComesAlike texts names s naming then_are x values done done.came

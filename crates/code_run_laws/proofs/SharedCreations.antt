@@ -1,5 +1,5 @@
 -- The stop that creates an object: its handle is the word of its reference, and all others stay.
-use Rattle.std.proofs.Common.{◌≡◌, ℕ, ◌+◌, ◌-◌, ◌<◌, ◌≤◌, ◌==◌, Bool, true, false, not, cond, List, [], ◌∷◌, ◌++◌, append-nil, map, length, replicate, slice_get, Option, Some, None, is_some, All, refl, sym, ap, ap₂, subst, ◌∙◌, if◌then◌else◌, arith}
+use Rattle.std.proofs.Common.{◌≡◌, ℕ, ◌+◌, ◌-◌, ◌<◌, ◌≤◌, ◌==◌, Bool, true, false, not, cond, List, [], ◌∷◌, ◌++◌, append-nil, map, length, replicate, slice_get, Option, Some, None, is_some, refl, sym, ap, ap₂, subst, ◌∙◌, if◌then◌else◌, arith}
 use Rattle.std.proofs.lemmas.Bool.{eq-eqb, ne_eqb}
 use Rattle.std.proofs.lemmas.List.{length-map, map-append, replicate-append-replicate}
 use Rattle.c_tree.specs.BareExpr.{Bytes, Handle}
@@ -11,13 +11,16 @@ use Rattle.c_semantics.specs.Stops.{New}
 use Rattle.c_semantics.specs.Transformers.{zero_fields}
 use Rattle.source_model.specs.Worlds.{Object, World, cells_of, live_objects, now}
 use Rattle.source_model.specs.Moves.{goes_on, new_object}
+use Rattle.version_laws.specs.Histories.{text_in}
 use Rattle.version_laws.proofs.SameDefinitions.{members_alike}
 use Rattle.version_laws.proofs.TableHistories.{last_as_current}
 use Rattle.typed_transformers.specs.TransformerTypes.{HasCells}
-use Rattle.typed_trees.specs.ValueTypes.{HaveTypes}
+use Rattle.typed_trees.specs.ValueTypes.{HaveTypes, ScopeHas}
+use Rattle.typed_trees.specs.ExpressionTypes.{IsStruct}
 use Rattle.typed_trees.specs.PieceTypes.{Stack}
-use Rattle.typed_runs.specs.TypedWorlds.{ObjectTyped, tags_of}
+use Rattle.typed_runs.specs.TypedWorlds.{tags_of}
 use Rattle.typed_runs.proofs.MoreObjects.{Grows, before_more, next_number, values_still}
+use Rattle.typed_runs.proofs.Places.{zeros_have}
 use Rattle.bytecode.specs.Words.{Naming, word_of}
 use Rattle.tree_code.specs.Ranges.{AllRanged}
 use Rattle.object_store.specs.Naming.{extended}
@@ -28,8 +31,10 @@ use Rattle.store_laws.proofs.LiveObjects.{creations_fail_alike}
 use Rattle.code_runs.specs.CodeData.{most_fields, number_of}
 use Rattle.code_runs.specs.CodeData as own
 use Rattle.code_runs.specs.SharedStops.{Done, goes, handle_word, with_objects}
+use Rattle.code_runs.specs.Layouts.{AreFieldsIn}
 use Rattle.code_run_laws.specs.DataMatches.{FieldsMatch, LivesAs}
 use Rattle.code_run_laws.proofs.AtStop.{AtStop, Comes, comes_as, goes_here, now_of, numbers_now, tags_at, text_now, words_at}
+use Rattle.code_run_laws.proofs.BroughtFields.{newest_as_they_are}
 use Rattle.code_run_laws.proofs.FieldWords.{zero_words, zeros_ranged}
 use Rattle.code_run_laws.proofs.MatchedObjects.{as_many, live_alike, match_push, objects_match_still}
 use Rattle.code_run_laws.proofs.MoreNames.{cells_still, by_tags, words_still}
@@ -46,15 +51,15 @@ module _ (a : AtStop) (tag : Bytes) where
   created = a.standing.world.objects ++ new_object a.standing.world tag ∷ []
 
   count : length a.objects ≡ length world.objects
-  count = as_many a.names world.text a.naming world.objects a.objects a.matches.objects_match
+  count = as_many a.names a.texts (tags_at a) a.naming world.objects a.objects a.matches.objects_match
 
   -- ---- it is made where the machine makes it
 
-  room : (handle : Option ℕ) (after : Store) → Creates a.data_of.objects (own.new_object (number_of a.names.tags tag)) handle after
+  room : (handle : Option ℕ) (after : Store) → Creates a.data_of.objects (own.new_object (number_of a.names.tags tag) a.data_of.version) handle after
       → is_some handle ≡ not (live_objects world == world.capacity)
   room handle after made =
-      creations_fail_alike a.naming.object a.objects world a.data_of.objects after (own.new_object (number_of a.names.tags tag)) handle
-      a.matches.named (live_alike a.names world.text a.naming world.objects a.objects a.matches.objects_match) a.matches.capacity made
+      creations_fail_alike a.naming.object a.objects world a.data_of.objects after (own.new_object (number_of a.names.tags tag) a.data_of.version) handle
+      a.matches.named (live_alike a.names a.texts (tags_at a) a.naming world.objects a.objects a.matches.objects_match) a.matches.capacity made
 
   is_not : (b c : Bool) → b ≡ not c → c ≡ not b
   is_not b true e = ap not (sym e)
@@ -83,8 +88,24 @@ module _ (a : AtStop) (tag : Bytes) where
         ranged = zeros_ranged ms;
       }
 
-  new_lives : (naming : Naming) → LivesAs a.names world.text naming made (own.new_object (number_of a.names.tags tag))
-  new_lives naming = record { tag = refl; fields = λ is. zeros_match naming (members_of (now world (struct_name tag))) few }
+  -- it has the layout of the text in force
+  new_lives : (naming : Naming) → IsStruct (now_of a (struct_name tag))
+      → LivesAs a.names a.texts (tags_of created) naming made (own.new_object (number_of a.names.tags tag) a.data_of.version)
+  new_lives naming struct =
+      let fields = zero_fields (members_of (now world (struct_name tag))) in
+      record {
+        tag = refl;
+        known = let is = a.matches.version in omega (arith, is);
+        old = fields;
+        fits =
+            subst (λ n. AreFieldsIn (text_in a.texts n) (tags_of created) tag fields) (sym a.matches.version) (
+              struct,
+              subst (λ ms. ScopeHas (tags_of created) (members_of (now_of a (struct_name tag))) (zero_fields ms)) (sym members_now)
+                  (zeros_have (tags_of created) (members_of (now_of a (struct_name tag)))),
+            );
+        words = zeros_match naming (members_of (now world (struct_name tag))) few;
+        brought = sym (newest_as_they_are a.texts tag a.data_of.version fields a.matches.version);
+      }
 
   -- ---- all others keep their words
 
@@ -120,18 +141,18 @@ module _ (a : AtStop) (tag : Bytes) where
         cells_still (tags_at a) a.naming naming_more more_tags (global_type (now_of a name)) (cells_of world name)
         (a.ready.world.globals name (subst (λ t. HasCells (definition t name)) (text_now a) has))
 
-    made_alike : (after : Store) (values : List Value) (types : Stack) (done : Done)
-        → Creates a.data_of.objects (own.new_object (number_of a.names.tags tag)) (Some h) after → a.then_are (Handle tag ∷ types)
+    made_alike : (after : Store) (values : List Value) (types : Stack) (done : Done) → IsStruct (now_of a (struct_name tag))
+        → Creates a.data_of.objects (own.new_object (number_of a.names.tags tag) a.data_of.version) (Some h) after → a.then_are (Handle tag ∷ types)
         → HaveTypes (tags_at a) types values → AllRanged values
         → done ≡ goes (with_objects a.data_of after) (h ∷ words_at a values) → Comes a (New tag) values done
-    made_alike after values types done made_so on have ranged e =
+    made_alike after values types done struct made_so on have ranged e =
         let full : (live_objects world == world.capacity) ≡ false = is_not true (live_objects world == world.capacity) (room (Some h) after made_so) in
         comes_as a (New tag) values done (goes (with_objects a.data_of after) (h ∷ words_at a values)) e
         (record {
           world = record a.standing.world { objects = created };
           values_after = Reference (Some (length a.standing.world.objects)) ∷ values;
           naming_after = naming_more;
-          objects_after = a.objects ++ Some (own.new_object (number_of a.names.tags tag)) ∷ [];
+          objects_after = a.objects ++ Some (own.new_object (number_of a.names.tags tag) a.data_of.version) ∷ [];
           types_after = Handle tag ∷ types;
           performs =
               ap
@@ -141,14 +162,15 @@ module _ (a : AtStop) (tag : Bytes) where
             rows = a.matches.rows;
             cells = λ name has. a.matches.cells name has ∙ sym (cells_kept name has);
             ranged = a.matches.ranged;
-            named = creation_names a.naming.object a.objects a.data_of.objects after (own.new_object (number_of a.names.tags tag)) h a.matches.named made_so;
-            objects_match = match_push a.names world.text naming_more world.objects a.objects made (Some (own.new_object (number_of a.names.tags tag)))
-                (objects_match_still a.names world.text (tags_at a) a.naming naming_more more_tags world.objects a.objects
-                (subst (λ t. All (ObjectTyped t (tags_at a)) world.objects) (sym (text_now a)) a.ready.world.objects) a.matches.objects_match)
-                (new_lives naming_more);
+            named = creation_names a.naming.object a.objects a.data_of.objects after (own.new_object (number_of a.names.tags tag) a.data_of.version) h a.matches.named made_so;
+            objects_match = match_push a.names a.texts (tags_of created) naming_more world.objects a.objects made (Some (own.new_object (number_of a.names.tags tag) a.data_of.version))
+                (objects_match_still a.names a.texts (tags_at a) (tags_of created) grown a.naming naming_more more_tags world.objects a.objects
+                a.matches.objects_match)
+                (new_lives naming_more struct);
             capacity = ap (λ (t : Store). t.capacity) made_so.2 ∙ a.matches.capacity;
             mutexes = a.matches.mutexes;
             holders = a.matches.holders;
+            version = a.matches.version;
           };
           goes = on;
           have = (newest_tag, values_still (tags_at a) (tags_of created) grown types values have);
@@ -164,10 +186,10 @@ module _ (a : AtStop) (tag : Bytes) where
         })
 
   pub create_alike : (handle : Option ℕ) (after : Store) (values : List Value) (types : Stack) (done : Done)
-      → Creates a.data_of.objects (own.new_object (number_of a.names.tags tag)) handle after → a.then_are (Handle tag ∷ types)
+      → IsStruct (now_of a (struct_name tag)) → Creates a.data_of.objects (own.new_object (number_of a.names.tags tag) a.data_of.version) handle after → a.then_are (Handle tag ∷ types)
       → HaveTypes (tags_at a) types values → AllRanged values
       → done ≡ goes (with_objects a.data_of after) (handle_word handle ∷ words_at a values) → Comes a (New tag) values done
-  create_alike None after values types done made_so on have ranged e =
+  create_alike None after values types done struct made_so on have ranged e =
       let full : (live_objects world == world.capacity) ≡ true = is_not false (live_objects world == world.capacity) (room None after made_so) in
       comes_as a (New tag) values done (goes a.data_of (words_at a (Reference None ∷ values)))
       (e ∙ ap (λ s. goes (with_objects a.data_of s) (words_at a (Reference None ∷ values))) made_so.1)
@@ -175,4 +197,5 @@ module _ (a : AtStop) (tag : Bytes) where
       (ap
       (λ b. if b then goes_on a.standing a.standing.world (Reference None ∷ values) else goes_on a.standing (record a.standing.world { objects = created }) (Reference (Some (length a.standing.world.objects)) ∷ values))
       full) on (tt, have) (tt, ranged))
-  create_alike (Some h) after values types done made_so on have ranged e = made_alike h after values types done made_so on have ranged e
+  create_alike (Some h) after values types done struct made_so on have ranged e =
+      made_alike h after values types done struct made_so on have ranged e

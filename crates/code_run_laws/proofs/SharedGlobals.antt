@@ -106,7 +106,7 @@ module _ (a : AtStop) where
   -- the words of one name are written
   data_written : (name : Bytes) (new : List Value) (words : List ℕ) → HasNow name → 0 < length (cells name) → words ≡ words_at a new
       → AllRanged new
-      → DataMatches a.names a.naming a.objects (with_cells name new a.standing.world) (with_row a.data_of (number name) words)
+      → DataMatches a.texts a.names a.naming a.objects (with_cells name new a.standing.world) (with_row a.data_of (number name) words)
   data_written name new words has there are ranged = record {
     rows = length-set a.data_of.cells (number name) words ∙ a.matches.rows;
     cells = λ n h. row_by n h (bytes_eq n name) refl;
@@ -116,6 +116,7 @@ module _ (a : AtStop) where
     capacity = a.matches.capacity;
     mutexes = a.matches.mutexes;
     holders = a.matches.holders;
+    version = a.matches.version;
   }
     where
       within : number name < length a.data_of.cells

@@ -67,7 +67,7 @@ module _ (a : AtStop) (name : Bytes) (there : Contains a.names.mutexes name) whe
           ∙ a.matches.holders n known ∙ sym (c.others n (other is))
 
   data_held : (hs : List Held) (h : Option ℕ) → Changed hs h
-      → DataMatches a.names a.naming a.objects (with_held hs) (with_holders a.data_of (set a.data_of.holders number h))
+      → DataMatches a.texts a.names a.naming a.objects (with_held hs) (with_holders a.data_of (set a.data_of.holders number h))
   data_held hs h c = record {
     rows = a.matches.rows;
     cells = a.matches.cells;
@@ -77,6 +77,7 @@ module _ (a : AtStop) (name : Bytes) (there : Contains a.names.mutexes name) whe
     capacity = a.matches.capacity;
     mutexes = length-set a.data_of.holders number h ∙ a.matches.mutexes;
     holders = holder_after hs h c;
+    version = a.matches.version;
   }
 
   module _ (values : List Value) (types : Stack) (on : a.then_are (int ∷ types)) (have : HaveTypes (tags_at a) types values) (ranged : AllRanged values) where

@@ -34,7 +34,7 @@ module _ (a : AtStop) (format : Bytes) (n : ℕ) where
 
   -- the output is no part of what is shared
   matches_still : (more : List ℕ)
-      → DataMatches a.names a.naming a.objects (record a.standing.world { output = a.standing.world.output ++ more }) a.data_of
+      → DataMatches a.texts a.names a.naming a.objects (record a.standing.world { output = a.standing.world.output ++ more }) a.data_of
   matches_still more = record {
     rows = a.matches.rows;
     cells = a.matches.cells;
@@ -44,6 +44,7 @@ module _ (a : AtStop) (format : Bytes) (n : ℕ) where
     capacity = a.matches.capacity;
     mutexes = a.matches.mutexes;
     holders = a.matches.holders;
+    version = a.matches.version;
   }
 
   prints : (values : List Value) (types : Stack) (ks : Option (List Kind)) (done : Done) → kinds Text format ≡ ks

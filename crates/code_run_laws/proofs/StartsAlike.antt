@@ -48,7 +48,7 @@ module _ (text : List BareDef) (limits : Limits) (names : Names) (own : CodeWorl
   first_named : IsNamed first_naming.object [] own.shared.objects
   first_named = subst (IsNamed first_naming.object []) (sym starts.objects) (starts_named first_naming.object limits.objects)
 
-  first_data : Numbers names text → DataMatches names first_naming [] first own.shared
+  first_data : Numbers names text → DataMatches (text ∷ []) names first_naming [] first own.shared
   first_data numbers = record {
     rows = starts.rows;
     cells = λ name has. starts.cells first_naming name (numbers.cells name has);
@@ -59,6 +59,7 @@ module _ (text : List BareDef) (limits : Limits) (names : Names) (own : CodeWorl
     mutexes = ap length starts.holders ∙ length-replicate (length names.mutexes) None;
     holders = λ name known.
         ap (λ hs. holder_of hs (number_of names.mutexes name)) starts.holders ∙ none_at (length names.mutexes) (number_of names.mutexes name);
+    version = ap suc starts.version;
   }
 
   main_matches : FramesTyped (text ∷ []) [] (Some main_enter) []

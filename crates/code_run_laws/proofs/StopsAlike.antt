@@ -13,16 +13,17 @@ use Rattle.version_laws.specs.Histories.{last_text}
 use Rattle.typed_trees.specs.PieceTypes.{Stack}
 use Rattle.typed_runs.specs.TypedWorlds.{tags_of}
 use Rattle.bytecode.specs.Words.{Naming}
-use Rattle.code_runs.specs.CodeData.{Names}
+use Rattle.code_runs.specs.CodeData.{Data, Names}
 use Rattle.code_runs.specs.CodeThreads.{CodeFrame, CodeThread, CodeWorld}
 use Rattle.code_runs.specs.SharedStops.{Came, Does, Done, On as GoesTo, Traps}
+use Rattle.code_runs.specs.Layouts.{Freshens}
 use Rattle.code_runs.specs.CodeMoves.{At as CodeAt, Closes, Comes, StopMade}
 use Rattle.code_run_laws.specs.ThreadMatches.{SlotsMatch}
 use Rattle.code_run_laws.specs.WorldMatches.{WorldMatches}
 use Rattle.code_run_laws.proofs.SharedAlike.{ComesAlike, GoesAlike, IsSameNow, SharedStopsAlike, TrapsAlike}
 use Rattle.code_run_laws.proofs.MoreNames.{by_tags}
 use Rattle.code_run_laws.proofs.FramesStill.{slots_still}
-use Rattle.code_run_laws.proofs.Between.{Between, ended}
+use Rattle.code_run_laws.proofs.Between.{Between, ended, told_apart}
 use Rattle.code_run_laws.proofs.ThreadAtStop.{AtStop, KnownLaws, MadeAlike, On, Running, at, goes_alike, here, silent, still_there, typed_stop}
 use Rattle.code_run_laws.proofs.StopsOfThreads.{call_alike, join_alike, spawn_alike}
 use Rattle.code_run_laws.proofs.ReturnsAlike.{begin_alike, end_alike, return_alike}
@@ -55,7 +56,7 @@ module _ (laws : KnownLaws) (shared : SharedStopsAlike) (texts : List (List Bare
 
     module _ (d : Done) (says : printed ≡ d.printed) where
       -- where the frame goes on
-      abbrev amid : (stack : List ℕ) (g : GoesAlike names s naming r.matches.objects Then x values d stack)
+      abbrev amid : (stack : List ℕ) (g : GoesAlike texts names s naming Then x values d stack)
           → Between texts names s.world naming g.world (record own { shared = d.shared })
       amid stack g = record {
         names_now = g.naming_after;
@@ -75,12 +76,12 @@ module _ (laws : KnownLaws) (shared : SharedStopsAlike) (texts : List (List Bare
       }
 
       -- where it traps
-      abbrev aside : (kind : TrapKind) (g : TrapsAlike names s naming r.matches.objects Then x values d kind)
+      abbrev aside : (kind : TrapKind) (g : TrapsAlike texts names s naming Then x values d kind)
           → Between texts names s.world naming s.world (record own { shared = d.shared })
       aside kind g = record {
         names_now = naming;
         threads_named = r.matches.threads_named;
-        objects = r.matches.objects;
+        objects = g.objects_after;
         shared = g.shared;
         count = r.matches.count;
         slots = r.matches.slots r.going;
@@ -94,7 +95,7 @@ module _ (laws : KnownLaws) (shared : SharedStopsAlike) (texts : List (List Bare
       abbrev trap_world : TrapKind → World
       trap_world kind = record (with_source_thread s.slot (gone_on s s.frame.values) s.world) { finish = Some (Trapped kind s.slot) }
 
-      came_alike : (c : Came) → ComesAlike names s naming r.matches.objects Then x values d c → Comes texts own_at own d.shared c new
+      came_alike : (c : Came) → ComesAlike texts names s naming Then x values d c → Comes texts own_at own d.shared c new
           → Alike (perform x s values) new printed
       came_alike (GoesTo stack) g goes =
           subst (λ o. Alike o new printed) (sym g.performs)
@@ -115,12 +116,14 @@ module _ (laws : KnownLaws) (shared : SharedStopsAlike) (texts : List (List Bare
           })
 
     shared_alike : IsSameNow texts s x → at_stop x s.world s.slot values ≡ None
-        → (d : Done) × (Does names (last_text texts) s.slot x own.shared f.state.stack d
-        × ((printed ≡ d.printed) × Comes texts own_at own d.shared d.came new))
+        → (fresh : Data) × (Freshens texts names x f.state.stack own.shared fresh
+        × ((d : Done) × (Does names (last_text texts) s.slot x fresh f.state.stack d
+        × ((printed ≡ d.printed) × Comes texts own_at own d.shared d.came new))))
         → Alike (perform x s values) new printed
     shared_alike same waits made =
-        came_alike made.0 made.1.1.0 made.0.came
-        (shared texts names s naming r.matches.objects own.shared x values h.matches.stack Then f.state.stack made.0
+        let does = made.1.1 in
+        came_alike does.0 does.1.1.0 does.0.came
+        (shared texts names s naming r.matches.objects own.shared made.0 x values h.matches.stack Then f.state.stack does.0
         (record {
           of = r.of;
           holds = r.holds;
@@ -131,9 +134,10 @@ module _ (laws : KnownLaws) (shared : SharedStopsAlike) (texts : List (List Bare
           scopes_have = h.matches.scopes_have;
           below = h.below_typed;
           entering = h.entering;
-        }) r.numbered r.matches.shared (typed_stop laws texts names s own r th f after x values h)
-        h.matches.values_have h.matches.ranged h.matches.words same waits made.1.0)
-        made.1.1.1
+        }) r.numbered (told_apart laws.apart texts names naming r.matches.objects s.world own.shared r.matches.threads_named r.matches.shared)
+        r.matches.shared (typed_stop laws texts names s own r th f after x values h)
+        h.matches.values_have h.matches.ranged h.matches.words same waits made.1.0 does.1.0)
+        does.1.1.1
 
   -- ---- each stop
 

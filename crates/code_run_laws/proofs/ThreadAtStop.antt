@@ -125,7 +125,7 @@ module _ (laws : KnownLaws) (texts : List (List BareDef)) (names : Names) (s : S
           → FrameRests texts (tags_of now.objects) b.names_now (record s.frame { values = left }) next
       resting under left stack next on have ranged words goes =
           goes_on_resting laws.local texts (tags_of now.objects) b.names_now
-          (told_apart laws.apart names b.names_now b.objects now mid.shared b.threads_named b.shared) (record s.frame { values = left }) f next after
+          (told_apart laws.apart texts names b.names_now b.objects now mid.shared b.threads_named b.shared) (record s.frame { values = left }) f next after
           stack (r.words s.frame.version s.frame.function) h.function h.version h.known goes
           (record {
             stack = under;

@@ -8,6 +8,7 @@ use Rattle.c_semantics.specs.Texts.{definition, parameters_of, result_type}
 use Rattle.c_semantics.specs.Resolution.{resolved_body}
 use Rattle.source_model.specs.Worlds.{World, Limits, cells_of, first_world}
 use Rattle.source_model.specs.Moves.{move}
+use Rattle.source_model.specs.Installs.{installed}
 use Rattle.source_model.specs.Waits.{Waiting, waits_for}
 use Rattle.frame_bodies.specs.AcceptedTexts.{AreAccepted, definitions_of}
 use Rattle.typed_trees.specs.StatementTypes.{BodyTyped}
@@ -21,6 +22,7 @@ use Rattle.code_runs.specs.CodeData.{Names, number_of, row}
 use Rattle.code_runs.specs.CodeThreads.{CodeThread, CodeWorld, Free, Live, starting}
 use Rattle.code_runs.specs.CodeMoves.{Moves}
 use Rattle.code_runs.specs.CodeWaits.{Stays, Waits, WaitsNext, in_slot}
+use Rattle.code_runs.specs.CodeInstalls.{Installs}
 use Rattle.code_run_laws.specs.WorldMatches.{Numbers, WorldMatches}
 
 -- the functions of a text have typed bodies, code whose constants are words, and few variables
@@ -84,6 +86,7 @@ pub record Starts (text : List BareDef) (limits : Limits) (names : Names) (own :
   pub holders : own.shared.holders ≡ replicate (length names.mutexes) None
   pub slots : own.slots
       ≡ Live (starting 0 (record { function = codes "main"; arguments = []; version = 1 })) ∷ replicate (limits.slots - 1) Free
+  pub version : own.shared.version ≡ 0
   pub threads : own.threads ≡ 1
   pub finish : own.finish ≡ None
 
@@ -93,3 +96,10 @@ CodeStartsAlike =
     (text : Text) (limits : Limits) (names : Names) (own : CodeWorld)
     → AreAccepted (text ∷ []) → Numbers names text.definitions → Starts text.definitions limits names own
     → WorldMatches (text.definitions ∷ []) names (first_world text.definitions limits) own
+
+-- the install of a newer text, whatever that is, leaves code that stands for the world after it
+abbrev pub CodeInstallsAlike : Type 0
+CodeInstallsAlike =
+    (texts : List Text) (q : Text) (names : Names) (w : World) (own new : CodeWorld)
+    → Stands texts names w own → Installs (definitions_of texts) names q.definitions own new
+    → WorldMatches (definitions_of (texts ++ q ∷ [])) names (installed q.definitions w) new

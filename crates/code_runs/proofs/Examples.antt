@@ -37,7 +37,7 @@ names = record {
 
 module _ (objects : Store) where
   abbrev d : Data
-  d = record { cells = (7 ∷ []) ∷ (10 ∷ 20 ∷ []) ∷ []; objects = objects; holders = None ∷ Some 2 ∷ [] }
+  d = record { cells = (7 ∷ []) ∷ (10 ∷ 20 ∷ []) ∷ []; objects = objects; holders = None ∷ Some 2 ∷ []; version = 3 }
 
   global_read : Does names [] 0 (ReadGlobal (codes "g")) d (1 ∷ []) (goes d (7 ∷ 1 ∷ []))
   unfolding names
@@ -45,7 +45,7 @@ module _ (objects : Store) where
 
   -- a write leaves its word
   global_written : Does names [] 0 (WriteGlobal (codes "g")) d (8 ∷ 1 ∷ [])
-      (goes (record { cells = (8 ∷ []) ∷ (10 ∷ 20 ∷ []) ∷ []; objects = objects; holders = None ∷ Some 2 ∷ [] }) (8 ∷ 1 ∷ []))
+      (goes (record { cells = (8 ∷ []) ∷ (10 ∷ 20 ∷ []) ∷ []; objects = objects; holders = None ∷ Some 2 ∷ []; version = 3 }) (8 ∷ 1 ∷ []))
   unfolding names
   global_written = refl
 
@@ -61,7 +61,7 @@ module _ (objects : Store) where
   before_the_first = refl
 
   element_written : write_element d 1 1 9 (5 ∷ [])
-      ≡ goes (record { cells = (7 ∷ []) ∷ (10 ∷ 9 ∷ []) ∷ []; objects = objects; holders = None ∷ Some 2 ∷ [] }) (9 ∷ 5 ∷ [])
+      ≡ goes (record { cells = (7 ∷ []) ∷ (10 ∷ 9 ∷ []) ∷ []; objects = objects; holders = None ∷ Some 2 ∷ []; version = 3 }) (9 ∷ 5 ∷ [])
   element_written = refl
 
   not_written : write_element d 1 2 9 [] ≡ traps d Index
@@ -130,7 +130,7 @@ second_written : with_field pair (codes "b") 3 one_and_two ≡ record { tag = 0;
 unfolding pair one_and_two
 second_written = refl
 
-new_is_zero : field_word pair (codes "b") (new_object 0) ≡ 0
+new_is_zero : field_word pair (codes "b") (new_object 0 3) ≡ 0
 unfolding pair
 new_is_zero = refl
 

@@ -18,6 +18,7 @@ use Rattle.code_runs.specs.CodeData.{Data, Names}
 use Rattle.code_runs.specs.CodeThreads.{CodeEnter, CodeFrame, CodeThread, CodeWorld, Rests, Live, starting}
 use Rattle.code_runs.specs.CodeMoves.{Moves, code_in, enters, rests, stops}
 use Rattle.code_runs.specs.SharedStops.{goes}
+use Rattle.code_runs.specs.Layouts.{uses_none}
 
 -- int g;  int main(void) { g = 7; return g; }
 abbrev g : Bytes
@@ -43,7 +44,7 @@ names = record { cells = g ∷ []; mutexes = []; tags = [] }
 -- ---- the states of the run
 
 abbrev shared : ℕ → Data
-shared w = record { cells = (w ∷ []) ∷ []; objects = record { capacity = 4; created = 0; live = empty }; holders = [] }
+shared w = record { cells = (w ∷ []) ∷ []; objects = record { capacity = 4; created = 0; live = empty }; holders = []; version = 0 }
 
 abbrev main : CodeEnter
 main = record { function = codes "main"; arguments = []; version = 1 }
@@ -81,22 +82,28 @@ main_enters =
 global_written : Moves texts names (at 0 (thread (frame 0 2 (7 ∷ [])))) 0 (thread (frame 0 2 (7 ∷ []))) (at 7 (thread (frame 1 4 []))) []
 global_written =
     stops (frame 0 2 (7 ∷ [])) (WriteGlobal g) 1 3 (at 7 (thread (frame 1 4 []))) [] refl (refl, refl) (
-      goes (shared 7) (7 ∷ []),
+      shared 0,
       (
-        refl,
+        uses_none refl,
         (
-          refl,
+          goes (shared 7) (7 ∷ []),
           (
-            frame 1 4 [],
+            refl,
             (
-              record {
-                function = refl;
-                version = refl;
-                stood = refl;
-                runs = more _ (frame 1 4 []).state _ refl (here (frame 1 4 []).state);
-                ends = rests refl;
-              },
               refl,
+              (
+                frame 1 4 [],
+                (
+                  record {
+                    function = refl;
+                    version = refl;
+                    stood = refl;
+                    runs = more _ (frame 1 4 []).state _ refl (here (frame 1 4 []).state);
+                    ends = rests refl;
+                  },
+                  refl,
+                ),
+              ),
             ),
           ),
         ),
@@ -106,16 +113,22 @@ global_written =
 global_read : Moves texts names (at 7 (thread (frame 1 4 []))) 0 (thread (frame 1 4 [])) (at 7 (thread (frame 2 5 (7 ∷ [])))) []
 global_read =
     stops (frame 1 4 []) (ReadGlobal g) 2 5 (at 7 (thread (frame 2 5 (7 ∷ [])))) [] refl (refl, refl) (
-      goes (shared 7) (7 ∷ []),
+      shared 7,
       (
-        refl,
+        uses_none refl,
         (
-          refl,
+          goes (shared 7) (7 ∷ []),
           (
-            frame 2 5 (7 ∷ []),
+            refl,
             (
-              record { function = refl; version = refl; stood = refl; runs = here (frame 2 5 (7 ∷ [])).state; ends = rests refl },
               refl,
+              (
+                frame 2 5 (7 ∷ []),
+                (
+                  record { function = refl; version = refl; stood = refl; runs = here (frame 2 5 (7 ∷ [])).state; ends = rests refl },
+                  refl,
+                ),
+              ),
             ),
           ),
         ),

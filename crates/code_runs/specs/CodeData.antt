@@ -17,11 +17,13 @@ pub record Names : Type 0 where
 abbrev pub number_of : List Bytes → Bytes → ℕ
 number_of names name = position_or_len (λ n. bytes_eq name n) names
 
--- the words of each global and array, by the number of its name; the objects that live; the holder of each mutex
+-- the words of each global and array, by the number of its name; the objects that live; the holder of each mutex; and how many texts
+-- were installed after the first, which is the number of the text in force, counted from 0
 pub record Data : Type 0 where
   pub cells : List (List ℕ)
   pub objects : Store
   pub holders : List (Option ℕ)
+  pub version : ℕ
 
 -- the words under a number; none under one that isn't there
 abbrev pub row : Data → ℕ → List ℕ
@@ -50,6 +52,7 @@ field_word members name o = slice_index_or o.fields (field_number members name) 
 abbrev pub with_field : List BareBinding → Bytes → ℕ → Object → Object
 with_field members name w o = record o { fields = slice_set o.fields (field_number members name) w }
 
--- a new object, with all words 0; the number of its layout isn't used yet
-abbrev pub new_object : ℕ → Object
-new_object tag = record { tag = tag; layout = 0; fields = replicate most_fields 0 }
+-- a new object, with all words 0, of the layout that its struct has in a version. An object's layout is the number of the text by which
+-- its words are those of its fields
+abbrev pub new_object : (tag version : ℕ) → Object
+new_object tag version = record { tag = tag; layout = version; fields = replicate most_fields 0 }

@@ -20,6 +20,7 @@ use Rattle.code_kinds.specs.WellFormed.{most_variables}
 use Rattle.code_runs.specs.CodeData.{Data, Names, thread_word}
 use Rattle.code_runs.specs.CodeThreads.{CodeFrame, CodeEnter, CodeThread, CodeSlot, CodeWorld, Enters, Rests, Free, Live, Over, starting}
 use Rattle.code_runs.specs.SharedStops.{Came, Done, Does, One, On, Traps}
+use Rattle.code_runs.specs.Layouts.{Freshens}
 
 -- the code of a function in a version, by the texts of the versions so far
 abbrev pub code_in : List (List BareDef) → ℕ → Bytes → Code
@@ -142,7 +143,8 @@ abbrev pub Closes : List (List BareDef) → At → CodeWorld → ℕ → CodeWor
 Closes texts a w zero new = ⊥
 Closes texts a w (suc depth) new = Continues texts a (record a.thread { depth = depth }) a.frame.state.stack w new
 
--- a stop of a thread: the world after it and what it printed
+-- a stop of a thread: the world after it and what it printed. A stop that changes no other thread is made once the object that it uses
+-- has the layout of the text in force
 abbrev pub StopMade : List (List BareDef) → Names → At → Stop → CodeWorld → CodeWorld → List ℕ → Type 0
 StopMade texts names a (Spawn name) w new printed =
     (printed ≡ []) × One a.frame.state.stack (λ v under.
@@ -156,8 +158,9 @@ StopMade texts names a Begin w new printed =
     (printed ≡ []) × Continues texts a (record a.thread { depth = suc a.thread.depth }) a.frame.state.stack w new
 StopMade texts names a End w new printed = (printed ≡ []) × Closes texts a w a.thread.depth new
 StopMade texts names a s w new printed =
-    (x : Done) × (Does names (last_text texts) a.slot s w.shared a.frame.state.stack x
-    × ((printed ≡ x.printed) × Comes texts a w x.shared x.came new))
+    (d : Data) × (Freshens texts names s a.frame.state.stack w.shared d
+    × ((x : Done) × (Does names (last_text texts) a.slot s d a.frame.state.stack x
+    × ((printed ≡ x.printed) × Comes texts a w x.shared x.came new))))
 
 -- ---- moves
 

@@ -26,7 +26,7 @@ module _ (t : Table) (names : Names) (text : List BareDef) (slot : ℕ) (stack :
   -- what the creation of an object of a tag comes to
   abbrev pub Allocates : ℕ → Done → Type 0
   Allocates tag x =
-      (handle : Option ℕ) × ((s : Store) × (Creates old.objects (new_object tag) handle s
+      (handle : Option ℕ) × ((s : Store) × (Creates old.objects (new_object tag old.version) handle s
       × (x ≡ goes (with_objects old s) (handle_word handle ∷ stack_of words stack))))
 
   pub allocates : (did : Did) (seen : Stop) (tag : ℕ) → Resolves t names text seen (New tag)

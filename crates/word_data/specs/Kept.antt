@@ -9,10 +9,10 @@ use Rattle.code_runs.specs.CodeData.{Data}
 abbrev pub data_code : Coded Data
 data_code =
     code_by
-    (List (List ℕ) × (Store × List (Option ℕ)))
-    (coded× (coded_list (coded_list coded_ℕ)) (coded× store_code (coded_list (coded_option coded_ℕ))))
-    (λ d. (d.cells, (d.objects, d.holders)))
-    (λ p. record { cells = p.0; objects = p.1.0; holders = p.1.1 })
+    (List (List ℕ) × (Store × (List (Option ℕ) × ℕ)))
+    (coded× (coded_list (coded_list coded_ℕ)) (coded× store_code (coded× (coded_list (coded_option coded_ℕ)) coded_ℕ)))
+    (λ d. (d.cells, (d.objects, (d.holders, d.version))))
+    (λ p. record { cells = p.0; objects = p.1.0; holders = p.1.1.0; version = p.1.1.1 })
     (λ _. refl)
 
 -- how many mutexes have a number, which is that of a name

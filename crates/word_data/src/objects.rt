@@ -93,8 +93,8 @@ impl WordData {
         }
     }
 
-    /// Creates an object of the struct of a tag, with all fields 0, and puts its handle on the stack; null where as many live as may.
-    /// An error where the last handle was given.
+    /// Creates an object of the struct of a tag, with all fields 0 and the layout of the version in force, and puts its handle on the
+    /// stack; null where as many live as may. An error where the last handle was given.
     pub(crate) fn allocate(
         &mut self,
         tag: NameId,
@@ -103,7 +103,7 @@ impl WordData {
     ) -> Result<Did, AllocError>
         requires { stack.low + stack.height < length words.old }
         ensures made { let d = self.old in IfOk result (λ did. Made self.new words.new stack [] did
-            (λ x. (handle : Option ℕ) × ((after : Store) × (Creates d.objects (new_object tag) handle after
+            (λ x. (handle : Option ℕ) × ((after : Store) × (Creates d.objects (new_object tag d.version) handle after
             × (x ≡ goes (with_objects d after) (handle_word handle ∷ stack_of words.old stack)))))) }
         ensures elsewhere { IsSameOutside stack.low (stack.low + stack.height + 1) words.old words.new }
         ensures keeps { IfOk result (λ did. LeavesOne 0 stack did words.old words.new) }
@@ -113,7 +113,7 @@ impl WordData {
         if self.objects.created() == u32::MAX {
             return Err(AllocError);
         }
-        let word = match self.objects.create(tag, 0, [0; MOST_FIELDS]) {
+        let word = match self.objects.create(tag, self.version, [0; MOST_FIELDS]) {
             Some(handle) => handle.word(),
             None => 0,
         };

@@ -29,6 +29,8 @@ pub struct WordData {
     pub(crate) locks: Locks,
     /// How many mutexes have a number.
     pub(crate) mutexes: usize,
+    /// How many texts were installed after the first.
+    pub(crate) version: u32,
 }
 
 impl Model for WordData {
@@ -40,14 +42,14 @@ impl Model for WordData {
 
     ghost coded = { data_code };
 
-    ghost view = { λ d. record { cells = map (λ v. v.items) d.cells.items; objects = d.objects; holders = d.locks } };
+    ghost view = { λ d. record { cells = map (λ v. v.items) d.cells.items; objects = d.objects; holders = d.locks; version = d.version } };
 
     ghost invariant = { λ d. AreNumbered d.locks d.mutexes };
 }
 
 impl WordData {
-    /// Globals and arrays with these words, room for so many objects, and so many mutexes, none of which is held. It takes all memory
-    /// that is ever needed.
+    /// Globals and arrays with these words, room for so many objects, and so many mutexes, none of which is held; no newer text was
+    /// installed. It takes all memory that is ever needed.
     pub fn new(
         alloc: Global,
         cells: Vec<Vec<u64>>,
@@ -59,6 +61,7 @@ impl WordData {
           cells = map (λ v. v.items) cells.items;
           objects = record { capacity = objects; created = 0; live = empty };
           holders = replicate mutexes None;
+          version = 0;
         }) }
     {
         Ok(WordData {
@@ -66,6 +69,7 @@ impl WordData {
             objects: Objects::with_capacity(alloc, objects)?,
             locks: Locks::new(alloc, mutexes)?,
             mutexes,
+            version: 0,
         })
     }
 

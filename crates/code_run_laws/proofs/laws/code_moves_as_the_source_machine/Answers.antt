@@ -1,6 +1,7 @@
 use Rattle.tree_code.proofs.AfterStops.{code_goes_on_after_stops}
 use Rattle.tree_code.proofs.LocalEvaluation.{code_does_local_evaluation, entered_frames_match}
 use Rattle.typed_runs.proofs.AcceptedWorlds.{first_world_typed}
+use Rattle.code_run_laws.proofs.InstallsAlike.{installs_alike_by}
 use Rattle.code_run_laws.proofs.LawsOfMoves.{code_moves_alike, code_waits_alike}
 use Rattle.code_run_laws.proofs.SharedStops.{shared_stops_alike}
 use Rattle.code_run_laws.proofs.StartsAlike.{starts_alike_by}
@@ -30,6 +31,9 @@ returns-clause-waits c = code_waits_alike code_goes_on_after_stops
 
 pub returns-clause-stays : goal.returns-clause-stays
 returns-clause-stays c = stays_alike_by code_goes_on_after_stops
+
+pub returns-clause-installs : goal.returns-clause-installs
+returns-clause-installs c = installs_alike_by handles_distinguish
 
 pub returns-clause-starts : goal.returns-clause-starts
 returns-clause-starts c = starts_alike_by first_world_typed

@@ -1,5 +1,5 @@
 use Rattle.std.proofs.Common.{◌≡◌, ℕ, subst, sym, ap, ◌∙◌, ◌∷◌, []}
-use Rattle.object_store.specs.Stores.{Creates, Store}
+use Rattle.object_store.specs.Stores.{Creates}
 use Rattle.code_runs.specs.CodeData.{Data, new_object}
 use Rattle.code_runs.specs.SharedStops.{goes, handle_word, with_objects}
 use Rattle.word_data.specs.Stacks.{stack_of}
@@ -16,9 +16,8 @@ returns-clause-made c =
       | in-Some w ↦ w.word-is ∙ w.word-word.ensures ∙ sym (ap handle_word w.in-Some.is)
       | in-None w ↦ w.word-is ∙ sym (ap handle_word w.in-None.is)
     ] in
-    let creates : Creates old.objects (new_object c.args.tag) c.create.result now =
-    subst (λ (s : Store). Creates s (new_object c.args.tag) c.create.result now) (ap (λ (d : Data). d.objects) c.self.view_is) c.create.ensures
-    in
+    let creates : Creates old.objects (new_object c.args.tag old.version) c.create.result now =
+    subst (λ (d : Data). Creates d.objects (new_object c.args.tag d.version) c.create.result now) c.self.view_is c.create.ensures in
     made _ c.leave.new.words c.args.stack [] _ c.leave.result _ c.leave.ensures.leaves (
       c.create.result,
       (
