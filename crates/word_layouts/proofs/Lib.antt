@@ -1,0 +1,6 @@
+pub mod FieldTypes
+pub mod Renaming
+pub mod WordFields
+pub mod Bringing
+pub mod Versions
+pub mod CellWords

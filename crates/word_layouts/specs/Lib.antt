@@ -1,0 +1,4 @@
+pub mod WordValues
+pub mod ChangedWords
+pub mod WordChanges
+pub mod ChangedCells
