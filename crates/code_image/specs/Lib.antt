@@ -1,3 +1,4 @@
 pub mod StopHeights
+pub mod Stacks
 pub mod Acts
 pub mod Images

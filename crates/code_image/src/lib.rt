@@ -4,7 +4,7 @@
 //! An image doesn't change while a run goes on, so threads may share it. Whoever makes one shows that it is that of a text
 //! (`specs/Images`); then no thread looks up a name, a body or a check-in.
 //!
-//! Read in this order: `act` (what is done at a stop), `function` (a function's code), `image`, and of `specs/` `Acts`, `Images`.
+//! Read in this order: `act` (what is done at a stop), `function` (a function's code), `image`, and of `specs/` `Acts`, `Images` and `Stacks`.
 #![tactic(auto)]
 
 mod act;

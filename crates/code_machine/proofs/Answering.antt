@@ -12,6 +12,7 @@ use Rattle.word_frames.specs.declared.frames.Frames.{Frames}
 use Rattle.word_frames.specs.Blocks.{low_of}
 use Rattle.word_frames.specs.Laws.{StackChanged, with_stack}
 use Rattle.word_frames.specs.Seen.{IsKept, depth_of, innermost, stack_base, stack_of}
+use Rattle.word_frames.proofs.FrameCalls.{block_there}
 use Rattle.word_frames.proofs.FrameLists.{room_is}
 use Rattle.word_data.proofs.StackWords.{left}
 use Rattle.code_image.specs.declared.act.StopPlace.{StopPlace}
@@ -31,24 +32,25 @@ newest_first ws base (suc k) some =
     let at : base + k ≡ base + (suc k - 1) = omega arith in ap (λ (i : ℕ). slice_index ws i ∷ downward ws base k) at
 
 pub answered : (text : List BareDef) (image : CodeImage) (r : Running) (mid : Frames) (new : Running) (x : StopPlace) (word at height : ℕ)
-    → RestsAt image.functions.items r x → 1 ≤ (innermost r.frames).height → mid.frames.items ≡ r.frames.frames.items
+    → RestsAt image.functions.items r x → 1 ≤ (innermost r.frames).height → mid.highest_stack ≡ r.frames.highest_stack → mid.frames.items ≡ r.frames.frames.items
     → mid.words.items ≡ slice_set r.frames.words.items at word → at ≡ stack_base r.frames + ((innermost r.frames).height - 1) → height ≡ (innermost r.frames).height
     → WentOn text image (record r { frames = mid }) new x.point x.after height → Answered text image r new x word
-answered text image r mid new x word at height rests high same changed there grown w =
+answered text image r mid new x word at height rests high wide same changed there grown w =
     let t = words_of image in
     let ws = r.frames.words.items in
     let h = (innermost r.frames).height in
     let stood : Stood image.functions.items r.frames RestsThere = stood_there image.functions.items r x rests in
     let kept : IsKept r.frames = rests.fits.kept in
-    let low_enough : (innermost r.frames).height ≤ 66 = kept.low (depth_of r.frames - 1) (omega (arith, stood.some)) in
-    let inside : stack_base r.frames + (innermost r.frames).height < length r.frames.words.items = omega (arith, kept.words, room_is, low_enough, stood.some) in
+    let low_enough : (innermost r.frames).height ≤ r.frames.highest_stack = kept.low (depth_of r.frames - 1) (omega (arith, stood.some)) in
+    let inside : stack_base r.frames + (innermost r.frames).height < length r.frames.words.items =
+    omega (arith, block_there r.frames kept stood.some, room_is, low_enough) in
     let before : (i : ℕ) → i < stack_base r.frames → slice_index mid.words.items i ≡ slice_index r.frames.words.items i =
     λ i p. ap (λ (xs : List ℕ). slice_index xs i) changed ∙ get_or-set_other ws at i word 0 (omega (arith, there)) in
-    let c : StackChanged t r.frames mid = stack_changed t r.frames mid kept stood.some same before in
+    let c : StackChanged t r.frames mid = stack_changed t r.frames mid kept stood.some wide same before in
     let st : List ℕ = stack_of mid (innermost mid).height in
     let head : w.frame ≡ with_stack st c.frame = same_head w.frame (with_stack st c.frame) w.below c.below (sym w.before ∙ c.after) in
     let rest : w.below ≡ c.below = same_rest w.frame (with_stack st c.frame) w.below c.below (sym w.before ∙ c.after) in
-    let base : stack_base mid ≡ stack_base r.frames = ap (λ (fs : List Frame). low_of (length fs - 1)) same in
+    let base : stack_base mid ≡ stack_base r.frames = ap (λ (fs : List Frame). low_of mid.highest_stack (length fs - 1)) same ∙ ap (λ (k : ℕ). low_of k (depth_of r.frames - 1)) wide in
     let tall : height ≡ suc ((innermost r.frames).height - 1) = omega (arith, grown, high) in
     let stack : stack_of mid height ≡ word ∷ drop 1 (downward r.frames.words.items (stack_base r.frames) (innermost r.frames).height) =
     ap (λ (b : ℕ). downward mid.words.items b height) base

@@ -83,11 +83,11 @@ never_rests w slot f e h = no (sym (ap is_live h.lives) ∙ e)
 
 -- ---- frames by how many calls they are above the innermost
 
-module _ (t : Table) (words : List ℕ) (all : List Frame) where
+module _ (t : Table) (highest : ℕ) (words : List ℕ) (all : List Frame) where
   abbrev numbered : ℕ → CodeFrame
-  numbered k = frame_of t words k (slice_index_or all k frames.no_frame)
+  numbered k = frame_of t highest words k (slice_index_or all k frames.no_frame)
 
-  pub frame_up_is : (n up : ℕ) → up < n → slice_get (frames_below t words all n) up ≡ Some (numbered (n - 1 - up))
+  pub frame_up_is : (n up : ℕ) → up < n → slice_get (frames_below t highest words all n) up ≡ Some (numbered (n - 1 - up))
   frame_up_is zero up h = absurd (omega (arith, h))
   frame_up_is (suc n) zero h = let same : n ≡ suc n - 1 - 0 = omega arith in ap (λ k. Some (numbered k)) same
   frame_up_is (suc n) (suc up) h =
@@ -95,7 +95,7 @@ module _ (t : Table) (words : List ℕ) (all : List Frame) where
       let same : n - 1 - up ≡ suc n - 1 - suc up = omega (arith, h) in
       frame_up_is n up within ∙ ap (λ k. Some (numbered k)) same
 
-  pub no_frame_up : (n up : ℕ) → n ≤ up → slice_get (frames_below t words all n) up ≡ None
+  pub no_frame_up : (n up : ℕ) → n ≤ up → slice_get (frames_below t highest words all n) up ≡ None
   no_frame_up zero up h = refl
   no_frame_up (suc n) zero h = absurd (omega (arith, h))
   no_frame_up (suc n) (suc up) h = let past : n ≤ up = omega (arith, h) in no_frame_up n up past
@@ -140,7 +140,7 @@ module _ (image : CodeImage) (r : Running) (fits : Fits image.functions.items r)
   -- its frames, whatever it does next
   whole : 0 < depth_of r.frames → slice_index_or all_frames 0 no_frame ∷ drop 1 all_frames ≡ all_frames
   whole some =
-      let first = innermost_first t r.frames.words.items r.frames.frames.items (depth_of r.frames) some in
+      let first = innermost_first t r.frames.highest_stack r.frames.words.items r.frames.frames.items (depth_of r.frames) some in
       ap (λ fs. slice_index_or fs 0 no_frame ∷ drop 1 fs) first ∙ sym first
 
   pub thread_frames : frames_by (thread_of image r).next (thread_of image r).below ≡ all_frames
@@ -159,13 +159,13 @@ module _ (image : CodeImage) (r : Running) (fits : Fits image.functions.items r)
     some_frame = stood.some
 
     abbrev pub last : CodeFrame
-    last = frame_of t r.frames.words.items (depth_of r.frames - 1) (innermost r.frames)
+    last = frame_of t r.frames.highest_stack r.frames.words.items (depth_of r.frames - 1) (innermost r.frames)
 
     abbrev pub under : List CodeFrame
-    under = frames_below t r.frames.words.items r.frames.frames.items (depth_of r.frames - 1)
+    under = frames_below t r.frames.highest_stack r.frames.words.items r.frames.frames.items (depth_of r.frames - 1)
 
     all_are : all_frames ≡ last ∷ under
-    all_are = innermost_first t r.frames.words.items r.frames.frames.items (depth_of r.frames) some_frame
+    all_are = innermost_first t r.frames.highest_stack r.frames.words.items r.frames.frames.items (depth_of r.frames) some_frame
 
     pub rests : (thread_of image r).next ≡ seen.Rests last
     rests = ap (λ x. (thread_by image r x).next) stands ∙ ap (λ fs. seen.Rests (slice_index_or fs 0 no_frame)) all_are

@@ -4,8 +4,6 @@ use Rattle.std.specs.Prelude.{slice_get, slice_index_or, slice_set}
 use Rattle.std.proofs.lemmas.Bool.{cases_eq}
 use Rattle.code_kinds.specs.WellFormed.{most_variables}
 use Rattle.thread_state.specs.declared.steps.End.TheVariants.{Rests as RestsThere}
-use Rattle.thread_state.specs.Frames.{most_words}
-use Rattle.thread_state.specs.Turns.{no_names}
 use Rattle.word_frames.specs.declared.frame.Frame.{Frame}
 use Rattle.word_frames.specs.declared.frames.Frames.{Frames}
 use Rattle.word_frames.specs.Changes.{with_innermost}
@@ -15,6 +13,7 @@ use Rattle.code_image.specs.declared.act.Act.TheVariants.{Call as CallAct}
 use Rattle.code_image.specs.declared.act.StopPlace.{StopPlace}
 use Rattle.code_image.specs.declared.function.CodeFunction.{CodeFunction}
 use Rattle.code_image.specs.declared.image.CodeImage.{CodeImage}
+use Rattle.code_image.specs.Stacks.{AreNeverHigher}
 use Rattle.code_image.specs.StopHeights.{LeadsTo, act_leaves, act_takes, returns}
 use Rattle.code_machine.specs.declared.running.Next.TheVariants.{Enters}
 use Rattle.code_machine.specs.declared.running.Running.{Running}
@@ -44,8 +43,8 @@ module _ (image : CodeImage) (r : Running) (x : StopPlace) (n count : ℕ) (rest
   few_arguments = (subst (LeadsTo (length image.functions.items)) act (leads_so image r x rests)).few
 
   pub call_fits : (mid : Frames) → mid.frames.items ≡ with_innermost r.frames (moved (innermost r.frames) x.point x.after ((innermost r.frames).height - count))
-      → IsKept mid → HasArguments mid count → Fits image.functions.items (record r { frames = mid; next = Enters n count })
-  call_fits mid frames kept there =
+      → mid.highest_stack ≡ r.frames.highest_stack → IsKept mid → HasArguments mid count → Fits image.functions.items (record r { frames = mid; next = Enters n count })
+  call_fits mid frames same kept there =
       let functions : List CodeFunction = image.functions.items in
       let stood : Stood functions r.frames RestsThere = stood_there functions r x rests in
       let h : ℕ = (innermost r.frames).height - count in
@@ -75,6 +74,7 @@ module _ (image : CodeImage) (r : Running) (x : StopPlace) (n count : ℕ) (rest
           wait = all;
         };
         stood = λ end e. absurd (not_stands n count end e);
+        stacks = subst (λ (k : ℕ). AreNeverHigher k functions) (sym same) rests.fits.stacks;
       }
 
 -- ---- a return to the frame that called
@@ -86,14 +86,14 @@ module _ (functions : List CodeFunction) (r : Running) (x : StopPlace) (rests : 
   is_caller = rests.fits.frames (depth_of r.frames - 2) (omega arith)
 
   -- there is room for its word
-  pub room_for_it : (frame_at r.frames (depth_of r.frames - 2)).height < most_words
+  pub room_for_it : (frame_at r.frames (depth_of r.frames - 2)).height < r.frames.highest_stack
   room_for_it =
       let found : (g : CodeFunction) × (slice_get functions (frame_at r.frames (depth_of r.frames - 2)).unit ≡ Some g) = some functions (frame_at r.frames (depth_of r.frames - 2)).unit is_caller.inside in
-      let low : suc (frame_at r.frames (depth_of r.frames - 2)).height ≤ most_words =
-      ((found.0).fits.sound no_names).low (frame_at r.frames (depth_of r.frames - 2)).place (suc (frame_at r.frames (depth_of r.frames - 2)).height) (waits_so found.0 found.1) in
+      let low : suc (frame_at r.frames (depth_of r.frames - 2)).height ≤ r.frames.highest_stack =
+      rests.fits.stacks (frame_at r.frames (depth_of r.frames - 2)).unit found.0 found.1 (frame_at r.frames (depth_of r.frames - 2)).place (suc (frame_at r.frames (depth_of r.frames - 2)).height) (waits_so found.0 found.1) in
       omega (arith, low)
 
-  module _ (mid : Frames) (kept : IsKept mid)
+  module _ (mid : Frames) (kept : IsKept mid) (same : mid.highest_stack ≡ r.frames.highest_stack)
       (frames : (let f = frame_at r.frames (depth_of r.frames - 2) in mid.frames.items ≡ slice_set (take (depth_of r.frames - 1) r.frames.frames.items) (depth_of r.frames - 2) (record f { height = f.height + 1 }))) where
     made : Replaces r.frames.frames.items mid.frames.items (depth_of r.frames - 2)
         (record (frame_at r.frames (depth_of r.frames - 2)) { height = (frame_at r.frames (depth_of r.frames - 2)).height + 1 })
@@ -129,4 +129,5 @@ module _ (functions : List CodeFunction) (r : Running) (x : StopPlace) (rests : 
           wait = λ k p.
               let h : k < depth_of r.frames - 2 = omega (arith, deep, p) in
               rw (made.others k h) ((stood_there functions r x rests).wait k (omega (arith, h)));
+          stacks = subst (λ (k : ℕ). AreNeverHigher k functions) (sym same) rests.fits.stacks;
         }

@@ -19,6 +19,7 @@ use Rattle.word_frames.specs.Changes as change
 use Rattle.word_frames.proofs.FrameLists.{Replaces, pushed}
 use Rattle.code_image.specs.declared.function.CodeFunction.{CodeFunction}
 use Rattle.code_image.specs.declared.image.CodeImage.{CodeImage}
+use Rattle.code_image.specs.Stacks.{AreNeverHigher}
 use Rattle.code_image.specs.Images.{names_of}
 use Rattle.code_machine.specs.declared.running.Next.TheVariants.{Enters}
 use Rattle.code_machine.specs.declared.running.Running.{Running}
@@ -35,10 +36,10 @@ use Rattle.code_machine.proofs.Worlds.{slot_is, world_set}
 
 -- the new frame can go on
 pub can_enter : (functions : List CodeFunction) (g : CodeFunction) (old : Running) (mid : Frames) (n count : ℕ) → Fits functions old
-    → old.next ≡ Enters n count → slice_get functions n ≡ Some g → n < length functions → IsKept mid
+    → old.next ≡ Enters n count → slice_get functions n ≡ Some g → n < length functions → mid.highest_stack ≡ old.frames.highest_stack → IsKept mid
     → mid.frames.items ≡ old.frames.frames.items ++ new_frame g.name 1 n ∷ []
     → CanGoOn functions (record old { frames = mid }) 1 0
-can_enter functions g old mid n count fits next there inside kept frames =
+can_enter functions g old mid n count fits next there inside same kept frames =
     let f : Frame = new_frame g.name 1 n in
     let made : Replaces old.frames.frames.items mid.frames.items (depth_of old.frames) f = rw frames (pushed old.frames.frames.items f) in
     let here : IsFrame functions f = record { version = refl; inside = inside; function = λ k is. ap (λ (h : CodeFunction). h.name) (one (slice_get functions n) g k there is) } in
@@ -52,6 +53,7 @@ can_enter functions g old mid n count fits next there inside kept frames =
       some = omega (arith, made.long);
       high = λ k is. k.fits.entry;
       wait = λ k h. let less : k < depth_of old.frames = omega (arith, made.long) in rw (made.others k less) ((fits.due n count next).wait k less);
+      stacks = subst (λ (k : ℕ). AreNeverHigher k functions) (sym same) fits.stacks;
     }
 
 -- the name of a function
@@ -74,9 +76,9 @@ entered text image g old new mid n count there e w =
     }
 
 -- how many frames there are
-frames_length : (t : Table) (ws : List ℕ) (fs : List Frame) (d : ℕ) → length (frames_below t ws fs d) ≡ d
-frames_length t ws fs zero = refl
-frames_length t ws fs (suc d) = ap suc (frames_length t ws fs d)
+frames_length : (t : Table) (highest : ℕ) (ws : List ℕ) (fs : List Frame) (d : ℕ) → length (frames_below t highest ws fs d) ≡ d
+frames_length t highest ws fs zero = refl
+frames_length t highest ws fs (suc d) = ap suc (frames_length t highest ws fs d)
 
 module _ (text : List BareDef) (image : CodeImage) (old : RunState) (slot n count : ℕ) (r : Running)
     (there : slice_get old.slots.items slot ≡ Some r) (live : r.stand ≡ LiveStand) (next : r.next ≡ Enters n count) (runs : old.finish ≡ None) where
@@ -90,7 +92,7 @@ module _ (text : List BareDef) (image : CodeImage) (old : RunState) (slot n coun
       → Moved text slot (world_of image old) (world_of image (record old { slots = slots })) old.output.items old.output.items
   enter_moves slots after set stand few e =
       let th : CodeThread = entering_with r (enter_of image r.frames n count) (frames_of (words_of image) r.frames) in
-      let long : length (frames_of (words_of image) r.frames) ≡ depth_of r.frames = frames_length (words_of image) r.frames.words.items r.frames.frames.items (depth_of r.frames) in
+      let long : length (frames_of (words_of image) r.frames) ≡ depth_of r.frames = frames_length (words_of image) r.frames.highest_stack r.frames.words.items r.frames.frames.items (depth_of r.frames) in
       let room : length (frames_of (words_of image) r.frames) < frame_count = subst (λ (k : ℕ). k < frame_count) (sym long) few in
       let now : slot_of image after ≡ Live (going th e.next) = ap (slot_by image after) stand ∙ ap Live e.after in
       let world : world_of image (record old { slots = slots }) ≡ with_thread slot (going th e.next) (world_of image old) =
@@ -113,7 +115,7 @@ module _ (text : List BareDef) (image : CodeImage) (old : RunState) (slot n coun
       → Moved text slot (world_of image old) (world_of image (record old { finish = Some (Trapped Depth slot) })) old.output.items old.output.items
   overflow_moves full =
       let th : CodeThread = entering_with r (enter_of image r.frames n count) (frames_of (words_of image) r.frames) in
-      let long : length (frames_of (words_of image) r.frames) ≡ depth_of r.frames = frames_length (words_of image) r.frames.words.items r.frames.frames.items (depth_of r.frames) in
+      let long : length (frames_of (words_of image) r.frames) ≡ depth_of r.frames = frames_length (words_of image) r.frames.highest_stack r.frames.words.items r.frames.frames.items (depth_of r.frames) in
       record {
         going = ap (option_map finish_of) runs;
         thread = th;

@@ -44,15 +44,15 @@ traps_is Lost kind e = absurd (cc)
 
 -- the first of all frames is the innermost one with its words
 pub head_is : (t : Table) (s : Frames) (f : CodeFrame) (below : List CodeFrame) → 0 < depth_of s → frames_of t s ≡ f ∷ below
-    → f ≡ frame_of t s.words.items (depth_of s - 1) (innermost s)
+    → f ≡ frame_of t s.highest_stack s.words.items (depth_of s - 1) (innermost s)
 head_is t s f below some is =
-    ap (λ (fs : List CodeFrame). slice_index_or fs 0 seen.no_frame) (sym is ∙ innermost_first t s.words.items s.frames.items (depth_of s) some)
+    ap (λ (fs : List CodeFrame). slice_index_or fs 0 seen.no_frame) (sym is ∙ innermost_first t s.highest_stack s.words.items s.frames.items (depth_of s) some)
 
 -- and the others are those below
 pub below_is : (t : Table) (s : Frames) (f : CodeFrame) (below : List CodeFrame) → 0 < depth_of s → frames_of t s ≡ f ∷ below
-    → below ≡ frames_below t s.words.items s.frames.items (depth_of s - 1)
+    → below ≡ frames_below t s.highest_stack s.words.items s.frames.items (depth_of s - 1)
 below_is t s f below some is =
-    ap (λ (fs : List CodeFrame). drop 1 fs) (sym is ∙ innermost_first t s.words.items s.frames.items (depth_of s) some)
+    ap (λ (fs : List CodeFrame). drop 1 fs) (sym is ∙ innermost_first t s.highest_stack s.words.items s.frames.items (depth_of s) some)
 
 -- two ways to see them are one
 pub same_head : (f g : CodeFrame) (fs gs : List CodeFrame) → ◌≡◌ {A = List CodeFrame} (f ∷ fs) (g ∷ gs) → f ≡ g

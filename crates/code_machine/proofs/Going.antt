@@ -16,6 +16,7 @@ use Rattle.word_frames.specs.Changes.{with_innermost}
 use Rattle.word_frames.specs.Changes as change
 use Rattle.code_image.specs.declared.function.CodeFunction.{CodeFunction}
 use Rattle.code_image.specs.declared.image.CodeImage.{CodeImage}
+use Rattle.code_image.specs.Stacks.{AreNeverHigher}
 use Rattle.code_image.specs.Images.{IsFunctionOf, IsImage}
 use Rattle.code_machine.specs.declared.running.Next.TheVariants.{Enters, Stands}
 use Rattle.code_machine.specs.declared.running.Running.{Running}
@@ -32,7 +33,7 @@ pub code_is : (text : List BareDef) (image : CodeImage) (s : Frames) (g : CodeFu
     → frame_code (text ∷ []) f ≡ code_of (words_of image) g.verified.body.code.items
 code_is text image s g f below is some frame there frames =
     let t = words_of image in
-    let head : f ≡ frame_of t s.words.items (depth_of s - 1) (innermost s) = head_is t s f below some frames in
+    let head : f ≡ frame_of t s.highest_stack s.words.items (depth_of s - 1) (innermost s) = head_is t s f below some frames in
     let function : f.function ≡ word t g.name = ap (λ (x : CodeFrame). x.function) head ∙ ap (word t) (frame.function g there) in
     let version : f.version ≡ 1 = ap (λ (x : CodeFrame). x.version) head ∙ frame.version in
     let of : IsFunctionOf t text image.functions.items g = all (IsFunctionOf t text image.functions.items) image.functions.items (innermost s).unit g is.functions there in
@@ -77,10 +78,10 @@ same_end a b e = cc
 pub fits_on : (functions : List CodeFunction) (g : CodeFunction) (old : Running) (new : Frames) (point place height : ℕ) (end : End)
     → CanGoOn functions old place height → slice_get functions (innermost old.frames).unit ≡ Some g
     → new.frames.items ≡ with_innermost old.frames (moved (innermost old.frames) point (innermost new).place (innermost new).height)
-    → IsKept new → HasHeight g.verified.heights.items (innermost new).place (innermost new).height
+    → new.highest_stack ≡ old.frames.highest_stack → IsKept new → HasHeight g.verified.heights.items (innermost new).place (innermost new).height
     → ((t : Table) → change.WentOn t g.verified.body.code.items old.frames new point place height end)
     → Fits functions (record old { frames = new; next = Stands end })
-fits_on functions g old new point place height end can there frames kept low went =
+fits_on functions g old new point place height end can there frames same kept low went =
     let f : Frame = moved (innermost old.frames) point (innermost new).place (innermost new).height in
     record {
       kept = kept;
@@ -89,6 +90,7 @@ fits_on functions g old new point place height end can there frames kept low wen
       due = λ n count e. absurd (stands_not end n count e);
       stood = λ other e.
           subst (Stood functions new) (same_end end other e) (stood functions g old.frames new point place height end can.some there frames can.wait low went);
+      stacks = subst (λ (k : ℕ). AreNeverHigher k functions) (sym same) can.stacks;
     }
 
 -- and went on as the definitions say

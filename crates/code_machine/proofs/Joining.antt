@@ -81,16 +81,16 @@ module _ (text : List BareDef) (image : CodeImage) (old : RunState) (slot word :
   some_frame = (rests.fits.stood RestsThere rests.next).some
 
   first_of_all : frames_of (words_of image) r.frames
-      ≡ frame_of (words_of image) r.frames.words.items (depth_of r.frames - 1) (innermost r.frames)
-      ∷ frames_below (words_of image) r.frames.words.items r.frames.frames.items (depth_of r.frames - 1)
-  first_of_all = innermost_first (words_of image) r.frames.words.items r.frames.frames.items (depth_of r.frames) some_frame
+      ≡ frame_of (words_of image) r.frames.highest_stack r.frames.words.items (depth_of r.frames - 1) (innermost r.frames)
+      ∷ frames_below (words_of image) r.frames.highest_stack r.frames.words.items r.frames.frames.items (depth_of r.frames - 1)
+  first_of_all = innermost_first (words_of image) r.frames.highest_stack r.frames.words.items r.frames.frames.items (depth_of r.frames) some_frame
 
   -- the thread lives
   pub waits_for_it : (place : ℕ) → joined_from word 0 (world_of image old).slots ≡ Some (ForThread place) → CannotMove text (world_of image old) slot
   waits_for_it place live =
       join_waits text image old slot word x r
-      (frame_of (words_of image) r.frames.words.items (depth_of r.frames - 1) (innermost r.frames))
-      (frames_below (words_of image) r.frames.words.items r.frames.frames.items (depth_of r.frames - 1)) rest
+      (frame_of (words_of image) r.frames.highest_stack r.frames.words.items (depth_of r.frames - 1) (innermost r.frames))
+      (frames_below (words_of image) r.frames.highest_stack r.frames.words.items r.frames.frames.items (depth_of r.frames - 1)) rest
       is there rests runs act first_of_all read place live
 
   -- there is no such thread
@@ -98,8 +98,8 @@ module _ (text : List BareDef) (image : CodeImage) (old : RunState) (slot word :
       → Moved text slot (world_of image old) (world_of image (record old { finish = Some (Trapped NotJoined slot) })) old.output.items old.output.items
   none_joined none nothing =
       let new : CodeWorld = world_of image (record old { finish = Some (Trapped NotJoined slot) }) in
-      let frame : CodeFrame = frame_of (words_of image) r.frames.words.items (depth_of r.frames - 1) (innermost r.frames) in
-      let below : List CodeFrame = frames_below (words_of image) r.frames.words.items r.frames.frames.items (depth_of r.frames - 1) in
+      let frame : CodeFrame = frame_of (words_of image) r.frames.highest_stack r.frames.words.items (depth_of r.frames - 1) (innermost r.frames) in
+      let below : List CodeFrame = frames_below (words_of image) r.frames.highest_stack r.frames.words.items r.frames.frames.items (depth_of r.frames - 1) in
       join_moves text image old slot word x r frame below rest is there rests runs act first_of_all read new old.output.items none
       (subst (λ (o : Option (ℕ × ℕ)). Joined (text ∷ []) (at slot r x frame below) (world_of image old) rest o new) (sym nothing) refl) refl
 

@@ -25,3 +25,5 @@ pub mod SlotWalks
 pub mod ThreadSlots
 pub mod AskedThreads
 pub mod AskedWaits
+pub mod LeadingMoves
+pub mod SlotOfWords

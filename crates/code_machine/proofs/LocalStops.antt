@@ -15,6 +15,7 @@ use Rattle.code_runs.specs.CodeData.{Data, Names}
 use Rattle.code_runs.specs.CodeThreads.{CodeEnter, CodeFrame, CodeSlot, CodeThread, CodeWorld, Live, Over, Enters as EntersSeen}
 use Rattle.code_runs.specs.CodeMoves.{At, Closes, Continues, GoesOn, Returned, StopMade, called, ended, going, with_slot}
 use Rattle.code_runs.specs.SharedStops.{One, goes}
+use Rattle.code_runs.specs.Layouts.{one_text}
 use Rattle.word_frames.specs.declared.frames.Frames.{Frames}
 use Rattle.word_frames.specs.Seen.{depth_of, frame_of, frames_below, frames_of, innermost, stack_base, stack_of}
 use Rattle.word_frames.proofs.FrameLists.{innermost_first}
@@ -57,8 +58,8 @@ module _ (t : Table) (names : Names) (text : List BareDef) (function : ℕ → O
 
   pass_came : (s : Stop) → Acts t names text function s PassAct → (a : At) (w new : CodeWorld)
       → Continues (text ∷ []) a a.thread a.frame.state.stack (record w { shared = w.shared }) new → StopCame text a s w Goes new []
-  pass_came Back e a w new c = (refl, (goes w.shared a.frame.state.stack, (refl, (refl, c))))
-  pass_came Update e a w new c = (refl, (goes w.shared a.frame.state.stack, (refl, (refl, c))))
+  pass_came Back e a w new c = (refl, (w.shared, (one_text refl, (goes w.shared a.frame.state.stack, (refl, (refl, c))))))
+  pass_came Update e a w new c = (refl, (w.shared, (one_text refl, (goes w.shared a.frame.state.stack, (refl, (refl, c))))))
   pass_came _ e a w new c = absurd e
 
 module _ (text : List BareDef) (image : CodeImage) (r : Running) (x : StopPlace) (is : IsImage text image) (rests : RestsAt image.functions.items r x) where
@@ -145,12 +146,12 @@ module _ (text : List BareDef) (image : CodeImage) (r : Running) (x : StopPlace)
 
   pub stays_out : x.act ≡ EndAct → r.depth ≡ 0 → StoppedAlone text image x r r Stays
   stays_out act none = λ slot d output.
-      let frame : CodeFrame = frame_of (words_of image) r.frames.words.items (depth_of r.frames - 1) (innermost r.frames) in
-      let below : List CodeFrame = frames_below (words_of image) r.frames.words.items r.frames.frames.items (depth_of r.frames - 1) in
+      let frame : CodeFrame = frame_of (words_of image) r.frames.highest_stack r.frames.words.items (depth_of r.frames - 1) (innermost r.frames) in
+      let below : List CodeFrame = frames_below (words_of image) r.frames.highest_stack r.frames.words.items r.frames.frames.items (depth_of r.frames - 1) in
       record {
         frame = frame;
         below = below;
-        frames = innermost_first (words_of image) r.frames.words.items r.frames.frames.items (depth_of r.frames) (stood_there image.functions.items r x rests).some;
+        frames = innermost_first (words_of image) r.frames.highest_stack r.frames.words.items r.frames.frames.items (depth_of r.frames) (stood_there image.functions.items r x rests).some;
         printed = [];
         output = sym (append-nil output);
         unchanged = (refl, refl);
@@ -200,7 +201,7 @@ module _ (text : List BareDef) (image : CodeImage) (r : Running) (x : StopPlace)
       let caller : CodeFrame = change.with_word l.word l.next in
       let head : w.frame ≡ caller = same_head w.frame caller w.below l.below (sym w.before ∙ l.after) in
       let rest : w.below ≡ l.below = same_rest w.frame caller w.below l.below (sym w.before ∙ l.after) in
-      let seen : caller ≡ frame_of (words_of image) mid.words.items (depth_of mid - 1) (innermost mid) = sym head ∙ head_is (words_of image) mid w.frame w.below some w.before in
+      let seen : caller ≡ frame_of (words_of image) mid.highest_stack mid.words.items (depth_of mid - 1) (innermost mid) = sym head ∙ head_is (words_of image) mid w.frame w.below some w.before in
       let place : (innermost mid).place ≡ l.next.state.place = ap (λ (f : CodeFrame). f.state.place) (sym seen) in
       let stack : stack_of mid (innermost mid).height ≡ l.word ∷ l.next.state.stack = ap (λ (f : CodeFrame). f.state.stack) (sym seen) in
       let point : (innermost mid).point ≡ l.next.standing = ap (λ (f : CodeFrame). f.standing) (sym seen) in
@@ -233,26 +234,26 @@ module _ (text : List BareDef) (image : CodeImage) (r : Running) (x : StopPlace)
       }
 
   -- the only frame of a thread
-  only : depth_of r.frames ≤ 1 → frames_of (words_of image) r.frames ≡ frame_of (words_of image) r.frames.words.items (depth_of r.frames - 1) (innermost r.frames) ∷ []
+  only : depth_of r.frames ≤ 1 → frames_of (words_of image) r.frames ≡ frame_of (words_of image) r.frames.highest_stack r.frames.words.items (depth_of r.frames - 1) (innermost r.frames) ∷ []
   only few =
       let stood = stood_there image.functions.items r x rests in
       let none : depth_of r.frames - 1 ≡ 0 = omega (arith, stood.some) in
-      innermost_first (words_of image) r.frames.words.items r.frames.frames.items (depth_of r.frames) stood.some
-      ∙ ap (λ (n : ℕ). frame_of (words_of image) r.frames.words.items (depth_of r.frames - 1) (innermost r.frames) ∷ frames_below (words_of image) r.frames.words.items r.frames.frames.items n) none
+      innermost_first (words_of image) r.frames.highest_stack r.frames.words.items r.frames.frames.items (depth_of r.frames) stood.some
+      ∙ ap (λ (n : ℕ). frame_of (words_of image) r.frames.highest_stack r.frames.words.items (depth_of r.frames - 1) (innermost r.frames) ∷ frames_below (words_of image) r.frames.highest_stack r.frames.words.items r.frames.frames.items n) none
 
   -- what a return from it comes to
   returned : (slot word : ℕ) (rest : List ℕ) (new : CodeWorld) (w : CodeWorld) → downward r.frames.words.items (stack_base r.frames) (innermost r.frames).height ≡ word ∷ rest
       → new ≡ ended w slot r.serial word
-      → StopMade (text ∷ []) (names_of text) (at slot r x (frame_of (words_of image) r.frames.words.items (depth_of r.frames - 1) (innermost r.frames)) []) Return w new []
+      → StopMade (text ∷ []) (names_of text) (at slot r x (frame_of (words_of image) r.frames.highest_stack r.frames.words.items (depth_of r.frames - 1) (innermost r.frames)) []) Return w new []
   returned slot word rest new w read is_ended =
-      let a : At = at slot r x (frame_of (words_of image) r.frames.words.items (depth_of r.frames - 1) (innermost r.frames)) [] in
+      let a : At = at slot r x (frame_of (words_of image) r.frames.highest_stack r.frames.words.items (depth_of r.frames - 1) (innermost r.frames)) [] in
       (refl, subst (λ (st : List ℕ). One st (λ n under. Returned (text ∷ []) a w n [] new)) (sym read) is_ended)
 
   pub finished : (f : Finish) (word : ℕ) (rest : List ℕ) (slot : ℕ) → x.act ≡ ReturnAct → depth_of r.frames ≤ 1 → slot ≡ 0
       → downward r.frames.words.items (stack_base r.frames) (innermost r.frames).height ≡ word ∷ rest → finish_of f ≡ FinishedSeen (number_at I32 word)
       → (d : Data) (output : List ℕ) → Stopped text image slot x r r d d output output (Ends f)
   finished f word rest slot act few main read number = λ d output.
-      let frame : CodeFrame = frame_of (words_of image) r.frames.words.items (depth_of r.frames - 1) (innermost r.frames) in
+      let frame : CodeFrame = frame_of (words_of image) r.frames.highest_stack r.frames.words.items (depth_of r.frames - 1) (innermost r.frames) in
       let a : At = at slot r x frame [] in
       record {
         frame = frame;
@@ -279,7 +280,7 @@ module _ (text : List BareDef) (image : CodeImage) (r : Running) (x : StopPlace)
       → (d : Data) (output : List ℕ) → Stopped text image slot x r (record r { stand = OverStand word }) d d output output Goes
   ended_so word rest slot act few other read = λ d output.
       let new : Running = record r { stand = OverStand word } in
-      let frame : CodeFrame = frame_of (words_of image) r.frames.words.items (depth_of r.frames - 1) (innermost r.frames) in
+      let frame : CodeFrame = frame_of (words_of image) r.frames.highest_stack r.frames.words.items (depth_of r.frames - 1) (innermost r.frames) in
       let a : At = at slot r x frame [] in
       record {
         frame = frame;

@@ -41,9 +41,9 @@ pub lost : (text : List BareDef) (image : CodeImage) (run : RunState) (slot : �
 lost text image run slot r g is fits there live next found none =
     let t = words_of image in
     let stood : Stood image.functions.items r.frames RestsThere = fits.stood RestsThere next in
-    let frame : CodeFrame = frame_of t r.frames.words.items (depth_of r.frames - 1) (innermost r.frames) in
-    let below : List CodeFrame = frames_below t r.frames.words.items r.frames.frames.items (depth_of r.frames - 1) in
-    let frames : frames_of t r.frames ≡ frame ∷ below = innermost_first t r.frames.words.items r.frames.frames.items (depth_of r.frames) stood.some in
+    let frame : CodeFrame = frame_of t r.frames.highest_stack r.frames.words.items (depth_of r.frames - 1) (innermost r.frames) in
+    let below : List CodeFrame = frames_below t r.frames.highest_stack r.frames.words.items r.frames.frames.items (depth_of r.frames - 1) in
+    let frames : frames_of t r.frames ≡ frame ∷ below = innermost_first t r.frames.highest_stack r.frames.words.items r.frames.frames.items (depth_of r.frames) stood.some in
     let here : IsFrame image.functions.items (innermost r.frames) = fits.frames (depth_of r.frames - 1) (omega (arith, stood.some)) in
     let code : frame_code (text ∷ []) frame ≡ code_of t g.verified.body.code.items = code_is text image r.frames g frame below is stood.some here found frames in
     let of : IsFunctionOf t text image.functions.items g = all (IsFunctionOf t text image.functions.items) image.functions.items (innermost r.frames).unit g is.functions found in

@@ -13,6 +13,7 @@ use Rattle.word_frames.specs.Seen.{IsKept, depth_of, innermost, no_frame, stack_
 use Rattle.code_image.specs.declared.act.StopPlace.{StopPlace}
 use Rattle.code_image.specs.declared.function.CodeFunction.{CodeFunction}
 use Rattle.code_image.specs.declared.image.CodeImage.{CodeImage}
+use Rattle.code_image.specs.Stacks.{AreNeverHigher}
 use Rattle.code_image.specs.StopHeights.{StopFits, act_leaves, act_takes, returns}
 use Rattle.code_machine.specs.declared.running.Next.{Next}
 use Rattle.code_machine.specs.declared.running.Next.TheVariants.{Enters, Stands}
@@ -49,9 +50,9 @@ module _ (functions : List CodeFunction) (r : Running) (x : StopPlace) (rests : 
       subst (HasHeight g.verified.heights.items x.after) (sym is) ((stop_fits g found).leads (innermost r.frames).height (stood_there.height g found) goes)
 
   -- so it can go on, also where words of its stack changed
-  pub can_resume : (mid : Frames) (h : ℕ) → IsKept mid → mid.frames.items ≡ r.frames.frames.items → returns x.act ≡ false
-      → h ≡ (innermost r.frames).height - act_takes x.act + act_leaves x.act → CanGoOn functions (record r { frames = mid }) x.after h
-  can_resume mid h kept same goes is = record {
+  pub can_resume : (mid : Frames) (h : ℕ) → IsKept mid → mid.highest_stack ≡ r.frames.highest_stack → mid.frames.items ≡ r.frames.frames.items
+      → returns x.act ≡ false → h ≡ (innermost r.frames).height - act_takes x.act + act_leaves x.act → CanGoOn functions (record r { frames = mid }) x.after h
+  can_resume mid h kept high same goes is = record {
     kept = kept;
     serial = rests.fits.serial;
     frames = subst (λ (fs : List Frame). (n : ℕ) → n < length fs → IsFrame functions (slice_index_or fs n no_frame)) (sym same) rests.fits.frames;
@@ -60,6 +61,7 @@ module _ (functions : List CodeFunction) (r : Running) (x : StopPlace) (rests : 
     wait =
         subst (λ (fs : List Frame). (n : ℕ) → n < length fs - 1
         → HasHeightAt functions (slice_index_or fs n no_frame) (slice_index_or fs n no_frame).place (suc (slice_index_or fs n no_frame).height)) (sym same) stood_there.wait;
+    stacks = subst (λ (k : ℕ). AreNeverHigher k functions) (sym high) rests.fits.stacks;
   }
 
 -- it went on with the stack that it had
@@ -86,10 +88,10 @@ pub depth_set : (image : CodeImage) (r : Running) (k : ℕ) → thread_of image 
 depth_set image r k = with_depth image r k r.next
 
 pub fits_deeper : (functions : List CodeFunction) (r : Running) (k : ℕ) → Fits functions r → Fits functions (record r { depth = k })
-fits_deeper functions r k fits = record { kept = fits.kept; serial = fits.serial; frames = fits.frames; due = fits.due; stood = fits.stood }
+fits_deeper functions r k fits = record { kept = fits.kept; serial = fits.serial; frames = fits.frames; due = fits.due; stood = fits.stood; stacks = fits.stacks }
 
 pub fits_standing : (functions : List CodeFunction) (r : Running) (stand : Stand) → Fits functions r → Fits functions (record r { stand = stand })
-fits_standing functions r stand fits = record { kept = fits.kept; serial = fits.serial; frames = fits.frames; due = fits.due; stood = fits.stood }
+fits_standing functions r stand fits = record { kept = fits.kept; serial = fits.serial; frames = fits.frames; due = fits.due; stood = fits.stood; stacks = fits.stacks }
 
 -- the world in which a thread goes on
 pub continues : (image : CodeImage) (new : Running) (slot : ℕ) (d : Data) (w : CodeWorld) (th : CodeThread) (next : CodeFrame) → new.stand ≡ LiveStand

@@ -18,6 +18,7 @@ use Rattle.code_runs.specs.CodeThreads.{CodeFrame, CodeWorld}
 use Rattle.code_runs.specs.CodeMoves.{At, Comes, GoesOn, StopMade}
 use Rattle.code_runs.specs.CodeWaits.{at_stop}
 use Rattle.code_runs.specs.SharedStops.{Answered, Came, Does, Done}
+use Rattle.code_runs.specs.Layouts.{one_text}
 use Rattle.code_runs.specs.SharedStops as shared
 use Rattle.word_frames.specs.declared.frame.Frame.{Frame}
 use Rattle.word_frames.specs.declared.frames.Frames.{Frames}
@@ -69,18 +70,18 @@ module _ (t : Table) (text : List BareDef) where
   made : (s : Stop) (sh : SharedStop) → Resolves t (names_of text) text s sh → (a : At) (w new : CodeWorld) (x : Done)
       → Does (names_of text) text a.slot s w.shared a.frame.state.stack x → Comes (text ∷ []) a w x.shared x.came new
       → StopMade (text ∷ []) (names_of text) a s w new x.printed
-  made (ReadGlobal name) sh r a w new x does comes = (x, (does, (refl, comes)))
-  made (WriteGlobal name) sh r a w new x does comes = (x, (does, (refl, comes)))
-  made (ReadElement name) sh r a w new x does comes = (x, (does, (refl, comes)))
-  made (WriteElement name) sh r a w new x does comes = (x, (does, (refl, comes)))
-  made (ReadField tag name) sh r a w new x does comes = (x, (does, (refl, comes)))
-  made (WriteField tag name) sh r a w new x does comes = (x, (does, (refl, comes)))
-  made (New tag) sh r a w new x does comes = (x, (does, (refl, comes)))
-  made (Free tag) sh r a w new x does comes = (x, (does, (refl, comes)))
-  made (Print format n) sh r a w new x does comes = (x, (does, (refl, comes)))
-  made (InitMutex name) sh r a w new x does comes = (x, (does, (refl, comes)))
-  made (Lock name) sh r a w new x does comes = (x, (does, (refl, comes)))
-  made (Unlock name) sh r a w new x does comes = (x, (does, (refl, comes)))
+  made (ReadGlobal name) sh r a w new x does comes = (w.shared, (one_text refl, (x, (does, (refl, comes)))))
+  made (WriteGlobal name) sh r a w new x does comes = (w.shared, (one_text refl, (x, (does, (refl, comes)))))
+  made (ReadElement name) sh r a w new x does comes = (w.shared, (one_text refl, (x, (does, (refl, comes)))))
+  made (WriteElement name) sh r a w new x does comes = (w.shared, (one_text refl, (x, (does, (refl, comes)))))
+  made (ReadField tag name) sh r a w new x does comes = (w.shared, (one_text refl, (x, (does, (refl, comes)))))
+  made (WriteField tag name) sh r a w new x does comes = (w.shared, (one_text refl, (x, (does, (refl, comes)))))
+  made (New tag) sh r a w new x does comes = (w.shared, (one_text refl, (x, (does, (refl, comes)))))
+  made (Free tag) sh r a w new x does comes = (w.shared, (one_text refl, (x, (does, (refl, comes)))))
+  made (Print format n) sh r a w new x does comes = (w.shared, (one_text refl, (x, (does, (refl, comes)))))
+  made (InitMutex name) sh r a w new x does comes = (w.shared, (one_text refl, (x, (does, (refl, comes)))))
+  made (Lock name) sh r a w new x does comes = (w.shared, (one_text refl, (x, (does, (refl, comes)))))
+  made (Unlock name) sh r a w new x does comes = (w.shared, (one_text refl, (x, (does, (refl, comes)))))
   made _ sh r a w new x does comes = absurd r
 
   -- which isn't waited for
@@ -101,20 +102,20 @@ module _ (text : List BareDef) (image : CodeImage) (slot : ℕ) (r : Running) (x
     (rests : RestsAt image.functions.items r x) (act : x.act ≡ SharedAct stop) (d e : Data) (bytes before after : List ℕ)
     (printed : after ≡ before ++ bytes) where
   -- it goes on
-  pub performed_on : (mid : Frames) (new : Running) (h : ℕ) → mid.frames.items ≡ r.frames.frames.items
+  pub performed_on : (mid : Frames) (new : Running) (h : ℕ) → mid.highest_stack ≡ r.frames.highest_stack → mid.frames.items ≡ r.frames.frames.items
       → ((i : ℕ) → i < stack_base r.frames → slice_index mid.words.items i ≡ slice_index r.frames.words.items i) → new.stand ≡ LiveStand
       → Does (names_of text) text slot (stop_of (words_of image) x.stop) d (downward r.frames.words.items (stack_base r.frames) (innermost r.frames).height)
       (record { shared = e; printed = bytes; came = shared.On (downward mid.words.items (stack_base r.frames) h) })
       → WentOn text image (record r { frames = mid }) new x.point x.after h
       → Stopped text image slot x r new d e before after Goes
-  performed_on mid new h same elsewhere stand does w =
+  performed_on mid new h high same elsewhere stand does w =
       let t = words_of image in
       let stood : Stood image.functions.items r.frames RestsThere = stood_there image.functions.items r x rests in
-      let c : StackChanged t r.frames mid = stack_changed t r.frames mid rests.fits.kept stood.some same elsewhere in
+      let c : StackChanged t r.frames mid = stack_changed t r.frames mid rests.fits.kept stood.some high same elsewhere in
       let st : List ℕ = stack_of mid (innermost mid).height in
       let head : w.frame ≡ with_stack st c.frame = same_head w.frame (with_stack st c.frame) w.below c.below (sym w.before ∙ c.after) in
       let rest : w.below ≡ c.below = same_rest w.frame (with_stack st c.frame) w.below c.below (sym w.before ∙ c.after) in
-      let low : stack_base mid ≡ stack_base r.frames = ap (λ (fs : List Frame). low_of (length fs - 1)) same in
+      let low : stack_base mid ≡ stack_base r.frames = ap (λ (fs : List Frame). low_of mid.highest_stack (length fs - 1)) same ∙ ap (λ (k : ℕ). low_of k (depth_of r.frames - 1)) high in
       let g : GoesOn (text ∷ []) (with_stack st c.frame) x.after (downward mid.words.items (stack_base r.frames) h) x.point w.next =
       subst (λ (b : ℕ). GoesOn (text ∷ []) (with_stack st c.frame) x.after (downward mid.words.items b h) x.point w.next) low
       (subst (λ (f : CodeFrame). GoesOn (text ∷ []) f x.after (stack_of mid h) x.point w.next) head w.goes) in
@@ -150,15 +151,15 @@ module _ (text : List BareDef) (image : CodeImage) (slot : ℕ) (r : Running) (x
       → Stopped text image slot x r new d e before after (Ends (Trapped kind slot))
   performed_trap new kind same does =
       let t = words_of image in
-      let frame : CodeFrame = frame_of t r.frames.words.items (depth_of r.frames - 1) (innermost r.frames) in
-      let below : List CodeFrame = frames_below t r.frames.words.items r.frames.frames.items (depth_of r.frames - 1) in
+      let frame : CodeFrame = frame_of t r.frames.highest_stack r.frames.words.items (depth_of r.frames - 1) (innermost r.frames) in
+      let below : List CodeFrame = frames_below t r.frames.highest_stack r.frames.words.items r.frames.frames.items (depth_of r.frames - 1) in
       let a : At = at slot r x frame below in
       let done : Done = record { shared = e; printed = bytes; came = shared.Traps kind } in
       let s : Stop = stop_of t x.stop in
       record {
         frame = frame;
         below = below;
-        frames = innermost_first t r.frames.words.items r.frames.frames.items (depth_of r.frames) (stood_there image.functions.items r x rests).some;
+        frames = innermost_first t r.frames.highest_stack r.frames.words.items r.frames.frames.items (depth_of r.frames) (stood_there image.functions.items r x rests).some;
         printed = bytes;
         output = printed;
         unchanged = same;
@@ -176,13 +177,13 @@ module _ (text : List BareDef) (image : CodeImage) (slot : ℕ) (r : Running) (x
       → Stopped text image slot x r new d e before after Stays
   performed_waits new holder name same kept none lock answer =
       let t = words_of image in
-      let frame : CodeFrame = frame_of t r.frames.words.items (depth_of r.frames - 1) (innermost r.frames) in
-      let below : List CodeFrame = frames_below t r.frames.words.items r.frames.frames.items (depth_of r.frames - 1) in
+      let frame : CodeFrame = frame_of t r.frames.highest_stack r.frames.words.items (depth_of r.frames - 1) (innermost r.frames) in
+      let below : List CodeFrame = frames_below t r.frames.highest_stack r.frames.words.items r.frames.frames.items (depth_of r.frames - 1) in
       let found = lock_waits name slot holder (holder_of d.holders (number_of (names_of text).mutexes name)) answer in
       record {
         frame = frame;
         below = below;
-        frames = innermost_first t r.frames.words.items r.frames.frames.items (depth_of r.frames) (stood_there image.functions.items r x rests).some;
+        frames = innermost_first t r.frames.highest_stack r.frames.words.items r.frames.frames.items (depth_of r.frames) (stood_there image.functions.items r x rests).some;
         printed = bytes;
         output = printed;
         unchanged = (same, kept);

@@ -5,10 +5,8 @@ use Rattle.std.specs.List.{position, position_from}
 use Rattle.std.proofs.lemmas.Option.{same_Some}
 use Rattle.std.proofs.lemmas.Iterator.Adapters.{position_from-zero}
 use Rattle.std.proofs.lemmas.List.{drop_all, length-map}
-use Rattle.source_model.specs.Waits.{ForThread}
 use Rattle.code_runs.specs.CodeThreads.{CodeSlot}
 use Rattle.code_runs.specs.CodeMoves.{is_free, left_from, left_in, or_else, with_place}
-use Rattle.code_runs.specs.CodeWaits.{joined_from, lives_as}
 use Rattle.code_machine.specs.declared.running.Running.{Running}
 
 -- the slots from one on
@@ -20,24 +18,6 @@ slots_at f (s ∷ rs) (suc i) r e = slots_at f rs i r e
 module _ (f : Running → CodeSlot) (rs : List Running) where
   none_left : (i : ℕ) → length rs ≤ i → drop i (map f rs) ≡ []
   none_left i h = drop_all i (map f rs) (omega (arith, h, length-map rs f))
-
-  -- ---- the thread of a word that lives
-
-  lives_at : (w i : ℕ) (r : Running) → slice_get rs i ≡ Some r
-      → joined_from w i (drop i (map f rs)) ≡ cond (lives_as w i (f r)) (Some (ForThread i)) (joined_from w (suc i) (drop (suc i) (map f rs)))
-  lives_at w i r there = ap (joined_from w i) (slots_at f rs i r there)
-
-  pub lives_here : (w i : ℕ) (r : Running) → slice_get rs i ≡ Some r → lives_as w i (f r) ≡ true → joined_from w i (drop i (map f rs)) ≡ Some (ForThread i)
-  lives_here w i r there e = lives_at w i r there ∙ ap (λ (b : Bool). cond b (Some (ForThread i)) (joined_from w (suc i) (drop (suc i) (map f rs)))) e
-
-  pub lives_later : (w i : ℕ) (r : Running) → slice_get rs i ≡ Some r → lives_as w i (f r) ≡ false
-      → joined_from w i (drop i (map f rs)) ≡ joined_from w (i + 1) (drop (i + 1) (map f rs))
-  lives_later w i r there e =
-      lives_at w i r there ∙ ap (λ (b : Bool). cond b (Some (ForThread i)) (joined_from w (suc i) (drop (suc i) (map f rs)))) e
-      ∙ ap (λ (k : ℕ). joined_from w k (drop k (map f rs))) (sym (add-one i))
-
-  pub lives_nowhere : (w i : ℕ) → length rs ≤ i → joined_from w i (drop i (map f rs)) ≡ None
-  lives_nowhere w i h = ap (joined_from w i) (none_left i h)
 
   -- ---- the word that the thread of a word left
 

@@ -8,6 +8,7 @@ use Rattle.word_frames.specs.Blocks.{base_of}
 use Rattle.word_frames.specs.Seen.{HasArguments, IsKept, arguments_at, arguments_of, depth_of, frames_below, frames_of}
 use Rattle.code_image.specs.declared.function.CodeFunction.{CodeFunction}
 use Rattle.code_image.specs.declared.image.CodeImage.{CodeImage}
+use Rattle.code_image.specs.Stacks.{AreNeverHigher}
 use Rattle.code_machine.specs.declared.running.Next.TheVariants.{Enters, Stands}
 use Rattle.code_machine.specs.declared.running.Running.{Running}
 use Rattle.code_machine.specs.declared.running.Stand.TheVariants.{Live as LiveStand}
@@ -28,13 +29,13 @@ not_stands a m end e = cc
 pub no_arguments : (s : Frames) → s.frames.items ≡ [] → HasArguments s 0
 no_arguments s none = record {
   few = omega arith;
-  inside = subst (λ (fs : List Frame). arguments_at (length fs) fs + 0 ≤ base_of (length fs)) (sym none) (omega arith);
+  inside = subst (λ (fs : List Frame). arguments_at s.highest_stack (length fs) fs + 0 ≤ base_of s.highest_stack (length fs)) (sym none) (omega arith);
 }
 
 -- a thread with no frames, that enters a function
 pub fresh : (functions : List CodeFunction) (s : Frames) (r : Running) (main count : ℕ) → r.frames ≡ s → IsKept s → s.frames.items ≡ [] → r.serial < most_threads
-    → r.next ≡ Enters main count → main < length functions → HasArguments s count → Fits functions r
-fresh functions s r main count same kept none serial next inside there =
+    → r.next ≡ Enters main count → main < length functions → AreNeverHigher s.highest_stack functions → HasArguments s count → Fits functions r
+fresh functions s r main count same kept none serial next inside stacks there =
     let empty : depth_of r.frames ≡ 0 = ap (λ (q : Frames). depth_of q) same ∙ ap (λ (fs : List Frame). length fs) none in
     record {
       kept = subst IsKept (sym same) kept;
@@ -46,6 +47,7 @@ fresh functions s r main count same kept none serial next inside there =
         wait = λ k h. absurd (omega (arith, empty));
       };
       stood = λ end e. absurd (not_stands main count end (sym next ∙ e));
+      stacks = subst (λ (q : Frames). AreNeverHigher q.highest_stack functions) (sym same) stacks;
     }
 
 -- a thread that starts
@@ -54,7 +56,7 @@ pub starts : (image : CodeImage) (s : Frames) (r : Running) (function serial : �
     → slot_of image r ≡ Live (starting serial (record { function = name_at image function; arguments = arguments; version = 1 }))
 starts image s r function serial arguments count same none given stand number outside next =
     let all : frames_of (words_of image) r.frames ≡ [] =
-    ap (λ (q : Frames). frames_of (words_of image) q) same ∙ ap (λ (fs : List Frame). frames_below (words_of image) s.words.items fs (length fs)) none in
+    ap (λ (q : Frames). frames_of (words_of image) q) same ∙ ap (λ (fs : List Frame). frames_below (words_of image) s.highest_stack s.words.items fs (length fs)) none in
     let words : arguments_of r.frames count ≡ arguments = ap (λ (q : Frames). arguments_of q count) same ∙ given in
     let e : CodeEnter = record { function = name_at image function; arguments = arguments; version = 1 } in
     let enter : enter_of image r.frames function count ≡ e = ap (λ (ws : List ℕ). record { function = name_at image function; arguments = ws; version = 1 }) words in

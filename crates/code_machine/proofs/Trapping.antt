@@ -36,9 +36,9 @@ pub trap_moves : (text : List BareDef) (image : CodeImage) (old : RunState) (slo
 trap_moves text image old slot kind r is fits there live next runs =
     let t = words_of image in
     let stood : Stood image.functions.items r.frames (TrapsThere kind) = fits.stood (TrapsThere kind) next in
-    let frame : CodeFrame = frame_of t r.frames.words.items (depth_of r.frames - 1) (innermost r.frames) in
-    let below : List CodeFrame = frames_below t r.frames.words.items r.frames.frames.items (depth_of r.frames - 1) in
-    let frames : frames_of t r.frames ≡ frame ∷ below = innermost_first t r.frames.words.items r.frames.frames.items (depth_of r.frames) stood.some in
+    let frame : CodeFrame = frame_of t r.frames.highest_stack r.frames.words.items (depth_of r.frames - 1) (innermost r.frames) in
+    let below : List CodeFrame = frames_below t r.frames.highest_stack r.frames.words.items r.frames.frames.items (depth_of r.frames - 1) in
+    let frames : frames_of t r.frames ≡ frame ∷ below = innermost_first t r.frames.highest_stack r.frames.words.items r.frames.frames.items (depth_of r.frames) stood.some in
     let here : IsFrame image.functions.items (innermost r.frames) = fits.frames (depth_of r.frames - 1) (omega (arith, stood.some)) in
     let found : (g : CodeFunction) × (slice_get image.functions.items (innermost r.frames).unit ≡ Some g) = some image.functions.items (innermost r.frames).unit here.inside in
     let code : frame_code (text ∷ []) frame ≡ code_of t (found.0).verified.body.code.items = code_is text image r.frames found.0 frame below is stood.some here found.1 frames in

@@ -1,12 +1,11 @@
 -- A thread whose words are kept elsewhere, and are the same or changed on its stack alone.
-use Rattle.std.proofs.Common.{◌≡◌, ℕ, ◌<◌, List, length, vec_capacity, refl, sym, subst, ap, ◌∙◌}
+use Rattle.std.proofs.Common.{◌≡◌, ℕ, ◌+◌, ◌<◌, ◌≤◌, List, length, vec_capacity, refl, sym, subst, ap, ◌∙◌}
 use Rattle.std.specs.Prelude.{Vec}
 use Rattle.std.specs.declared.alloc.Global.{Global}
-use Rattle.source_model.specs.Moves.{frame_count}
 use Rattle.code_runs.specs.CodeThreads.{Live as LiveSlot}
-use Rattle.thread_state.specs.Frames.{upward}
+use Rattle.thread_state.specs.Frames.{most_words, upward}
 use Rattle.word_frames.specs.declared.frames.Frames.{Frames}
-use Rattle.word_frames.specs.Blocks.{base_of}
+use Rattle.word_frames.specs.Blocks.{base_of, words_for}
 use Rattle.word_frames.specs.Seen.{IsKept, arguments_at, depth_of, frames_below}
 use Rattle.code_image.specs.declared.function.CodeFunction.{CodeFunction}
 use Rattle.code_image.specs.declared.image.CodeImage.{CodeImage}
@@ -23,9 +22,10 @@ pub kept_words : (s : Frames) (v : Vec ℕ Global) → IsKept s → length v.ite
     → IsKept (record s { words = v })
 kept_words s v kept long room = record {
   few = kept.few;
-  words = subst (λ (n : ℕ). base_of (depth_of s) < n) (sym long) kept.words;
+  most = kept.most;
+  words = subst (λ (n : ℕ). base_of s.highest_stack (depth_of s) + most_words < n) (sym long) kept.words;
   low = kept.low;
-  words_fit = subst (λ (n : ℕ). base_of frame_count < n) (sym room) kept.words_fit;
+  words_fit = subst (λ (n : ℕ). words_for s.highest_stack ≤ n) (sym room) kept.words_fit;
   frames_fit = kept.frames_fit;
 }
 
@@ -46,16 +46,17 @@ module _ (r : Running) (v : Vec ℕ Global) (same : v.items ≡ r.frames.words.i
           some = s.some;
           height = s.height;
           ends = λ t g f below found seen.
-              s.ends t g f below found (sym (ap (λ (ws : List ℕ). frames_below t ws r.frames.frames.items (depth_of r.frames)) same) ∙ seen);
+              s.ends t g f below found (sym (ap (λ (ws : List ℕ). frames_below t r.frames.highest_stack ws r.frames.frames.items (depth_of r.frames)) same) ∙ seen);
           wait = s.wait;
         };
+    stacks = fits.stacks;
   }
 
   same_thread : (image : CodeImage) (n : Next) → thread_by image (record r { frames = record r.frames { words = v } }) n ≡ thread_by image r n
   same_thread image (Enters n count) =
-      ap (λ (ws : List ℕ). entering_with r (record { function = name_at image n; arguments = upward ws (arguments_at (depth_of r.frames) r.frames.frames.items) count; version = 1 })
-      (frames_below (words_of image) ws r.frames.frames.items (depth_of r.frames))) same
-  same_thread image (Stands end) = ap (λ (ws : List ℕ). standing_with r (frames_below (words_of image) ws r.frames.frames.items (depth_of r.frames))) same
+      ap (λ (ws : List ℕ). entering_with r (record { function = name_at image n; arguments = upward ws (arguments_at r.frames.highest_stack (depth_of r.frames) r.frames.frames.items) count; version = 1 })
+      (frames_below (words_of image) r.frames.highest_stack ws r.frames.frames.items (depth_of r.frames))) same
+  same_thread image (Stands end) = ap (λ (ws : List ℕ). standing_with r (frames_below (words_of image) r.frames.highest_stack ws r.frames.frames.items (depth_of r.frames))) same
 
   same_slot : (image : CodeImage) (s : Stand) → slot_by image (record r { frames = record r.frames { words = v } }) s ≡ slot_by image r s
   same_slot image Free = refl

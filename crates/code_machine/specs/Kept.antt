@@ -12,6 +12,7 @@ use Rattle.word_frames.specs.declared.frame.Frame.{Frame}
 use Rattle.word_frames.specs.declared.frames.Frames.{Frames}
 use Rattle.word_frames.specs.Seen.{HasArguments, IsKept, depth_of, frame_at, frames_of, innermost}
 use Rattle.code_image.specs.declared.function.CodeFunction.{CodeFunction}
+use Rattle.code_image.specs.Stacks.{AreNeverHigher}
 use Rattle.code_machine.specs.declared.running.Next.TheVariants.{Enters, Stands}
 use Rattle.code_machine.specs.declared.running.Running.{Running}
 
@@ -56,13 +57,14 @@ pub record Due (functions : List CodeFunction) (s : Frames) (n count : ℕ) : Ty
   pub there : HasArguments s count
   pub wait : Wait functions s (depth_of s)
 
--- the frames of a slot fit its functions, and what its thread does next
+-- the frames of a slot fit its functions, whose stacks they have the words for, and what its thread does next
 pub record Fits (functions : List CodeFunction) (r : Running) : Type 0 where
   pub kept : IsKept r.frames
   pub serial : r.serial < most_threads
   pub frames : (n : ℕ) → n < depth_of r.frames → IsFrame functions (frame_at r.frames n)
   pub due : (n count : ℕ) → r.next ≡ Enters n count → Due functions r.frames n count
   pub stood : (end : End) → r.next ≡ Stands end → Stood functions r.frames end
+  pub stacks : AreNeverHigher r.frames.highest_stack functions
 
 -- all slots do; there aren't many, nor were too many threads started
 pub record AreKept (functions : List CodeFunction) (slots : List Running) (threads : ℕ) : Type 0 where

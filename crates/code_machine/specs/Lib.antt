@@ -5,3 +5,4 @@ pub mod Enough
 pub mod Stops
 pub mod ThreadStops
 pub mod Queries
+pub mod Leading

@@ -88,10 +88,10 @@ HasNoStop text w t =
     → ((kind : TrapKind) × (step (frame_code (text ∷ []) f) f.state ≡ Traps kind))
     ⊎ ((s : Stop) (n after : ℕ) → Stops (frame_code (text ∷ []) f) s n f.state.place after → ⊥)
 
--- what is waited for
-abbrev pub waiting_of : CodeWait → Waiting
-waiting_of (wait.Mutex name holder) = ForMutex name.now holder
-waiting_of (wait.Thread slot) = ForThread slot
+-- what is waited for, by the table of names
+abbrev pub waiting_of : Table → CodeWait → Waiting
+waiting_of t (wait.Mutex name holder) = ForMutex (word t name) holder
+waiting_of t (wait.Thread slot) = ForThread slot
 
 -- what the thread in a slot waits for; a thread that is lost waits for nothing
 abbrev pub WaitsFor : List BareDef → CodeWorld → ℕ → Option Waiting → Type 0

@@ -65,5 +65,6 @@ pub record IsStart (text : List BareDef) (cells : List (List ℕ)) (objects slot
   pub objects_are : w.shared.objects ≡ record { capacity = objects; created = 0; live = empty }
   pub holders : w.shared.holders ≡ replicate (length (names_of text).mutexes) None
   pub slots_are : w.slots ≡ Live (starting 0 (record { function = codes "main"; arguments = []; version = 1 })) ∷ replicate (slots - 1) Free
+  pub version : w.shared.version ≡ 0
   pub threads : w.threads ≡ 1
   pub finish : w.finish ≡ None

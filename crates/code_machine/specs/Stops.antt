@@ -17,6 +17,7 @@ use Rattle.code_image.specs.StopHeights.{act_leaves, act_takes, returns}
 use Rattle.code_image.specs.declared.function.CodeFunction.{CodeFunction}
 use Rattle.code_image.specs.declared.image.CodeImage.{CodeImage}
 use Rattle.code_image.specs.Images.{names_of}
+use Rattle.code_image.specs.Stacks.{AreNeverHigher}
 use Rattle.code_machine.specs.declared.running.Next.{Next}
 use Rattle.code_machine.specs.declared.running.Next.TheVariants.{Enters, Stands}
 use Rattle.code_machine.specs.declared.running.Stand.TheVariants.{Live}
@@ -37,6 +38,7 @@ pub record CanGoOn (functions : List CodeFunction) (r : Running) (place height :
   pub some : 0 < depth_of r.frames
   pub high : HasHeightAt functions (innermost r.frames) place height
   pub wait : Wait functions r.frames (depth_of r.frames - 1)
+  pub stacks : AreNeverHigher r.frames.highest_stack functions
 
 -- no thread was in a slot yet; its next is that of main
 pub record IsFresh (r : Running) (main : ℕ) : Type 0 where

@@ -3,17 +3,16 @@ ghost use Rattle.std.specs.Prelude.{◌≡◌, ◌+◌, ◌-◌, ◌<◌, ◌≤
 ghost use Rattle.c_tree.specs.BareDef.{BareDef};
 ghost use Rattle.program_locks.specs.Slots.{most_slots};
 ghost use Rattle.code_runs.specs.CodeThreads.{Free as IsFree, Live as IsLive, starting};
-ghost use Rattle.code_image.specs.declared.function.CodeFunction.{CodeFunction as Function};
-ghost use Rattle.code_image.specs.declared.image.CodeImage.{CodeImage as Image};
 ghost use Rattle.code_image.specs.Images.{IsImage};
 ghost use Rattle.code_machine.specs.declared.running.Running.{Running as Slot};
 ghost use Rattle.code_machine.specs.Enough.{HasNumbers};
 ghost use Rattle.code_machine.specs.Kept.{Fits};
+ghost use Rattle.code_machine.specs.Leading.{Led, has_moved};
 ghost use Rattle.code_machine.specs.Seen.{code_world, image_of, name_at, output_of, slot_of};
 ghost use Rattle.code_machine.specs.Steps.{Came, IsStart};
 
 use crate::machine::CodeMachine;
-use crate::moves::step;
+use crate::moves::{CodeStep, step};
 use crate::running::{Running, Stand};
 use crate::state::RunState;
 use code_image::CodeImage;
@@ -21,29 +20,28 @@ use std::alloc::{AllocError, Global};
 use word_data::WordData;
 
 /// A slot in which main's thread lives.
-fn main_slot(alloc: Global, main: u32) -> Result<Running, AllocError>
-    ensures fits { (functions : List Function) → main < length functions → IfOk result (Fits functions) }
-    ensures seen { (image : Image) → IfOk result (λ r. slot_of image r
-        ≡ IsLive (starting 0 (record { function = name_at image main; arguments = []; version = 1 }))) }
+fn main_slot(alloc: Global, image: &CodeImage) -> Result<Running, AllocError>
+    ensures fits { IfOk result (Fits image.now.functions.items) }
+    ensures seen { IfOk result (λ r. slot_of image.now r
+        ≡ IsLive (starting 0 (record { function = name_at image.now image.now.main; arguments = []; version = 1 }))) }
 {
-    let mut running = Running::new(alloc, main)?;
+    let mut running = Running::new(alloc, image)?;
     running.stand = Stand::Live;
     Ok(running)
 }
 
 /// So many slots, and at least one; main's thread lives in the first.
-fn slots_of(alloc: Global, main: u32, count: u8) -> Result<Vec<Running>, AllocError>
+fn slots_of(alloc: Global, image: &CodeImage, count: u8) -> Result<Vec<Running>, AllocError>
     requires { count ≤ most_slots }
     ensures few { IfOk result (λ slots. length slots.items ≤ most_slots) }
-    ensures fit { (functions : List Function) → main < length functions
-        → IfOk result (λ slots. (n : ℕ) (r : Slot) → slice_get slots.items n ≡ Some r → Fits functions r) }
-    ensures seen { (image : Image) → IfOk result (λ slots. map (slot_of image) slots.items
-        ≡ IsLive (starting 0 (record { function = name_at image main; arguments = []; version = 1 })) ∷ replicate (count - 1) IsFree) }
+    ensures fit { IfOk result (λ slots. (n : ℕ) (r : Slot) → slice_get slots.items n ≡ Some r → Fits image.now.functions.items r) }
+    ensures seen { IfOk result (λ slots. map (slot_of image.now) slots.items
+        ≡ IsLive (starting 0 (record { function = name_at image.now image.now.main; arguments = []; version = 1 })) ∷ replicate (count - 1) IsFree) }
 {
     let mut slots = Vec::new(alloc);
-    slots.push(main_slot(alloc, main)?)?;
+    slots.push(main_slot(alloc, image)?)?;
     for _ in 1..count {
-        slots.push(Running::new(alloc, main)?)?;
+        slots.push(Running::new(alloc, image)?)?;
     }
     Ok(slots)
 }
@@ -66,7 +64,7 @@ impl CodeMachine {
         ensures silent { IfOk result (λ m. output_of m ≡ []) }
     {
         let shared = WordData::new(alloc, cells, objects, image.mutexes)?;
-        let slots = slots_of(alloc, image.main, slots)?;
+        let slots = slots_of(alloc, &image, slots)?;
         let output = Vec::with_capacity(alloc, image.longest_print)?;
         Ok(CodeMachine {
             image,
@@ -80,14 +78,17 @@ impl CodeMachine {
         })
     }
 
-    /// Makes the move of the thread in a slot. The answer is whether it can be made; where it can't, nothing changes.
+    /// Makes the move of the thread in a slot, if it can be made, and says whether it led to a check-in.
     ///
     /// A move takes time linear in the instructions of its burst and in what it prints; a start or a join of a thread looks at each
     /// slot. Where all that was printed is taken, it is out of memory only where 2^32 - 1 objects were created, or 2^48 threads
     /// started, or where the thread is in 2^64 - 1 transactions. The machine is of no use then.
-    pub fn step(&mut self, slot: u8) -> Result<bool, AllocError>
+    pub fn step(&mut self, slot: u8) -> Result<CodeStep, AllocError>
         ensures image { image_of self.new ≡ image_of self.old }
-        ensures came { (text : List BareDef) → IsImage text (image_of self.old) → IfOk result (Came text self.old slot self.new) }
+        ensures came { (text : List BareDef) → IsImage text (image_of self.old)
+            → IfOk result (λ step. Came text self.old slot self.new (has_moved step)) }
+        ensures led { (text : List BareDef) → IsImage text (image_of self.old)
+            → IfOk result (Led text (image_of self.old) (code_world self.old) slot) }
         ensures long { OnOk result (length (output_of self.new) ≤ length (output_of self.old) + (image_of self.old).longest_print) }
         ensures enough { HasNumbers (code_world self.old) slot → output_of self.old ≡ [] → IsOk result }
     {

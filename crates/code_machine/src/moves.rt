@@ -1,6 +1,9 @@
 //! A move of a thread.
 ghost use Rattle.std.specs.Prelude.{◌≡◌, ◌+◌, ◌≤◌, [], ◌∷◌, IfOk, IsOk, List, MatchOption, OnOk, length, true, vec_capacity, ℕ};
 ghost use Rattle.c_tree.specs.BareDef.{BareDef};
+ghost use Rattle.local_evaluation.specs.Pieces.{stop_of};
+ghost use Rattle.resolved_tree.specs.Nodes.{Table};
+ghost use Rattle.code_runs.specs.CodeThreads.{CodeWorld as World};
 ghost use Rattle.code_runs.specs.CodeWaits.{Stays as CanNot};
 ghost use Rattle.thread_state.specs.declared.steps.End.TheVariants.{Rests as RestsEnd, Traps as TrapsEnd};
 ghost use Rattle.code_image.specs.declared.image.CodeImage.{CodeImage as Image};
@@ -9,6 +12,7 @@ ghost use Rattle.code_machine.specs.declared.running.Next.TheVariants.{Enters as
 ghost use Rattle.code_machine.specs.declared.running.Stand.TheVariants.{Live as LiveStand};
 ghost use Rattle.code_machine.specs.Enough.{HasEnough};
 ghost use Rattle.code_machine.specs.Kept.{AreKept};
+ghost use Rattle.code_machine.specs.Leading.{LeadsNext, Led, has_moved, stop_leads};
 ghost use Rattle.code_machine.specs.Seen.{world_of};
 ghost use Rattle.code_machine.specs.Steps.{StepsTo};
 ghost use Rattle.code_machine.specs.Stops.{IsAlone, Lives, LivesAt};
@@ -17,10 +21,44 @@ use crate::running::{Next, Running, Stand, innermost};
 use crate::state::{Finish, RunState};
 use crate::stops::{Outcome, Spot};
 use crate::thread_stops::{join, spawn};
-use code_image::{Act, CodeImage};
+use code_image::{Act, CodeImage, StopPlace};
+use local_evaluation::Stop;
 use run_types::TrapKind;
 use std::alloc::AllocError;
 use thread_state::End;
+
+/// What came of a step.
+#[derive(Clone, Copy, Debug, PartialEq, Eq)]
+pub enum CodeStep {
+    /// The thread can't move, and nothing changed.
+    CannotMove,
+    /// It moved; whether that led to a check-in.
+    Moved(bool),
+}
+
+/// What came of a step, by whether the thread moved, and whether its move leads to a check-in.
+fn stepped(moved: bool, leads: bool) -> CodeStep
+    ensures moved { has_moved result ≡ moved }
+    ensures led { (text : List BareDef) (image : Image) (w : World) (slot : ℕ) → LeadsNext text image w slot leads
+        → Led text image w slot result }
+{
+    if moved {
+        CodeStep::Moved(leads)
+    } else {
+        CodeStep::CannotMove
+    }
+}
+
+/// Whether a stop leads to a check-in, by whether a frame called the one that stops.
+fn stop_leads(stop: Stop, is_called: bool) -> bool
+    ensures { (t : Table) → result ≡ stop_leads (stop_of t stop) is_called }
+{
+    match stop {
+        Stop::Return => is_called,
+        Stop::Begin | Stop::End | Stop::Update => true,
+        _ => false,
+    }
+}
 
 impl Running {
     /// What the thread that lives there does next, if one does.
@@ -52,19 +90,21 @@ impl RunState {
     }
 }
 
-/// Makes the move of the thread in a slot. The answer is whether it can be made; where it can't, nothing changes.
-pub(crate) fn step(image: &CodeImage, run: &mut RunState, slot: u8) -> Result<bool, AllocError>
+/// Makes the move of the thread in a slot, if it can be made.
+pub(crate) fn step(image: &CodeImage, run: &mut RunState, slot: u8) -> Result<CodeStep, AllocError>
     requires { AreKept image.now.functions.items run.old.slots.items run.old.threads }
     ensures kept { AreKept image.now.functions.items run.new.slots.items run.new.threads }
-    ensures came { (text : List BareDef) → IsImage text image.now → IfOk result (StepsTo text image.now slot run.old run.new) }
+    ensures came { (text : List BareDef) → IsImage text image.now
+        → IfOk result (λ step. StepsTo text image.now slot run.old run.new (has_moved step)) }
+    ensures led { (text : List BareDef) → IsImage text image.now → IfOk result (Led text image.now (world_of image.now run.old) slot) }
     ensures long { OnOk result (length run.new.output.items ≤ length run.old.output.items + image.now.longest_print) }
     ensures capacity { vec_capacity run.old.output ≤ vec_capacity run.new.output }
     ensures enough { HasEnough image.now run.old slot → IsOk result }
 {
     match run.next_in(slot) {
-        None => Ok(false),
-        Some(Next::Enters(n, count)) => Ok(enter(image, run, slot, n, count)),
-        Some(Next::Stands(End::Traps(kind))) => Ok(trap(image, run, slot, kind)),
+        None => Ok(CodeStep::CannotMove),
+        Some(Next::Enters(n, count)) => Ok(stepped(enter(image, run, slot, n, count), true)),
+        Some(Next::Stands(End::Traps(kind))) => Ok(stepped(trap(image, run, slot, kind), false)),
         Some(Next::Stands(End::Rests)) => stop(image, run, slot),
     }
 }
@@ -98,19 +138,45 @@ fn trap(image: &CodeImage, run: &mut RunState, slot: u8, kind: TrapKind) -> bool
 }
 
 /// A thread makes the stop at which its innermost frame rests.
-fn stop(image: &CodeImage, run: &mut RunState, slot: u8) -> Result<bool, AllocError>
+fn stop(image: &CodeImage, run: &mut RunState, slot: u8) -> Result<CodeStep, AllocError>
     requires kept { AreKept image.now.functions.items run.old.slots.items run.old.threads }
     requires lives { Lives run.old slot (StandsNext RestsEnd) }
+    ensures kept { AreKept image.now.functions.items run.new.slots.items run.new.threads }
+    ensures came { (text : List BareDef) → IsImage text image.now
+        → IfOk result (λ step. StepsTo text image.now slot run.old run.new (has_moved step)) }
+    ensures led { (text : List BareDef) → IsImage text image.now → IfOk result (Led text image.now (world_of image.now run.old) slot) }
+    ensures long { OnOk result (length run.new.output.items ≤ length run.old.output.items + image.now.longest_print) }
+    ensures capacity { vec_capacity run.old.output ≤ vec_capacity run.new.output }
+    ensures enough { HasEnough image.now run.old slot → IsOk result }
+{
+    let running = &run.slots[slot as usize];
+    let frame = innermost(&running.frames);
+    let is_called = running.frames.depth() > 1;
+    let Some(stop) = image.function(frame.unit).stop_at(frame.place) else {
+        return Ok(CodeStep::CannotMove);
+    };
+    let leads = stop_leads(stop.stop, is_called);
+    match make_stop(image, run, slot, stop) {
+        Ok(moved) => Ok(stepped(moved, leads)),
+        Err(error) => Err(error),
+    }
+}
+
+/// A thread makes a stop at which it rests. The answer is whether it can be made.
+fn make_stop(
+    image: &CodeImage,
+    run: &mut RunState,
+    slot: u8,
+    stop: StopPlace,
+) -> Result<bool, AllocError>
+    requires kept { AreKept image.now.functions.items run.old.slots.items run.old.threads }
+    requires lives { LivesAt image.now.functions.items run.old slot stop }
     ensures kept { AreKept image.now.functions.items run.new.slots.items run.new.threads }
     ensures came { (text : List BareDef) → IsImage text image.now → IfOk result (StepsTo text image.now slot run.old run.new) }
     ensures long { OnOk result (length run.new.output.items ≤ length run.old.output.items + image.now.longest_print) }
     ensures capacity { vec_capacity run.old.output ≤ vec_capacity run.new.output }
     ensures enough { HasEnough image.now run.old slot → IsOk result }
 {
-    let frame = innermost(&run.slots[slot as usize].frames);
-    let Some(stop) = image.function(frame.unit).stop_at(frame.place) else {
-        return Ok(false);
-    };
     let act = stop.act;
     let spot = Spot { slot, stop };
     match act {

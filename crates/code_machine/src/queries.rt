@@ -39,17 +39,17 @@ pub struct FramePlace {
 
 /// What a thread waits for.
 #[derive(Clone, Copy)]
-pub enum CodeWait<'a> {
+pub enum CodeWait {
     /// The mutex of a name, which the thread in a slot holds.
-    Mutex(&'a str, u8),
+    Mutex(Word, u8),
     /// The thread in a slot, which it joins.
     Thread(u8),
 }
 
 /// Where the frame is that is so many calls above the innermost, which is the last one here.
 fn place_up(frames: &[Frame], up: usize) -> Option<FramePlace>
-    ensures { (t : Table) (words : List ℕ) → option_map (place_seen t) result
-        ≡ option_map place_of (slice_get (frames_below t words frames.now (length frames.now)) up) }
+    ensures { (t : Table) (highest : ℕ) (words : List ℕ) → option_map (place_seen t) result
+        ≡ option_map place_of (slice_get (frames_below t highest words frames.now (length frames.now)) up) }
 {
     if up >= frames.len() {
         return None;
@@ -60,6 +60,21 @@ fn place_up(frames: &[Frame], up: usize) -> Option<FramePlace>
         version: frame.version as usize,
         point: frame.point,
     })
+}
+
+/// A mutex that another thread holds.
+fn held_by(slot: u8, holder: Option<u8>, name: Word) -> Option<CodeWait>
+    ensures { (t : Table) → option_map (waiting_of t) result ≡ held_by (word t name) slot holder }
+{
+    match holder {
+        Some(holder) => {
+            if holder == slot {
+                return None;
+            }
+            Some(CodeWait::Mutex(name, holder))
+        }
+        None => None,
+    }
 }
 
 impl Running {
@@ -176,9 +191,9 @@ impl CodeMachine {
     }
 
     /// What the thread in a slot waits for, if it waits.
-    pub fn waits(&self, slot: u8) -> Option<CodeWait<'_>>
+    pub fn waits(&self, slot: u8) -> Option<CodeWait>
         ensures { (text : List BareDef) → IsImage text (image_of self.now)
-            → WaitsFor text (code_world self.now) slot (option_map waiting_of result) }
+            → WaitsFor text (code_world self.now) slot (option_map (waiting_of (words_of (image_of self.now))) result) }
     {
         match self.next_stop(slot) {
             Some(stop) => self.waits_at(slot, stop),
@@ -200,9 +215,9 @@ impl CodeMachine {
     }
 
     /// What a thread waits for at the stop at which it rests.
-    fn waits_at(&self, slot: u8, stop: StopPlace) -> Option<CodeWait<'_>>
+    fn waits_at(&self, slot: u8, stop: StopPlace) -> Option<CodeWait>
         ensures { (text : List BareDef) → IsNextStop text (image_of self.now) (code_world self.now) slot stop
-            → WaitsFor text (code_world self.now) slot (option_map waiting_of result) }
+            → WaitsFor text (code_world self.now) slot (option_map (waiting_of (words_of (image_of self.now))) result) }
     {
         let StopPlace { stop, act, .. } = stop;
         match act {
@@ -213,10 +228,10 @@ impl CodeMachine {
     }
 
     /// What a stop on what threads share waits for.
-    fn held_for(&self, slot: u8, stop: Stop, shared: SharedStop) -> Option<CodeWait<'_>>
+    fn held_for(&self, slot: u8, stop: Stop, shared: SharedStop) -> Option<CodeWait>
         ensures { let t = words_of (image_of self.now) in (text : List BareDef) (stack : List ℕ)
             → Acts t (names_of text) text (named t (image_of self.now).functions.items) (stop_of t stop) (SharedAct shared)
-            → option_map waiting_of result ≡ at_stop (names_of text) (code_world self.now) slot (stop_of t stop) stack }
+            → option_map (waiting_of t) result ≡ at_stop (names_of text) (code_world self.now) slot (stop_of t stop) stack }
     {
         match shared {
             SharedStop::Lock(n) => self.locked(slot, stop, n),
@@ -225,36 +240,21 @@ impl CodeMachine {
     }
 
     /// The mutex that a lock of the one with a number waits for: another thread holds it.
-    fn locked(&self, slot: u8, stop: Stop, n: u32) -> Option<CodeWait<'_>>
+    fn locked(&self, slot: u8, stop: Stop, n: u32) -> Option<CodeWait>
         ensures { let t = words_of (image_of self.now) in (text : List BareDef) (stack : List ℕ)
             → Acts t (names_of text) text (named t (image_of self.now).functions.items) (stop_of t stop) (SharedAct (LockStop n))
-            → option_map waiting_of result ≡ at_stop (names_of text) (code_world self.now) slot (stop_of t stop) stack }
+            → option_map (waiting_of t) result ≡ at_stop (names_of text) (code_world self.now) slot (stop_of t stop) stack }
     {
         match stop {
-            Stop::Lock(name) => self.held_by(slot, self.run.shared.holder(n), name),
+            Stop::Lock(name) => held_by(slot, self.run.shared.holder(n), name),
             _ => None,
         }
     }
 
-    /// A mutex that another thread holds.
-    fn held_by(&self, slot: u8, holder: Option<u8>, name: Word) -> Option<CodeWait<'_>>
-        ensures { option_map waiting_of result ≡ held_by (word (words_of (image_of self.now)) name) slot holder }
-    {
-        match holder {
-            Some(holder) => {
-                if holder == slot {
-                    return None;
-                }
-                Some(CodeWait::Mutex(self.image.word(name), holder))
-            }
-            None => None,
-        }
-    }
-
     /// The thread that a join waits for: it lives.
-    fn joined_by(&self, slot: u8) -> Option<CodeWait<'_>>
+    fn joined_by(&self, slot: u8) -> Option<CodeWait>
         ensures { (f : CodeFrame) → RestsIn (code_world self.now) slot f
-            → option_map waiting_of result ≡ joined (code_world self.now).slots f.state.stack }
+            → option_map (waiting_of (words_of (image_of self.now))) result ≡ joined (code_world self.now).slots f.state.stack }
     {
         match self.live(slot) {
             Some(running) => match running.newest() {
@@ -266,8 +266,8 @@ impl CodeMachine {
     }
 
     /// The thread of a word, if it lives.
-    fn lives_as(&self, thread: u64) -> Option<CodeWait<'_>>
-        ensures { option_map waiting_of result ≡ joined_from thread 0 (code_world self.now).slots }
+    fn lives_as(&self, thread: u64) -> Option<CodeWait>
+        ensures { option_map (waiting_of (words_of (image_of self.now))) result ≡ joined_from thread 0 (code_world self.now).slots }
     {
         match live_slot(self.run.slots.as_slice(), thread) {
             Some(place) => Some(CodeWait::Thread(place as u8)),

@@ -7,6 +7,7 @@ ghost use Rattle.word_frames.specs.Seen.{IsKept, depth_of, innermost};
 ghost use Rattle.code_image.specs.declared.function.CodeFunction.{CodeFunction as Function};
 ghost use Rattle.code_image.specs.declared.image.CodeImage.{CodeImage as Image};
 ghost use Rattle.code_image.specs.Images.{IsImage};
+ghost use Rattle.code_image.specs.Stacks.{AreNeverHigher};
 ghost use Rattle.code_machine.specs.declared.running.Next.TheVariants.{Enters as EntersNext};
 ghost use Rattle.code_machine.specs.declared.running.Stand.TheVariants.{Free as FreeStand};
 ghost use Rattle.code_machine.specs.Kept.{Fits, most_threads};
@@ -61,17 +62,17 @@ pub(crate) fn innermost(frames: &Frames) -> Frame
 
 impl Running {
     /// A slot with no thread, and memory for all frames that one may have.
-    pub(crate) fn new(alloc: Global, main: u32) -> Result<Running, AllocError>
-        ensures fits { (functions : List Function) → main < length functions → IfOk result (Fits functions) }
+    pub(crate) fn new(alloc: Global, image: &CodeImage) -> Result<Running, AllocError>
+        ensures fits { IfOk result (Fits image.now.functions.items) }
         ensures free { IfOk result (λ r. r.stand ≡ FreeStand) }
-        ensures fresh { IfOk result (λ r. IsFresh r main) }
+        ensures fresh { IfOk result (λ r. IsFresh r image.now.main) }
     {
         Ok(Running {
             stand: Stand::Free,
             serial: 0,
             depth: 0,
-            next: Next::Enters(main, 0),
-            frames: Frames::new(alloc)?,
+            next: Next::Enters(image.main, 0),
+            frames: Frames::new(alloc, image.highest_stack)?,
         })
     }
 
@@ -79,7 +80,8 @@ impl Running {
     pub(crate) fn start(&mut self, serial: u64, function: u32, argument: u64)
         requires kept { IsKept self.old.frames }
         requires serial { serial < most_threads }
-        ensures fits { (functions : List Function) → function < length functions → Fits functions self.new }
+        ensures fits { (functions : List Function) → function < length functions → AreNeverHigher self.old.frames.highest_stack functions
+            → Fits functions self.new }
         ensures started { (image : Image) → slot_of image self.new
             ≡ IsLive (starting serial (record { function = name_at image function; arguments = argument ∷ []; version = 1 })) }
     {

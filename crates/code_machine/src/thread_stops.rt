@@ -91,19 +91,22 @@ fn free_slot(slots: &[Running]) -> Option<usize>
     None
 }
 
-/// The slot in which the thread of a word lives, if it lives.
+/// The slot in which the thread of a word lives, if it lives. The lowest 1 of the word is at the number of its slot.
 pub(crate) fn live_slot(slots: &[Running], word: u64) -> Option<usize>
     requires few { length slots.now ≤ most_slots }
     requires serials { (n : ℕ) (r : Slot) → slice_get slots.now n ≡ Some r → r.serial < most_threads }
     ensures live { (image : Image) → option_map ForThread result ≡ joined_from word 0 (map (slot_of image) slots.now) }
     ensures inside { IfSome result (λ place. place < length slots.now) }
 {
-    for place in 0..slots.len() {
-        if lives_as(&slots[place], place, word) {
-            return Some(place);
-        }
+    let place = word.trailing_zeros() as usize;
+    if place >= slots.len() {
+        return None;
     }
-    None
+    if lives_as(&slots[place], place, word) {
+        Some(place)
+    } else {
+        None
+    }
 }
 
 /// The slot in which the thread of a word ended, with the word that it left, if it wasn't joined yet.

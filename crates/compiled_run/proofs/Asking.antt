@@ -21,12 +21,12 @@ use Rattle.code_run_laws.specs.ThreadMatches.{SlotMatches}
 use Rattle.code_run_laws.proofs.SlotsMatching.{lives_as}
 use Rattle.code_image.specs.Images.{names_of}
 use Rattle.code_image.specs.declared.act.StopPlace.{StopPlace}
-use Rattle.code_machine.specs.Queries.{HasNoStop, IsNextStop, Place, WaitsFor}
+use Rattle.code_machine.specs.Leading.{LeadsNext, entering, is_called, stop_leads, stopping, trapping}
+use Rattle.code_machine.specs.Queries.{HasNoStop, IsNextStop, WaitsFor}
 use Rattle.code_machine.specs.Queries as asked
 use Rattle.code_machine.specs.Seen.{words_of}
 use Rattle.code_image.specs.declared.image.CodeImage.{CodeImage}
 use Rattle.compiled_run.specs.CodeOfRuns.{IsRunOf}
-use Rattle.compiled_run.specs.Compiled.{stop_leads}
 use Rattle.compiled_run.proofs.NextStops.{enter_leads, leads_next, leads_not, no_point, point_next}
 use Rattle.compiled_run.proofs.OneTextRuns.{nothing_unfit}
 use Rattle.compiled_run.proofs.SlotsAlike.{code_place_up, entering_alike, innermost_is, live_alike, place_alike, standing_at, transaction_alike}
@@ -178,35 +178,45 @@ module _ (texts : List (List BareDef)) (limits : Limits) (ms : List SourceMove) 
           point_next h.text.definitions (tags_of h.world.objects) h.stands.matches.naming (in_slot h.world t) (code.in_slot own t) n.rests.thread
           n.frame n.rests.lives n.rests.next (matched going t) (stop_of (words_of image) x.stop) x.point x.after n.stops
 
-      -- by the place of the frame that called
-      pub next_leads : (called : Option Place) → called ≡ option_map asked.place_of (slice_get (asked.frames_in (code.in_slot own t)) 1)
-          → move_leads (in_slot h.world t) ≡ stop_leads (stop_of (words_of image) x.stop) (is_some called)
-      next_leads called e =
+      next_leads : move_leads (in_slot h.world t) ≡ stop_leads (stop_of (words_of image) x.stop) (is_called (code.in_slot own t))
+      next_leads =
           leads_next h.text.definitions (tags_of h.world.objects) h.stands.matches.naming (in_slot h.world t) (code.in_slot own t) n.rests.thread
           n.frame n.rests.lives n.rests.next (matched going t) (stop_of (words_of image) x.stop) x.point x.after n.stops
-          ∙ ap (stop_leads (stop_of (words_of image) x.stop)) (is_called (slice_get n.rests.thread.below 0) ∙ sym (ap is_some (e ∙ frames_are)))
+          ∙ ap (stop_leads (stop_of (words_of image) x.stop)) (sym called)
         where
-          is_called : (o : Option CodeFrame) → is_some o ≡ is_some (option_map asked.place_of o)
-          is_called None = refl
-          is_called (Some f) = refl
-
-          frames_are : option_map asked.place_of (slice_get (asked.frames_in (code.in_slot own t)) 1)
-              ≡ option_map asked.place_of (slice_get n.rests.thread.below 0)
-          frames_are =
-              ap (λ y. option_map asked.place_of (slice_get (asked.frames_in y) 1)) n.rests.lives
-              ∙ ap (λ y. option_map asked.place_of (slice_get (asked.frames_by y n.rests.thread.below) 1)) n.rests.next
+          called : is_called (code.in_slot own t) ≡ is_some (slice_get n.rests.thread.below 0)
+          called =
+              ap is_called n.rests.lives
+              ∙ ap (λ y. is_some (slice_get (asked.frames_by y n.rests.thread.below) 1)) n.rests.next
 
     pub no_next_point : HasNoStop h.text.definitions own t → next_point_in (in_slot h.world t) ≡ None
     no_next_point none =
         no_point h.text.definitions (tags_of h.world.objects) h.stands.matches.naming own t none (in_slot h.world t) (code.in_slot own t) refl
         (matched going t)
 
-    pub none_leads : HasNoStop h.text.definitions own t → asked.entering_in (code.in_slot own t) ≡ None → move_leads (in_slot h.world t) ≡ false
+    none_leads : HasNoStop h.text.definitions own t → asked.entering_in (code.in_slot own t) ≡ None → move_leads (in_slot h.world t) ≡ false
     none_leads none no_enter =
         leads_not h.text.definitions (tags_of h.world.objects) h.stands.matches.naming own t none no_enter (in_slot h.world t) (code.in_slot own t)
         refl (matched going t)
 
-    pub entering_leads : (name : Bytes) → asked.entering_in (code.in_slot own t) ≡ Some name → move_leads (in_slot h.world t) ≡ true
+    entering_leads : (name : Bytes) → asked.entering_in (code.in_slot own t) ≡ Some name → move_leads (in_slot h.world t) ≡ true
     entering_leads name e =
         enter_leads h.text.definitions (tags_of h.world.objects) h.stands.matches.naming (in_slot h.world t) (code.in_slot own t) name e
         (matched going t)
+
+    -- whether the move of a thread leads to a check-in
+    leads_is : (leads : Bool) → LeadsNext h.text.definitions image own t leads → move_leads (in_slot h.world t) ≡ leads
+    leads_is leads (entering name e) = entering_leads name e
+    leads_is leads (stopping x n) = next_leads x n
+    leads_is leads (trapping none no_enter) = none_leads none no_enter
+
+  pub led : (t : ℕ) (leads : Bool) → LeadsNext h.text.definitions image own t leads
+      → option_map (λ x. is_over x.world) (source_run texts limits ms) ≡ Some false
+      → option_map (λ x. move_leads (in_slot x.world t)) (source_run texts limits ms) ≡ Some leads
+  led t leads next going =
+      given (λ x. move_leads (in_slot x.world t)) texts limits ms h.world h.ran
+      ∙ ap Some (leads_is (not_over texts limits ms h.world h.ran going) t leads next)
+
+  -- how many threads were started
+  pub threads_are : option_map (λ x. x.world.threads) (source_run texts limits ms) ≡ Some own.threads
+  threads_are = given (λ x. x.world.threads) texts limits ms h.world h.ran ∙ ap Some (sym h.stands.matches.threads)

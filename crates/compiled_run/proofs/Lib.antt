@@ -9,3 +9,4 @@ pub mod NextStops
 pub mod Stepping
 pub mod Asking
 pub mod Lasting
+pub mod MovesMade

@@ -22,8 +22,8 @@ use Rattle.code_runs.specs.CodeWaits.{in_slot}
 use Rattle.code_run_laws.specs.ThreadMatches.{BelowMatch, NextMatches, RestsSo, SlotMatches, ThreadMatches}
 use Rattle.code_run_laws.proofs.OneEnd.{rests_at, rests_no_trap}
 use Rattle.code_run_laws.proofs.SlotsMatching.{LivesAs, lives_as}
+use Rattle.code_machine.specs.Leading.{stop_leads}
 use Rattle.code_machine.specs.Queries.{HasNoStop, entered_by, entering_in}
-use Rattle.compiled_run.specs.Compiled.{stop_leads}
 use Rattle.compiled_run.proofs.Resting.{RestsAlike, enters_alike, rests_alike, stops_at}
 
 -- ---- where private instructions end at no stop

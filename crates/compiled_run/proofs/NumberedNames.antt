@@ -1,16 +1,17 @@
--- The names by which a run of a text numbers things have each global and array of the text, and each mutex.
-use Rattle.std.proofs.Common.{◌≡◌, suc, ◌<◌, Bool, true, false, List, [], ◌∷◌, map, length, Contains, Option, Some, None, refl, subst, arith, bytes_eq, if◌then◌else◌}
+-- The names by which a run of a text numbers things have each global, array, mutex and struct of the text.
+use Rattle.std.proofs.Common.{◌≡◌, suc, ◌<◌, Bool, true, false, List, [], ◌∷◌, map, length, Contains, Option, Some, None, drop, refl, ap, subst, arith, bytes_eq, if◌then◌else◌}
 use Rattle.std.specs.Prelude.{filter_map}
 use Rattle.std.specs.List.{cons_option}
 use Rattle.c_tree.specs.BareExpr.{Bytes}
-use Rattle.c_tree.specs.BareDef.{BareDef, Global, Array, Mutex}
+use Rattle.c_tree.specs.BareDef.{BareDef, Global, Array, Mutex, Struct}
+use Rattle.c_semantics.specs.Names.{struct_name}
 use Rattle.c_semantics.specs.Texts.{defines, definition}
 use Rattle.source_model.specs.Worlds.{Cells, cells_at_first}
 use Rattle.world_laws.proofs.Found.{same_bytes}
 use Rattle.typed_transformers.specs.TransformerTypes.{HasCells}
-use Rattle.typed_trees.specs.ExpressionTypes.{IsMutex}
+use Rattle.typed_trees.specs.ExpressionTypes.{IsMutex, IsStruct}
 use Rattle.code_run_laws.specs.WorldMatches.{Numbers}
-use Rattle.code_image.specs.Images.{mutex_name, names_of}
+use Rattle.code_image.specs.Images.{mutex_name, names_of, tag_of}
 
 here : (x : Bytes) (xs : List Bytes) → Contains (x ∷ xs) x
 here x xs = let within : 0 < length (x ∷ xs) = omega arith in (0, within, refl)
@@ -68,5 +69,32 @@ mutexes_have (x ∷ text) name h = by (mutexes_have text name) (defines name x) 
     by rest true is h = own_mutex x (filter_map mutex_name text) name is h
     by rest false is h = after_mutex (mutex_name x) (filter_map mutex_name text) name (rest h)
 
+-- ---- structs
+
+-- the tag is the name without what comes before it
+abbrev untagged : Bytes → Bytes
+untagged name = drop 7 name
+
+same_tag : (a b : Bytes) → bytes_eq (struct_name a) (struct_name b) ≡ true → a ≡ b
+same_tag a b e = ap untagged (same_bytes (struct_name a) (struct_name b) e)
+
+after_tag : (o : Option Bytes) (ts : List Bytes) (tag : Bytes) → Contains ts tag → Contains (cons_option o ts) tag
+after_tag None ts tag h = h
+after_tag (Some t) ts tag h = later t ts tag h
+
+own_tag : (x : BareDef) (ts : List Bytes) (tag : Bytes) → defines (struct_name tag) x ≡ true → IsStruct (Some x)
+    → Contains (cons_option (tag_of x) ts) tag
+own_tag (Struct own members) ts tag is h = subst (λ t. Contains (t ∷ ts) tag) (same_tag tag own is) (here tag ts)
+own_tag _ ts tag is h = absurd h
+
+tags_have : (text : List BareDef) (tag : Bytes) → IsStruct (definition text (struct_name tag)) → Contains (filter_map tag_of text) tag
+tags_have [] tag h = absurd h
+tags_have (x ∷ text) tag h = by (tags_have text tag) (defines (struct_name tag) x) refl h
+  where
+    by : (IsStruct (definition text (struct_name tag)) → Contains (filter_map tag_of text) tag) → (b : Bool) → defines (struct_name tag) x ≡ b
+        → IsStruct (if b then Some x else definition text (struct_name tag)) → Contains (filter_map tag_of (x ∷ text)) tag
+    by rest true is h = own_tag x (filter_map tag_of text) tag is h
+    by rest false is h = after_tag (tag_of x) (filter_map tag_of text) tag (rest h)
+
 pub numbers_of_text : (text : List BareDef) → Numbers (names_of text) text
-numbers_of_text text = record { cells = cells_have text; mutexes = mutexes_have text }
+numbers_of_text text = record { cells = cells_have text; mutexes = mutexes_have text; tags = tags_have text }

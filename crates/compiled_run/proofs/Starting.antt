@@ -76,6 +76,7 @@ starts_from text limits cells own start rows has = record {
   objects = start.objects_are;
   holders = start.holders;
   slots = start.slots_are;
+  version = start.version;
   threads = start.threads;
   finish = start.finish;
 }

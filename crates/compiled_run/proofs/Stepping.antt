@@ -11,8 +11,6 @@ use Rattle.source_model.specs.Runs.{SourceMove, Move}
 use Rattle.typed_runs.specs.TypedFrames.{result_in, version_in}
 use Rattle.typed_runs.specs.TypedWorlds.{tags_of}
 use Rattle.bytecode.specs.Words.{Naming}
-use Rattle.source_runner.specs.declared.run.SourceMove.{SourceMove as Code}
-use Rattle.source_runner.specs.declared.run.SourceMove.TheVariants as code_move
 use Rattle.source_runner.specs.SourceRuns.{world_after}
 use Rattle.source_runner.proofs.AfterMoves.{then_move}
 use Rattle.code_runs.specs.CodeThreads.{CodeWorld}
@@ -29,10 +27,6 @@ use Rattle.code_machine.specs.Steps.{CannotMove, Comes, IsLost, Moved, Stayed}
 use Rattle.compiled_run.specs.CodeOfRuns.{IsRunOf}
 use Rattle.compiled_run.proofs.Moving.{moved}
 use Rattle.compiled_run.proofs.Resting.{not_lost, rests_alike}
-
--- what holds of the move of each slot holds of each move
-pub by_slot : (P : Code → Type 0) → ((slot : ℕ) → P (code_move.Move slot)) → (m : Code) → P m
-by_slot P each (code_move.Move slot) = each slot
 
 -- what is added to an output is as short as the output grew
 printed_short : (output printed : List ℕ) (least most : ℕ) → length (output ++ printed) ≤ length output + least → least ≤ most

@@ -18,6 +18,7 @@ use Rattle.version_laws.specs.Histories.{last_text}
 use Rattle.code_runs.specs.CodeMoves.{At, Comes, Continues, Closes, Joined, Moves, Returned, Spawned, StopMade, called, ended, enters, overflows, stops, traps, with_slot, with_thread}
 use Rattle.code_runs.specs.CodeWaits.{in_slot}
 use Rattle.code_runs.specs.SharedStops.{Answered, Came, Does, Done, On, Traps, One, Two, goes, members_in, on_live, on_object, read_element, release, traps as failed, with_holders, with_objects, write_element}
+use Rattle.code_runs.specs.Layouts.{Freshens, brings, newest, none_lives, null, one_text, uses_none}
 use Rattle.compiled_run.specs.NumbersUsed.{HasUsed}
 
 -- ---- what a stop does to what is shared
@@ -35,6 +36,16 @@ two_of (b ∷ a ∷ ws) is = (b, (a, (ws, is)))
 -- it creates one object at most
 abbrev OneAtMost : Data → Done → Type 0
 OneAtMost d x = x.shared.objects.created ≤ suc d.objects.created
+
+-- an object that is brought to a newer layout isn't created
+created_as_before : (texts : List (List BareDef)) (names : Names) (s : Stop) (stack : List ℕ) (d fresh : Data) → Freshens texts names s stack d fresh
+    → fresh.objects.created ≡ d.objects.created
+created_as_before texts names s stack d fresh (one_text one) = refl
+created_as_before texts names s stack d fresh (uses_none none) = refl
+created_as_before texts names s stack d fresh (null tag used) = refl
+created_as_before texts names s stack d fresh (none_lives tag h used none) = refl
+created_as_before texts names s stack d fresh (newest tag h own used there now) = refl
+created_as_before texts names s stack d fresh (brings tag h old new used there made) = refl
 
 module _ (d : Data) where
   by_choice : (b : Bool) (x y : Done) → OneAtMost d x → OneAtMost d y → OneAtMost d (if b then x else y)
@@ -94,7 +105,7 @@ module _ (d : Data) where
       (object_one o.1.0 (λ object. goes (with_objects d (with_object d.objects o.1.0 (with_field (members_in text tag) name o.0 object))) (o.0 ∷ o.1.1.0))
       (λ object. omega arith))
   does_one names text slot (stop.New tag) stack x is =
-      let few = created_one (new_object (number_of names.tags tag)) is.0 is.1.0 is.1.1.0 in
+      let few = created_one (new_object (number_of names.tags tag) d.version) is.0 is.1.0 is.1.1.0 in
       omega (arith, ap (λ (y : Done). y.shared.objects.created) is.1.1.1, few)
   does_one names text slot (stop.Free tag) stack x is =
       let o = one_of stack is in subst (OneAtMost d) (sym o.1.1) (released_one o.0 o.1.0)
@@ -226,7 +237,10 @@ module _ (texts : List (List BareDef)) (names : Names) (n : ℕ) (w : CodeWorld)
       used_where_it_goes (suc n) texts a (record a.thread { depth = suc a.thread.depth }) a.frame.state.stack w new more (omega (arith, few)) made.1
   used_by_stop stop.End printed made = used_by_end a.thread.depth few made.1
   used_by_stop s printed made =
-      used_by_one made.0.shared made.0.came (does_one w.shared names (last_text texts) a.slot s a.frame.state.stack made.0 made.1.0) made.1.1.1
+      let does = made.1.1 in
+      let as_many = created_as_before texts names s a.frame.state.stack w.shared made.0 made.1.0 in
+      let one = does_one made.0 names (last_text texts) a.slot s a.frame.state.stack does.0 does.1.0 in
+      used_by_one does.0.shared does.0.came (omega (arith, as_many, one)) does.1.1.1
 
 -- ---- moves
 

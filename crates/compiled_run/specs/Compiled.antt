@@ -1,9 +1,8 @@
 -- What is said of a run of one text by its code.
-use Rattle.std.specs.Prelude.{◌≡◌, ℕ, ◌+◌, ◌≤◌, Bool, true, false, List, [], ◌∷◌, length, slice_index_or, Some}
+use Rattle.std.specs.Prelude.{◌≡◌, ℕ, ◌+◌, ◌≤◌, Bool, false, List, [], ◌∷◌, length, slice_index_or, Some}
 use Rattle.std.proofs.Common.{ap, sym, ◌∙◌}
 use Rattle.std.proofs.lemmas.Option.{same_Some}
 use Rattle.c_tree.specs.BareDef.{BareDef}
-use Rattle.c_semantics.specs.Stops.{Stop, Return, Begin, End, Update}
 use Rattle.source_model.specs.Versions.{current}
 use Rattle.source_model.specs.Worlds.{World, Limits}
 use Rattle.source_model.specs.Runs.{SourceMove}
@@ -11,6 +10,8 @@ use Rattle.version_laws.specs.Histories.{versions_by}
 use Rattle.object_store.specs.Handles.{creation_limit}
 use Rattle.source_runner.specs.Queries.{Place}
 use Rattle.source_runner.specs.SourceRuns.{world_after}
+use Rattle.run_machine.specs.declared.machine.Moved.{Moved}
+use Rattle.run_machine.specs.declared.machine.Moved.TheVariants.{Done, CannotMove}
 use Rattle.run_machine.specs.Machines.{Shown}
 use Rattle.code_machine.specs.Queries as asked
 use Rattle.code_machine.specs.Seen.{code_world, image_of, output_of, words_of}
@@ -54,15 +55,14 @@ pub record Lasts (n : ℕ) (r : CompiledRun) : Type 0 where
   pub spent : Spent n r
   pub emptied : output_of r.machine ≡ []
 
+-- ---- a move that was made
+
+-- by whether it led to a check-in, and how many threads were started before and after it
+abbrev pub IsMade : Bool → ℕ → ℕ → Moved → Type 0
+IsMade leads before after (Done made) = (made.leads ≡ leads) × (made.starts ≡ false → after ≡ before)
+IsMade leads before after CannotMove = ⊥
+
 -- ---- what is asked of code, as of the source machine
 
 abbrev pub seen_place : asked.Place → Place
 seen_place p = record { function = p.function; version = p.version; point = p.point }
-
--- whether a stop leads to a check-in, by whether a frame called the one that stops
-abbrev pub stop_leads : Stop → Bool → Bool
-stop_leads Return is_called = is_called
-stop_leads Begin is_called = true
-stop_leads End is_called = true
-stop_leads Update is_called = true
-stop_leads _ is_called = false

@@ -1,24 +1,23 @@
 //! What an engine asks of a run.
 ghost use Rattle.std.specs.Prelude.{◌≡◌, option_map};
 ghost use Rattle.resolved_tree.specs.Nodes.{Table};
-ghost use Rattle.local_evaluation.specs.Pieces.{stop_of};
 ghost use Rattle.code_machine.specs.Queries.{place_seen, waiting_of as code_waiting_of};
-ghost use Rattle.code_machine.specs.Seen.{finish_of};
+ghost use Rattle.code_machine.specs.Seen.{finish_of, words_of};
 ghost use Rattle.source_runner.specs.Queries.{place_at};
 ghost use Rattle.source_runner.specs.States.{ending_of};
 ghost use Rattle.source_runner.specs.Waits.{waiting_of};
-ghost use Rattle.compiled_run.specs.Compiled.{seen_place, stop_leads};
+ghost use Rattle.compiled_run.specs.Compiled.{seen_place};
 
 use crate::run::CompiledRun;
 use c_types::Typed;
+use code_image::CodeImage;
 use code_machine::{CodeWait, Finish, FramePlace};
 use code_run_laws::code_moves_as_the_source_machine;
-use local_evaluation::Stop;
 use progress_laws::threads_of_runs_go_on;
 use resolved_tree::Word;
-use run_machine::Machine;
+use run_machine::{Machine, Moved};
 use run_types::Ending;
-use source_runner::{FrameAt, SourceMove, SourceWait, Stepped};
+use source_runner::{FrameAt, SourceWait, Stepped};
 use std::alloc::AllocError;
 use type_transformers::Change;
 
@@ -36,12 +35,14 @@ fn frame_at(place: Option<FramePlace>) -> Option<FrameAt>
     }
 }
 
-/// What a thread waits for.
-fn awaited(wait: Option<CodeWait<'_>>) -> Option<SourceWait<'_>>
-    ensures { option_map waiting_of result ≡ option_map code_waiting_of wait.entry }
+/// What a thread waits for, with the names of a text.
+fn awaited(image: &CodeImage, wait: Option<CodeWait>) -> Option<SourceWait<'_>>
+    ensures { option_map waiting_of result ≡ option_map (code_waiting_of (words_of image.now)) wait }
 {
     match wait {
-        Some(CodeWait::Mutex(name, holder)) => Some(SourceWait::Mutex(name, holder as usize)),
+        Some(CodeWait::Mutex(name, holder)) => {
+            Some(SourceWait::Mutex(image.word(name), holder as usize))
+        }
         Some(CodeWait::Thread(slot)) => Some(SourceWait::Thread(slot as usize)),
         None => None,
     }
@@ -58,17 +59,6 @@ fn ending(finish: Option<Finish>) -> Option<Ending>
     }
 }
 
-/// Whether a stop leads to a check-in, by whether a frame called the one that stops.
-fn leads(stop: Stop, is_called: bool) -> bool
-    ensures { (t : Table) → result ≡ stop_leads (stop_of t stop) is_called }
-{
-    match stop {
-        Stop::Return => is_called,
-        Stop::Begin | Stop::End | Stop::Update => true,
-        _ => false,
-    }
-}
-
 impl Machine for CompiledRun {
     ghost use Rattle.compiled_run.specs.Compiled.{Lasts, Spent, compiled_shown};
 
@@ -78,12 +68,12 @@ impl Machine for CompiledRun {
 
     ghost spent = { Spent };
 
-    fn step(&mut self, m: SourceMove) -> Result<Stepped, AllocError> {
+    fn step(&mut self, slot: u8) -> Result<Moved, AllocError> {
         if self.failed {
             return Err(AllocError);
         }
-        match self.make(m) {
-            Ok(stepped) => Ok(stepped),
+        match self.make_move(slot) {
+            Ok(moved) => Ok(moved),
             Err(error) => {
                 self.failed = true;
                 Err(error)
@@ -120,10 +110,6 @@ impl Machine for CompiledRun {
         false
     }
 
-    fn threads(&self) -> usize {
-        self.machine.threads() as usize
-    }
-
     fn ending(&self) -> Option<Ending> {
         ending(self.machine.finish())
     }
@@ -144,19 +130,9 @@ impl Machine for CompiledRun {
         self.machine.waits(slot).is_none()
     }
 
-    fn leads(&self, slot: u8) -> bool {
-        if self.machine.entering(slot).is_some() {
-            return true;
-        }
-        match self.machine.next_stop(slot) {
-            Some(next) => leads(next.stop, self.machine.frame_up(slot, 1).is_some()),
-            None => false,
-        }
-    }
-
     fn waits(&self, slot: u8) -> Option<SourceWait<'_>> {
         code_moves_as_the_source_machine();
-        awaited(self.machine.waits(slot))
+        awaited(self.machine.image(), self.machine.waits(slot))
     }
 
     fn text(&self, number: usize) -> Option<&Typed> {

@@ -1,24 +1,24 @@
 //! A run of one text by its code.
-ghost use Rattle.std.specs.Prelude.{◌≡◌, ◌+◌, ◌≤◌, [], ◌∷◌, IfErr, IfOk, IsOk, List, ℕ};
+ghost use Rattle.std.specs.Prelude.{◌≡◌, ◌+◌, ◌<◌, ◌≤◌, ◌^◌, [], ◌∷◌, IfErr, IfOk, IsOk, List, Ok, length, ℕ};
 ghost use Rattle.c_tree.specs.BareExpr.{Bytes};
 ghost use Rattle.c_tree.specs.BareDef.{BareDef};
 ghost use Rattle.c_front.specs.Accepted.{Accepted};
-ghost use Rattle.source_model.specs.Runs.{Move, SourceMove as Made};
+ghost use Rattle.source_model.specs.Runs.{SourceMove as Made};
 ghost use Rattle.source_model.specs.Worlds.{Limits};
 ghost use Rattle.program_locks.specs.Slots.{most_slots};
 ghost use Rattle.object_store.specs.Handles.{creation_limit};
 ghost use Rattle.source_programs.specs.Programs.{text_in};
-ghost use Rattle.source_runner.specs.SourceRuns.{move_of};
-ghost use Rattle.run_machine.specs.Machines.{CameBy, KeepsTexts};
+ghost use Rattle.run_machine.specs.Machines.{KeepsTexts, MovedBy};
 ghost use Rattle.image_load.specs.declared.fault.LoadFault.TheVariants.{Memory};
-ghost use Rattle.compiled_run.specs.Compiled.{Lasts, Spent, compiled_shown};
+ghost use Rattle.code_machine.specs.Seen.{code_world, output_of};
+ghost use Rattle.compiled_run.specs.Compiled.{IsMade, Lasts, Spent, compiled_shown};
 
 use accepted_code::accepted_functions_have_fine_code;
 use c_types::Typed;
-use code_machine::CodeMachine;
+use code_machine::{CodeMachine, CodeStep};
 use code_run_laws::code_moves_as_the_source_machine;
 use image_load::{LoadFault, load};
-use source_runner::{SourceMove, Stepped};
+use run_machine::{MoveMade, Moved};
 use std::alloc::{AllocError, Global};
 
 /// A run of one text by its code. Its clauses say that it is the source machine's run over the moves that were made; once a step ran
@@ -63,37 +63,34 @@ impl CompiledRun {
         })
     }
 
-    /// Makes a move, if it can be made.
-    pub(crate) fn make(&mut self, m: SourceMove) -> Result<Stepped, AllocError>
-        ensures stepped { (texts : List (List BareDef)) (limits : Limits) (moves : List Made)
+    /// Makes the move of the thread in a slot, if it can be made.
+    pub(crate) fn make_move(&mut self, slot: u8) -> Result<Moved, AllocError>
+        ensures moved { (texts : List (List BareDef)) (limits : Limits) (moves : List Made)
             → (compiled_shown self.old).is_run texts limits moves
-            → IfOk result (CameBy texts limits moves (move_of m) (compiled_shown self.new)) }
+            → IfOk result (MovedBy texts limits moves slot (compiled_shown self.new)) }
         ensures same { KeepsTexts (compiled_shown self.old) (compiled_shown self.new) }
         ensures kept { (compiled_shown self.new).kept ≡ (compiled_shown self.old).kept }
         ensures lasts { (n : ℕ) → Lasts (1 + n) self.old → IsOk result × Spent n self.new }
+        ensures stays { (n : ℕ) → Lasts n self.old → result ≡ Ok Moved.CannotMove → Lasts n self.new }
     {
-        match m {
-            SourceMove::Move(slot) => self.make_move(slot),
+        code_moves_as_the_source_machine();
+        let threads = self.machine.threads();
+        match self.machine.step(slot)? {
+            CodeStep::CannotMove => Ok(Moved::CannotMove),
+            CodeStep::Moved(leads) => self.made(leads, threads),
         }
     }
 
-    /// Makes the move of the thread in a slot, if it can be made.
-    fn make_move(&mut self, slot: u8) -> Result<Stepped, AllocError>
-        ensures stepped { (texts : List (List BareDef)) (limits : Limits) (moves : List Made)
-            → (compiled_shown self.old).is_run texts limits moves
-            → IfOk result (CameBy texts limits moves (Move slot) (compiled_shown self.new)) }
-        ensures same { KeepsTexts (compiled_shown self.old) (compiled_shown self.new) }
-        ensures kept { (compiled_shown self.new).kept ≡ (compiled_shown self.old).kept }
-        ensures lasts { (n : ℕ) → Lasts (1 + n) self.old → IsOk result × Spent n self.new }
+    /// What came of a move that was made, by whether it led to a check-in, and how many threads were started before it. An error
+    /// where more bytes were printed than can be counted.
+    fn made(&self, leads: bool, threads: u64) -> Result<Moved, AllocError>
+        ensures made { IfOk result (IsMade leads threads (code_world self.now.machine).threads) }
+        ensures counted { IfOk result (λ moved. self.now.kept + length (output_of self.now.machine) < 2 ^ 64) }
+        ensures few { self.now.kept + length (output_of self.now.machine) < 2 ^ 64 → IsOk result }
     {
-        code_moves_as_the_source_machine();
-        let moved = self.machine.step(slot)?;
-        if !moved {
-            return Ok(Stepped::CannotMove);
-        }
-        // So many bytes can be counted.
+        let starts = self.machine.threads() != threads;
         match self.kept.checked_add(self.machine.output().len()) {
-            Some(_) => Ok(Stepped::Done),
+            Some(_) => Ok(Moved::Done(MoveMade { leads, starts })),
             None => Err(AllocError),
         }
     }

@@ -1,9 +1,9 @@
 -- The first cells of globals and arrays name no object and no thread.
 use Rattle.std.proofs.Common.{ℕ, ◌-◌, Bool, true, false, List, [], ◌∷◌, map, length, take, Option, Some, None, unwrap_or}
-use Rattle.std.specs.Prelude.{All, filter_map, replicate, slice_index_or}
+use Rattle.std.specs.Prelude.{All, filter_map, replicate}
 use Rattle.std.specs.List.{cons_option}
 use Rattle.std.specs.Option.{option_map_or}
-use Rattle.std.proofs.lemmas.List.Elements.{All-append, All-cons, All-map, All-nil, All-replicate, All-take}
+use Rattle.std.proofs.lemmas.List.Elements.{All-append, All-cons, All-nil, All-replicate, All-take}
 use Rattle.c_ints.specs.declared.operator.BinOp.{BinOp}
 use Rattle.c_ints.specs.declared.operator.BinOp.TheVariants.{Eq, Ne}
 use Rattle.c_ints.specs.declared.operator.SafeOp.{SafeOp}
@@ -15,7 +15,7 @@ use Rattle.c_tree.specs.BareExpr.{BareExpr, BareType, Handle, Integer, Thread}
 use Rattle.c_tree.specs.BareExpr as e
 use Rattle.c_semantics.specs.Constants.{chosen, constant, elements, filled, initial, initial_cells, no_old, object_of, safe, wrapped, wrapped_unary}
 use Rattle.c_semantics.specs.Values.{Value, Number, Reference, Started, compared, converted_to, int_of, is_true, zero_of}
-use Rattle.source_model.specs.Worlds.{Cells, cells_at_first}
+use Rattle.source_model.specs.Worlds.{cells_at_first}
 use Rattle.image_load.specs.FirstCells.{ArePlain, IsPlain}
 
 zero_plain : (t : BareType) → IsPlain (zero_of t)

@@ -1,11 +1,11 @@
 -- What is made of a text's bodies is the image of the text.
-use Rattle.std.proofs.Common.{◌≡◌, ℕ, ◌<◌, ◌≤◌, List, [], ◌∷◌, map, length, get_or, Option, Some, None, option_map, refl, sym, ap, subst, ◌∙◌, arith}
+use Rattle.std.proofs.Common.{◌≡◌, ℕ, List, [], ◌∷◌, map, length, get_or, Option, Some, None, refl, sym, ap, subst, ◌∙◌, arith}
 use Rattle.std.specs.Prelude.{All, codes, slice_get}
 use Rattle.std.specs.Option.{option_flatten}
 use Rattle.std.proofs.Math.Path.{fun_ext}
 use Rattle.std.proofs.lemmas.List.{get_or-map, length-map}
 use Rattle.std.proofs.lemmas.List.Elements.{All-map, All-same, All-weaker}
-use Rattle.std.proofs.lemmas.Option.{same_Some, slice_get-get_or, slice_get-map, slice_get_past, slice_get_within}
+use Rattle.std.proofs.lemmas.Option.{same_Some, slice_get-get_or, slice_get-map, slice_get_within}
 use Rattle.std.proofs.lemmas.Simd.{map-map}
 use Rattle.c_tree.specs.BareExpr.{Bytes}
 use Rattle.c_tree.specs.BareDef.{BareDef}
@@ -30,7 +30,7 @@ use Rattle.code_image.specs.Acts.{Acts, named}
 use Rattle.code_image.specs.Images.{IsFunctionOf, code_in_image, names_of}
 use Rattle.image_load.specs.declared.loading.Parts.{Parts}
 use Rattle.image_load.specs.Numbering.{meaning}
-use Rattle.image_load.specs.Doing.{AreMade, HasStops, IsDoneAt, given, made}
+use Rattle.image_load.specs.Doing.{AreMade, HasStops, given, made}
 use Rattle.image_load.specs.Loaded.{ArePartsOf}
 use Rattle.image_load.proofs.StopsOfCode.{stop_there}
 
@@ -41,9 +41,6 @@ found_in : {X : Type 0} (P : X → Type 0) (xs : List X) (n : ℕ) (x : X) → A
 found_in P xs n x all there =
     let within = slice_get_within xs n x there in
     subst P (same_Some _ _ (sym (slice_get-get_or xs n x within) ∙ there)) (all n x within)
-
-pub each_item : {X : Type 0} (P : X → Type 0) (xs : List X) (n : ℕ) (d : X) → All P xs → n < length xs → P (get_or xs n d)
-each_item P xs n d all within = all n d within
 
 -- what holds of each image of an item holds of the item by its image
 pub of_images : {X Y : Type 0} (P : Y → Type 0) (f : X → Y) (xs : List X) → All P (map f xs) → All (λ x. P (f x)) xs

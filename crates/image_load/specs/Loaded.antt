@@ -8,12 +8,14 @@ use Rattle.frame_bodies.specs.AcceptedTexts.{IsAccepted}
 use Rattle.name_sets.specs.Limit.{most_names}
 use Rattle.resolved_tree.specs.Nodes.{Table}
 use Rattle.bytecode.specs.Words.{Naming, word_of}
+use Rattle.thread_state.specs.Frames.{most_words}
 use Rattle.text_code.specs.declared.body.Body.{Body}
 use Rattle.code_runs.specs.CodeData.{number_of}
 use Rattle.word_data.specs.Lengths.{most_printed}
 use Rattle.code_image.specs.declared.function.CodeFunction.{CodeFunction}
 use Rattle.code_image.specs.declared.image.CodeImage.{CodeImage}
 use Rattle.code_image.specs.StopHeights.{StopsPrint}
+use Rattle.code_image.specs.Stacks.{IsHighestStack}
 use Rattle.code_image.specs.Images.{IsImage, names_of}
 use Rattle.image_load.specs.declared.loading.Parts.{Parts}
 use Rattle.image_load.specs.Numbering.{meaning}
@@ -48,3 +50,5 @@ pub record ArePartsOf (text : List BareDef) (t : Table) (bodies : List Body) (p 
   pub few : p.mutexes ≤ most_names
   pub short : p.longest_print ≤ most_printed
   pub prints : (n : ℕ) (f : CodeFunction) → slice_get p.functions.items n ≡ Some f → StopsPrint t p.longest_print f.stops.items
+  pub low : p.highest_stack ≤ most_words
+  pub highest : IsHighestStack p.functions.items p.highest_stack

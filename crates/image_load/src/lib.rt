@@ -6,7 +6,7 @@
 //!
 //! Read `specs/Loaded`; then `fault` (why a text isn't loaded), `tables` (numbers of names), `names` (what the names of a text mean), `fields` (places of fields),
 //! `shared_stops`, `acts` and `stops` (what is done at a stop, and where it goes on), `kinds` (the words of a function), `functions`,
-//! `lengths` (the longest print), `cells` (first cells), and `loading`.
+//! `lengths` (the longest print), `stacks` (the highest stack), `cells` (first cells), and `loading`.
 #![tactic(auto)]
 
 mod acts;
@@ -19,6 +19,7 @@ mod lengths;
 mod loading;
 mod names;
 mod shared_stops;
+mod stacks;
 mod stops;
 mod tables;
 

@@ -16,6 +16,7 @@ use crate::fault::LoadFault;
 use crate::functions::functions;
 use crate::lengths::longest_print;
 use crate::names::Names;
+use crate::stacks::highest_stack;
 use crate::tables::{function_numbers, mutexes, number, tags};
 use accepted_code::code_of_texts_is_that_of_their_functions;
 use accepted_stops::accepted_names_are_few;
@@ -89,6 +90,7 @@ fn image(alloc: Global, known: &Known, cells: &Places) -> Result<CodeImage, Load
         main: parts.main,
         mutexes: parts.mutexes,
         longest_print: parts.longest_print,
+        highest_stack: parts.highest_stack,
     })
 }
 
@@ -99,10 +101,11 @@ pub(crate) struct Parts {
     pub main: u32,
     pub mutexes: usize,
     pub longest_print: usize,
+    pub highest_stack: usize,
 }
 
-/// The functions of a text with these bodies, the number of `main`, how many mutexes there are, and how many bytes a stop prints at
-/// most.
+/// The functions of a text with these bodies, the number of `main`, how many mutexes there are, how many bytes a stop prints at
+/// most, and the height of the highest stack.
 fn parts_of(
     alloc: Global,
     known: &Known,
@@ -135,10 +138,12 @@ fn parts_of(
     };
     let made = functions(alloc, &names)?;
     let longest_print = longest_print(trees, made.as_slice())?;
+    let highest_stack = highest_stack(made.as_slice());
     Ok(Parts {
         functions: made,
         main,
         mutexes: mutexes.count,
         longest_print,
+        highest_stack,
     })
 }

@@ -40,8 +40,8 @@ int main(void) {
 }
 ";
 
-/// The acts of a text, the number of its `main`, how many mutexes it has, and how many bytes it prints at once at most; then the words
-/// of its first cells, a line a row.
+/// The acts of a text, the number of its `main`, how many mutexes it has, how many bytes it prints at once at most, and the height of
+/// its highest stack; then the words of its first cells, a line a row.
 fn loaded(alloc: Global, text: &str) -> Result<String, Fail> {
     let Ok(typed) = read_text(alloc, text.as_bytes()) else {
         return Err(Fail::new("the text has a fault"));
@@ -65,7 +65,11 @@ fn in_code(alloc: Global, code: &LoadedCode) -> Result<String, Fail> {
     let main = code.image.main;
     let mutexes = code.image.mutexes;
     let longest = code.image.longest_print;
-    write!(shown, "main {main} mutexes {mutexes} longest {longest}\n")?;
+    let highest = code.image.highest_stack;
+    write!(
+        shown,
+        "main {main} mutexes {mutexes} longest {longest} highest {highest}\n"
+    )?;
     for row in code.cells.as_slice() {
         let words = row.as_slice();
         write!(shown, "{words:?}\n")?;
@@ -105,7 +109,7 @@ main
 40 end 0 -> 42
 43 return 0 -> 44
 45 return 0 -> 46
-main 2 mutexes 2 longest 21
+main 2 mutexes 2 longest 21 highest 2
 [3]
 [1, 18446744073709551614, 0]
 "

@@ -8,15 +8,14 @@ use Rattle.c_tree.specs.BareDef.{BareDef}
 use Rattle.c_semantics.specs.SourceTexts.{text_of}
 use Rattle.source_model.specs.Worlds.{World, Limits, in_slot, is_over}
 use Rattle.source_model.specs.Moves.{move}
-use Rattle.source_model.specs.Runs.{SourceMove}
+use Rattle.source_model.specs.Runs.{SourceMove, source_run}
 use Rattle.source_model.specs.Runs as source
 use Rattle.source_model.specs.Guards.{Guard, Setup, bodies_of, has_ended, move_leads, moved, seat_of}
 use Rattle.source_model.specs.JournalLaws.{texts_of}
 use Rattle.source_model.proofs.Moved.{Keeps, move_keeps, of_outcome}
-use Rattle.run_machine.specs.Machines.{CameBy, KeepsTexts, Shown}
-use Rattle.source_runner.specs.declared.run.SourceMove.{SourceMove as Code}
-use Rattle.source_runner.specs.declared.run.Stepped.{Stepped}
-use Rattle.source_runner.specs.SourceRuns.{move_of, world_after}
+use Rattle.run_machine.specs.declared.machine.Moved.{Moved}
+use Rattle.run_machine.specs.Machines.{KeepsTexts, MovedBy, Shown}
+use Rattle.source_runner.specs.SourceRuns.{world_after}
 use Rattle.source_runner.proofs.AfterMoves.{moved_versions, then_move}
 use Rattle.dsu_runs.proofs.Books.{same_offers}
 use Rattle.plain_engine.specs.declared.seat.Seat.{Seat}
@@ -24,7 +23,7 @@ use Rattle.plain_engine.specs.Kept.{AreAfter, IsSeat, NoneNew}
 use Rattle.plain_engine.specs.Plain.{AreSeats, IsRunAt, IsStateAt, ShownState}
 use Rattle.plain_engine.specs.Steps.{MovesTo, Stayed}
 use Rattle.plain_engine.proofs.SlotsAfter.{goes_on, mover, none_new, slots_after}
-use Rattle.plain_engine.proofs.Standing.{Gives, gives}
+use Rattle.plain_engine.proofs.Standing.{Gives, given, gives}
 
 -- a move is made where the run goes on and the thread is at no check-in, and only there
 goes : (a b : Bool) (g : Guard) (slot : ℕ) (o : Option World) (w : World) → a ≡ false → b ≡ false → o ≡ Some w
@@ -45,10 +44,10 @@ no_move true o g slot none = refl
 no_move false o g slot none = ap (option_map (moved g slot)) none
 
 -- what a step came to
-pub stepped : (texts : List (List BareDef)) (limits : Limits) (moves : List SourceMove) (m : Code) (new : Shown)
-    (r : Outcome Stepped AllocError) (s : Stepped) → r ≡ Ok s → IfOk r (CameBy texts limits moves (move_of m) new)
-    → CameBy texts limits moves (move_of m) new s
-stepped texts limits moves m new r s is steps = subst (λ x. IfOk x (CameBy texts limits moves (move_of m) new)) is steps
+pub stepped : (texts : List (List BareDef)) (limits : Limits) (moves : List SourceMove) (slot : ℕ) (new : Shown)
+    (r : Outcome Moved AllocError) (m : Moved) → r ≡ Ok m → IfOk r (MovedBy texts limits moves slot new)
+    → MovedBy texts limits moves slot new m
+stepped texts limits moves slot new r m is steps = subst (λ x. IfOk x (MovedBy texts limits moves slot new)) is steps
 
 -- ---- a run that has the same texts
 
@@ -158,13 +157,14 @@ module _ (setup : Setup) (g : Guard) (s : ShownState) (at : IsStateAt setup g s)
       },
     )
 
-    -- the same of a move that started no thread, by how many were started before and after it
-    pub made_alone : (threads : ℕ) → length s.seats ≡ 16 → Gives (λ x. x.world.threads) setup at.run.moves threads
-        → Gives (λ x. x.world.threads) setup (at.run.moves ++ source.Move slot ∷ []) threads → (later : List Seat)
-        → (NoneNew w slot s.seats → AreAfter new.words w slot leads s.seats later)
+    -- the same of a move that started no thread
+    pub made_alone : length s.seats ≡ 16
+        → option_map (λ x. x.world.threads) (source_run (texts_of setup) setup.limits (at.run.moves ++ source.Move slot ∷ []))
+        ≡ option_map (λ x. x.world.threads) (source_run (texts_of setup) setup.limits at.run.moves)
+        → (later : List Seat) → (NoneNew w slot s.seats → AreAfter new.words w slot leads s.seats later)
         → MovesTo setup (Move slot) g (record s { run = new; seats = later }) true
-    made_alone threads many before after later follows =
+    made_alone many same later follows =
         made later
         (follows (none_new g slot w s.run s.seats at.seats many to
-        (gives (λ x. x.world.threads) setup (at.run.moves ++ source.Move slot ∷ []) w threads ran after
-        ∙ sym (gives (λ x. x.world.threads) setup at.run.moves g.world threads at.run.world before))))
+        (gives (λ x. x.world.threads) setup (at.run.moves ++ source.Move slot ∷ []) w g.world.threads ran
+        (same ∙ given setup g s.run at.run (λ x. x.world.threads) g.world.threads refl))))

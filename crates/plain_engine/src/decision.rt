@@ -1,5 +1,5 @@
 //! The decision on an offer.
-ghost use Rattle.std.specs.Prelude.{◌≡◌, ◌<◌, ◌++◌, false, true, List, None, map, Err, IfErr, IfOk, IfNone, IfSome, OnErr};
+ghost use Rattle.std.specs.Prelude.{◌≡◌, ◌<◌, ◌++◌, ℕ, false, true, List, None, map, Err, IfErr, IfOk, IfNone, IfSome, OnErr};
 ghost use Rattle.c_tree.specs.BareExpr.{Bytes};
 ghost use Rattle.code_store.specs.Limits.{are_too_many};
 ghost use Rattle.code_store.specs.Stored.{meant_body};
@@ -28,6 +28,7 @@ impl<M: Machine> State<M> {
         ensures stays { OnErr result ((setup : Setup) (g : Guard)
             → IsStateAt setup g (state_shown M.shown self.old) → IsStateAt setup g (state_shown M.shown self.new)) }
         ensures kept { (M.shown self.new.run).kept ≡ (M.shown self.old.run).kept }
+        ensures lasts { (n : ℕ) → M.lasts n self.old.run → M.lasts n self.new.run }
         ensures misused { result ≡ Err Undecided.Misused → (setup : Setup) (g : Guard)
             → IsStateAt setup g (state_shown M.shown self.old) → g.world.misused ≡ true }
         ensures undefined { result ≡ Err Undecided.UndefinedName → (setup : Setup) (g : Guard)
@@ -61,6 +62,7 @@ impl<M: Machine> State<M> {
         ensures stays { OnErr result ((setup : Setup) (g : Guard)
             → IsStateAt setup g (state_shown M.shown self.old) → IsStateAt setup g (state_shown M.shown self.new)) }
         ensures kept { (M.shown self.new.run).kept ≡ (M.shown self.old.run).kept }
+        ensures lasts { (n : ℕ) → M.lasts n self.old.run → M.lasts n self.new.run }
         ensures why { IfErr result (MayWithhold (state_shown M.shown self.old) k) }
     {
         let decided = self.decision(k)?;
@@ -125,6 +127,7 @@ impl<M: Machine> State<M> {
         ensures stays { OnErr result ((setup : Setup) (g : Guard)
             → IsStateAt setup g (state_shown M.shown self.old) → IsStateAt setup g (state_shown M.shown self.new)) }
         ensures kept { (M.shown self.new.run).kept ≡ (M.shown self.old.run).kept }
+        ensures lasts { (n : ℕ) → M.lasts n self.old.run → M.lasts n self.new.run }
         ensures memory { IfErr result (λ why. why ≡ Undecided.Memory) }
     {
         // A decision admits no patch without room.
@@ -154,6 +157,7 @@ impl<M: Machine> State<M> {
         ensures followed { (setup : Setup) (g after : Guard)
             → IsFollowed setup g k pins.now (state_shown M.shown self.old) after → IsStateAt setup after (state_shown M.shown self.new) }
         ensures kept { (M.shown self.new.run).kept ≡ (M.shown self.old.run).kept }
+        ensures lasts { (n : ℕ) → M.lasts n self.old.run → M.lasts n self.new.run }
     {
         self.seats = with_pins(&self.seats, pins);
         self.last = k as usize;

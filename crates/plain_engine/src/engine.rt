@@ -53,6 +53,7 @@ impl<M: Machine, S: Sink> PlainEngine<M, S> {
             → (M.shown run).trees ≡ text ∷ offers → (M.shown run).is_run (map text_in (text ∷ offers)) (limits_of objects) []
             → (M.shown run).kept ≡ 0 → let setup = setup_of text offers lines.items objects in
             IfOk result (λ e. IsAt M.shown setup (first_guard setup) e.state e.printed e.written) }
+        ensures run { IfOk result (λ e. e.state.run ≡ run) }
         ensures told { IfOk result (λ e. e.sink ≡ sink) }
         ensures back { IfErr result (λ e. e.sink ≡ sink) }
         ensures fault { IfErr result (λ e. (text : Program) (offers : List Program) → (M.shown run).trees ≡ text ∷ offers

@@ -1,5 +1,5 @@
 //! The state of a run beside its output.
-ghost use Rattle.std.specs.Prelude.{◌≡◌, ◌≤◌, ◌<◌, ◌-◌, ℕ, List, [], ◌∷◌, ◌++◌, false, true, length, map, slice_get, Some, IfOk, IfErr, OnErr};
+ghost use Rattle.std.specs.Prelude.{◌≡◌, ◌+◌, ◌≤◌, ◌<◌, ◌-◌, ℕ, List, [], ◌∷◌, ◌++◌, false, true, length, map, slice_get, Some, IfOk, IfErr, IsOk, OnErr};
 ghost use Rattle.std.specs.List.{range_with_len};
 ghost use Rattle.c_tree.specs.declared.def.Program.{Program};
 ghost use Rattle.run_types.specs.declared.run.Event.TheVariants.{Move, CheckIn, Offer, Withdraw};
@@ -22,10 +22,10 @@ use dsu_runs::Book;
 use installed_versions::{FirstFault, Installed};
 use name_sets::Names;
 use rows_in_force::marks_are_of_frames;
-use run_machine::Machine;
+use run_machine::{Machine, Moved};
 use run_types::Event;
 use source_model::{OfferAnswer, frames_come_through_their_bodies};
-use source_runner::{FrameAt, SourceMove, Stepped};
+use source_runner::FrameAt;
 use std::alloc::{AllocError, Global};
 
 /// How many slots there are.
@@ -57,6 +57,7 @@ impl<M: Machine> State<M> {
             → let setup = setup_of text offers lines.items objects in
             IfOk result (λ s. IsStateAt setup (first_guard setup) (state_shown M.shown s)) }
         ensures kept { IfOk result (λ s. (M.shown s.run).kept ≡ (M.shown run).kept) }
+        ensures same { IfOk result (λ s. s.run ≡ run) }
         ensures fault { IfErr result (λ fault. (text : Program) (offers : List Program) → (M.shown run).trees ≡ text ∷ offers
             → IsFirstFault text fault) }
     {
@@ -158,25 +159,25 @@ impl<M: Machine> State<M> {
         }
     }
 
-    /// Makes the move of the thread in a slot, if it can be made.
+    /// Makes the move of the thread in a slot, if it can be made. Nothing is asked of the machine before.
     pub(crate) fn make(&mut self, slot: u8) -> Result<bool, AllocError>
         ensures made { (setup : Setup) (g : Guard) → IsStateAt setup g (state_shown M.shown self.old)
             → IfOk result (MovesTo setup (Move slot) g (state_shown M.shown self.new)) }
         ensures kept { (M.shown self.new.run).kept ≡ (M.shown self.old.run).kept }
+        ensures never_out_of_memory { (n : ℕ) → M.lasts (1 + n) self.old.run → IsOk result }
+        ensures spent { (n : ℕ) → M.lasts (1 + n) self.old.run → IfOk result (λ made. made ≡ true → M.spent n self.new.run) }
+        ensures lasts { (n : ℕ) → M.lasts n self.old.run → IfOk result (λ made. made ≡ false → M.lasts n self.new.run) }
     {
         if self.is_at_check_in(slot) {
             return Ok(false);
         }
-        // Where the move leads is asked before it is made.
-        let leads = self.run.leads(slot);
-        let threads = self.run.threads();
-        match self.run.step(SourceMove::Move(slot))? {
-            Stepped::CannotMove => Ok(false),
-            Stepped::Done => {
-                if self.run.threads() == threads {
-                    follow_mover(&self.run, &mut self.seats, slot, leads);
+        match self.run.step(slot)? {
+            Moved::CannotMove => Ok(false),
+            Moved::Done(made) => {
+                if made.starts {
+                    follow_move(&self.run, &mut self.seats, slot, made.leads);
                 } else {
-                    follow_move(&self.run, &mut self.seats, slot, leads);
+                    follow_mover(&self.run, &mut self.seats, slot, made.leads);
                 }
                 Ok(true)
             }
@@ -188,6 +189,7 @@ impl<M: Machine> State<M> {
         ensures made { (setup : Setup) (g : Guard) → IsStateAt setup g (state_shown M.shown self.old)
             → ComesTo setup (CheckIn slot) g (state_shown M.shown self.new) result }
         ensures kept { (M.shown self.new.run).kept ≡ (M.shown self.old.run).kept }
+        ensures lasts { (n : ℕ) → M.lasts n self.old.run → M.lasts n self.new.run }
     {
         if !self.is_at_check_in(slot) {
             return false;
@@ -211,6 +213,7 @@ impl<M: Machine> State<M> {
         ensures made { (setup : Setup) (g : Guard) → IsStateAt setup g (state_shown M.shown self.old) → written ≡ lines_written g.world
             → ComesTo setup (Offer k) g (state_shown M.shown self.new) result }
         ensures kept { (M.shown self.new.run).kept ≡ (M.shown self.old.run).kept }
+        ensures lasts { (n : ℕ) → M.lasts n self.old.run → M.lasts n self.new.run }
     {
         if self.has_ended() {
             return false;
@@ -223,6 +226,7 @@ impl<M: Machine> State<M> {
         ensures made { (setup : Setup) (g : Guard) → IsStateAt setup g (state_shown M.shown self.old)
             → ComesTo setup (Withdraw k) g (state_shown M.shown self.new) result }
         ensures kept { (M.shown self.new.run).kept ≡ (M.shown self.old.run).kept }
+        ensures lasts { (n : ℕ) → M.lasts n self.old.run → M.lasts n self.new.run }
     {
         if self.has_ended() {
             return false;

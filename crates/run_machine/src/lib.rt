@@ -8,4 +8,4 @@
 mod machine;
 mod source;
 
-pub use machine::Machine;
+pub use machine::{Machine, MoveMade, Moved};

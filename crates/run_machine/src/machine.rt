@@ -1,25 +1,44 @@
 //! What an engine asks of a machine.
-ghost use Rattle.std.specs.Prelude.{◌≡◌, ◌+◌, ◌≤◌, ◌<◌, ◌^◌, ℕ, [], List, All, IsOk, false, map, length, drop, option_map, option_copied, slice_get, slice_index_or, Some, IfOk, OnErr};
+ghost use Rattle.std.specs.Prelude.{◌≡◌, ◌+◌, ◌≤◌, ◌<◌, ◌^◌, ℕ, [], List, All, IsOk, false, map, length, drop, option_map, option_copied, slice_get, slice_index_or, Ok, Some, IfOk, OnErr};
 ghost use Rattle.c_tree.specs.BareDef.{BareDef};
 ghost use Rattle.source_model.specs.Waits.{waits_for};
 ghost use Rattle.source_model.specs.Worlds.{Limits, World, in_slot, is_over};
 ghost use Rattle.source_model.specs.Runs.{SourceMove as Made, Install, can_move, is_live, source_run};
-ghost use Rattle.source_model.specs.Guards.{in_transaction, move_leads};
+ghost use Rattle.source_model.specs.Guards.{in_transaction};
 ghost use Rattle.version_laws.specs.Histories.{last_text, versions_by};
 ghost use Rattle.resolved_tree.specs.Nodes.{word as word_text};
 ghost use Rattle.type_transformers.specs.Changes.{IsChange, changing, name_of};
 ghost use Rattle.source_runner.specs.States.{ending_of};
 ghost use Rattle.source_runner.specs.Waits.{waiting_of};
 ghost use Rattle.source_runner.specs.Queries.{entering_in, innermost_in, next_point_in, place_at, place_up_in};
-ghost use Rattle.source_runner.specs.SourceRuns.{move_of, world_after};
-ghost use Rattle.run_machine.specs.Machines.{CameBy, KeepsTexts, Shown};
+ghost use Rattle.source_runner.specs.SourceRuns.{world_after};
+ghost use Rattle.run_machine.specs.Machines.{CameBy, KeepsTexts, MovedBy, Shown};
 
 use c_types::Typed;
 use resolved_tree::Word;
 use run_types::Ending;
-use source_runner::{FrameAt, SourceMove, SourceWait, Stepped};
+use source_runner::{FrameAt, SourceWait, Stepped};
 use std::alloc::AllocError;
 use type_transformers::Change;
+
+/// What a move came to that was made.
+#[derive(Clone, Copy, Debug, PartialEq, Eq)]
+pub struct MoveMade {
+    /// Whether it led to a check-in: the thread entered, returned to a caller, began or ended a transaction, or was at an update
+    /// point.
+    pub leads: bool,
+    /// Whether it started a thread.
+    pub starts: bool,
+}
+
+/// What came of the move of a thread.
+#[derive(Clone, Copy, Debug, PartialEq, Eq)]
+pub enum Moved {
+    /// It was made.
+    Done(MoveMade),
+    /// It can't be made, and nothing changed.
+    CannotMove,
+}
 
 /// A machine that runs texts. Its clauses say that it is the run of the definitions over the moves that were made; once a step
 /// ran out of memory nothing is said of it any more.
@@ -34,13 +53,14 @@ pub trait Machine: Drop {
     /// The same once its output is forgotten.
     ghost spent: { ℕ → Self → Type 0 };
 
-    /// Makes a move, if it can be made.
-    fn step(&mut self, m: SourceMove) -> Result<Stepped, AllocError>
-        ensures stepped { (texts : List (List BareDef)) (limits : Limits) (moves : List Made) → (shown self.old).is_run texts limits moves
-            → IfOk result (CameBy texts limits moves (move_of m) (shown self.new)) }
+    /// Makes the move of the thread in a slot, if it can be made. All that an engine needs to know of the move is answered with it.
+    fn step(&mut self, slot: u8) -> Result<Moved, AllocError>
+        ensures moved { (texts : List (List BareDef)) (limits : Limits) (moves : List Made) → (shown self.old).is_run texts limits moves
+            → IfOk result (MovedBy texts limits moves slot (shown self.new)) }
         ensures same { KeepsTexts (shown self.old) (shown self.new) }
         ensures kept { (shown self.new).kept ≡ (shown self.old).kept }
-        ensures lasts { (n : ℕ) → lasts (1 + n) self.old → IsOk result × spent n self.new };
+        ensures lasts { (n : ℕ) → lasts (1 + n) self.old → IsOk result × spent n self.new }
+        ensures stays { (n : ℕ) → lasts n self.old → result ≡ Ok Moved.CannotMove → lasts n self.new };
 
     /// Installs the text with a number, if there is one and the run isn't over; the changes are those from the text in force
     /// to it. The first text, which has the number 0, isn't installed again. Where memory runs out, the run stays as it is.
@@ -53,7 +73,8 @@ pub trait Machine: Drop {
         ensures stays { OnErr result ((texts : List (List BareDef)) (limits : Limits) (moves : List Made)
             → (shown self.old).is_run texts limits moves → (shown self.new).is_run texts limits moves) }
         ensures same { KeepsTexts (shown self.old) (shown self.new) }
-        ensures kept { (shown self.new).kept ≡ (shown self.old).kept };
+        ensures kept { (shown self.new).kept ≡ (shown self.old).kept }
+        ensures lasts { (n : ℕ) → lasts n self.old → lasts n self.new };
 
     /// What was printed after that many bytes. It is asked of bytes of which the text is kept.
     fn output_from(&self, from: usize) -> &[u8]
@@ -79,11 +100,6 @@ pub trait Machine: Drop {
         ensures { (texts : List (List BareDef)) (limits : Limits) (moves : List Made) → (shown self.now).is_run texts limits moves
             → option_map (λ x. x.misused) (source_run texts limits moves) ≡ Some result };
 
-    /// How many threads were started, that of `main` among them.
-    fn threads(&self) -> usize
-        ensures { (texts : List (List BareDef)) (limits : Limits) (moves : List Made) → (shown self.now).is_run texts limits moves
-            → option_map (λ x. x.world.threads) (source_run texts limits moves) ≡ Some result };
-
     /// How the run has ended, if `main` returned or a thread trapped.
     fn ending(&self) -> Option<Ending>
         ensures { (texts : List (List BareDef)) (limits : Limits) (moves : List Made) → (shown self.now).is_run texts limits moves
@@ -98,13 +114,6 @@ pub trait Machine: Drop {
     fn can_move(&self, slot: u8) -> bool
         ensures { (texts : List (List BareDef)) (limits : Limits) (moves : List Made) → (shown self.now).is_run texts limits moves
             → option_map (λ x. can_move x.world slot) (source_run texts limits moves) ≡ Some result };
-
-    /// Whether the next move of the thread in a slot leads to a check-in: it enters, returns to a caller, begins or ends
-    /// a transaction, or is at an update point. It is asked of a run that isn't over.
-    fn leads(&self, slot: u8) -> bool
-        ensures { (texts : List (List BareDef)) (limits : Limits) (moves : List Made) → (shown self.now).is_run texts limits moves
-            → option_map (λ x. is_over x.world) (source_run texts limits moves) ≡ Some false
-            → option_map (λ x. move_leads (in_slot x.world slot)) (source_run texts limits moves) ≡ Some result };
 
     /// What the thread in a slot waits for, if it waits. It is asked of a run that isn't over.
     fn waits(&self, slot: u8) -> Option<SourceWait<'_>>

@@ -1,5 +1,5 @@
 //! The source machine as a machine.
-use crate::Machine;
+use crate::{Machine, MoveMade, Moved};
 use c_types::Typed;
 use resolved_tree::Word;
 use run_types::Ending;
@@ -17,8 +17,17 @@ impl Machine for SourceRun {
 
     ghost spent = { λ _ _. ⊥ };
 
-    fn step(&mut self, m: SourceMove) -> Result<Stepped, AllocError> {
-        self.step(m)
+    fn step(&mut self, slot: u8) -> Result<Moved, AllocError> {
+        // Where the move leads is asked before it is made.
+        let leads = self.leads(slot);
+        let threads = self.threads();
+        match self.step(SourceMove::Move(slot))? {
+            Stepped::CannotMove => Ok(Moved::CannotMove),
+            Stepped::Done => {
+                let starts = self.threads() != threads;
+                Ok(Moved::Done(MoveMade { leads, starts }))
+            }
+        }
     }
 
     fn install(&mut self, number: usize, changes: &[Change]) -> Result<Stepped, AllocError> {
@@ -41,10 +50,6 @@ impl Machine for SourceRun {
         self.misused()
     }
 
-    fn threads(&self) -> usize {
-        self.threads()
-    }
-
     fn ending(&self) -> Option<Ending> {
         self.ending()
     }
@@ -55,10 +60,6 @@ impl Machine for SourceRun {
 
     fn can_move(&self, slot: u8) -> bool {
         self.can_move(slot)
-    }
-
-    fn leads(&self, slot: u8) -> bool {
-        self.leads(slot)
     }
 
     fn waits(&self, slot: u8) -> Option<SourceWait<'_>> {

@@ -20,5 +20,6 @@ pub record StackChanged (t : Table) (old new : Frames) : Type 0 where
 abbrev pub StackChangesAlone : Type 0
 StackChangesAlone =
     (t : Table) (old new : Frames) → IsKept old → 0 < depth_of old → new.frames.items ≡ old.frames.items
+    → new.highest_stack ≡ old.highest_stack
     → IsSameOutside (stack_base old) (stack_base old + most_words) old.words.items new.words.items
     → StackChanged t old new

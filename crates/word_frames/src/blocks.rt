@@ -1,11 +1,11 @@
 //! Where the words of frames are in a row of words, and how they come there.
 ghost use Rattle.std.specs.Prelude.{◌≡◌, ℕ, ◌+◌, ◌<◌, ◌≤◌, length, reverse, slice_index, vec_capacity};
 ghost use Rattle.source_model.specs.Moves.{frame_count};
-ghost use Rattle.thread_state.specs.Frames.{IsSameOutside, upward};
+ghost use Rattle.thread_state.specs.Frames.{IsSameOutside, most_words, upward};
 ghost use Rattle.word_frames.specs.Blocks.{base_of, room};
 
-/// How many words a frame has: 64 for its variables, and 66 for its stack.
-pub(crate) const BLOCK: usize = 130;
+/// How many words are after the last block: those of a stack as high as any, and one.
+pub(crate) const SPARE: usize = 67;
 
 /// How many variables a frame has.
 pub(crate) fn variables() -> usize
@@ -15,12 +15,14 @@ pub(crate) fn variables() -> usize
     64
 }
 
-/// Where the words of the frame with a number begin.
-pub(crate) fn base(n: usize) -> usize
-    requires { n ≤ frame_count }
-    ensures { result ≡ base_of n }
+/// Where the words of the frame with a number begin, where no stack is higher than this.
+pub(crate) fn base(highest_stack: usize, n: usize) -> usize
+    requires most { highest_stack ≤ most_words }
+    requires few { n ≤ frame_count }
+    ensures value { result ≡ base_of highest_stack n }
+    ensures small { result ≤ base_of most_words frame_count }
 {
-    1 + n * BLOCK
+    1 + n * (variables() + highest_stack)
 }
 
 /// Adds words, for which there is room, until there are so many.

@@ -1,15 +1,14 @@
 //! Calls: a thread starts, a function is entered, a frame goes on, waits and returns.
-ghost use Rattle.std.specs.Prelude.{◌≡◌, ◌+◌, ◌-◌, ◌<◌, ◌≤◌, [], ◌∷◌, ◌++◌, Option, slice_set, take};
+ghost use Rattle.std.specs.Prelude.{◌≡◌, ◌+◌, ◌-◌, ◌<◌, ◌≤◌, [], ◌∷◌, ◌++◌, Option, slice_set, take, ℕ};
 ghost use Rattle.resolved_tree.specs.Nodes.{Table};
 ghost use Rattle.bytecode.specs.Seen.{code_of};
 ghost use Rattle.code_kinds.specs.WellFormed.{most_variables};
 ghost use Rattle.source_model.specs.Moves.{frame_count};
-ghost use Rattle.thread_state.specs.Frames.{most_words};
 ghost use Rattle.thread_state.specs.Heights.{HasHeight, Sound};
 ghost use Rattle.word_frames.specs.Seen.{HasArguments, IsKept, arguments_of, depth_of, frame_at, innermost};
 ghost use Rattle.word_frames.specs.Changes.{Enters, Leaves, Waits, WentOn, new_frame, with_innermost};
 
-use crate::blocks::{BLOCK, base, copy_reversed, fill, variables};
+use crate::blocks::{SPARE, base, copy_reversed, fill, variables};
 use crate::frame::Frame;
 use crate::frames::Frames;
 use bytecode::Instr;
@@ -23,6 +22,7 @@ impl Frames {
         requires { IsKept self.old }
         ensures kept { IsKept self.new }
         ensures frames { self.new.frames.items ≡ [] }
+        ensures high { self.new.highest_stack ≡ self.old.highest_stack }
         ensures argument { arguments_of self.new 1 ≡ argument ∷ [] }
         ensures there { HasArguments self.new 1 }
     {
@@ -38,12 +38,16 @@ impl Frames {
         requires few { depth_of self.old < frame_count }
         requires arguments { HasArguments self.old count }
         ensures kept { IsKept self.new }
+        ensures high { self.new.highest_stack ≡ self.old.highest_stack }
         ensures frames { self.new.frames.items ≡ self.old.frames.items ++ new_frame function version unit ∷ [] }
         ensures enters { (t : Table) → Enters t self.old self.new function version count }
     {
         let from = self.arguments();
-        let to = base(self.frames.len());
-        fill(&mut self.words, to + BLOCK + 1);
+        let to = base(self.highest_stack, self.frames.len());
+        fill(
+            &mut self.words,
+            to + variables() + self.highest_stack + SPARE,
+        );
         copy_reversed(&mut self.words, from, to, count);
         self.frames.push_reserved(Frame {
             function,
@@ -56,7 +60,8 @@ impl Frames {
     }
 
     /// The innermost frame, which stopped at a point, goes on at a place with so many words on its stack, to its next stop or a
-    /// trap. `code` is the code of its function, and `heights` has the height of the stack at each place.
+    /// trap. `code` is the code of its function, and `heights` has the height of the stack at each place, none of them higher than the
+    /// highest of the thread.
     ///
     /// It takes time linear in the instructions that are executed.
     pub fn go_on(
@@ -71,19 +76,21 @@ impl Frames {
         requires frame { 0 < depth_of self.old }
         requires sound { (t : Table) → Sound (code_of t code.now) most_variables heights.now }
         requires height { HasHeight heights.now place height }
+        requires low { (p h : ℕ) → HasHeight heights.now p h → h ≤ self.old.highest_stack }
         ensures kept { IsKept self.new }
+        ensures high { self.new.highest_stack ≡ self.old.highest_stack }
         ensures frames { let f = innermost self.new in
             self.new.frames.items ≡ with_innermost self.old (record (innermost self.old) { point = point; place = f.place; height = f.height }) }
         ensures height { HasHeight heights.now (innermost self.new).place (innermost self.new).height }
         ensures goes { (t : Table) → WentOn t code.now self.old self.new point place height result }
     {
-        let last = self.frames.len() - 1;
+        let base = self.last_base();
         let reached = burst(
             code,
             heights,
             variables(),
             &mut self.words,
-            base(last),
+            base,
             place,
             height,
         );
@@ -98,6 +105,7 @@ impl Frames {
         requires frame { 0 < depth_of self.old }
         requires words { count ≤ (innermost self.old).height }
         ensures kept { IsKept self.new }
+        ensures high { self.new.highest_stack ≡ self.old.highest_stack }
         ensures frames { let f = innermost self.old in
             self.new.frames.items ≡ with_innermost self.old (record f { point = point; place = place; height = f.height - count }) }
         ensures there { count ≤ most_variables → HasArguments self.new count }
@@ -114,8 +122,9 @@ impl Frames {
         requires kept { IsKept self.old }
         requires frames { 2 ≤ depth_of self.old }
         requires word { 0 < (innermost self.old).height }
-        requires space { (frame_at self.old (depth_of self.old - 2)).height < most_words }
+        requires space { (frame_at self.old (depth_of self.old - 2)).height < self.old.highest_stack }
         ensures kept { IsKept self.new }
+        ensures high { self.new.highest_stack ≡ self.old.highest_stack }
         ensures frames { let last = depth_of self.old - 2 in let f = frame_at self.old last in
             self.new.frames.items ≡ slice_set (take (depth_of self.old - 1) self.old.frames.items) last (record f { height = f.height + 1 }) }
         ensures leaves { (t : Table) → Leaves t self.old self.new }
@@ -124,7 +133,8 @@ impl Frames {
         self.frames.pop();
         let last = self.frames.len() - 1;
         let frame = self.frames[last];
-        self.words[base(last) + variables() + frame.height] = word;
+        let low = self.last_base() + variables();
+        self.words[low + frame.height] = word;
         self.stand(frame.point, frame.place, frame.height + 1);
     }
 
@@ -132,8 +142,9 @@ impl Frames {
     fn stand(&mut self, point: u32, place: usize, height: usize)
         requires kept { IsKept self.old }
         requires frame { 0 < depth_of self.old }
-        requires low { height ≤ most_words }
+        requires low { height ≤ self.old.highest_stack }
         ensures kept { IsKept self.new }
+        ensures high { self.new.highest_stack ≡ self.old.highest_stack }
         ensures words { self.new.words ≡ self.old.words }
         ensures frames { self.new.frames.items ≡ with_innermost self.old (record (innermost self.old) { point = point; place = place; height = height }) }
     {

@@ -15,8 +15,11 @@ use Rattle.code_kinds.specs.WellFormed.{most_variables}
 use Rattle.thread_state.specs.Frames.{most_words}
 use Rattle.thread_state.specs.Heights.{HasHeight, IsSoundAt, Sound}
 
-low_height : (n height : ℕ) → n ≤ most_words → ◌≡◌ {A = Option (Option ℕ)} (Some (Some n)) (Some (Some height)) → height ≤ most_words
+low_height : (n height : ℕ) → n ≤ 3 → ◌≡◌ {A = Option (Option ℕ)} (Some (Some n)) (Some (Some height)) → height ≤ 3
 low_height n height low e = let same : n ≡ height = cc in omega arith
+
+under_most : (height : ℕ) → height ≤ 3 → height ≤ most_words
+under_most height low = omega (arith, low)
 
 sound_at : (heights : List (Option ℕ)) (place n : ℕ) (j : Instruction) → IsSoundAt heights most_variables j place n → (height : ℕ) (i : Instruction)
     → ◌≡◌ {A = Option (Option ℕ)} (Some (Some n)) (Some (Some height)) → ◌≡◌ {A = Option Instruction} (Some j) (Some i) → IsSoundAt heights most_variables i place height
@@ -31,7 +34,7 @@ ask_code = instr.CheckIn Entry 0 ∷ instr.Constant (Number I64) 7 ∷ instr.Con
 abbrev ask_heights : List (Option ℕ)
 ask_heights = Some 0 ∷ Some 0 ∷ Some 1 ∷ Some 2 ∷ Some 3 ∷ Some 1 ∷ []
 
-ask_low : (place height : ℕ) → HasHeight ask_heights place height → height ≤ most_words
+pub ask_low : (place height : ℕ) → HasHeight ask_heights place height → height ≤ 3
 ask_low zero height e = low_height 0 height (omega arith) e
 ask_low (suc zero) height e = low_height 0 height (omega arith) e
 ask_low (suc (suc zero)) height e = low_height 1 height (omega arith) e
@@ -50,7 +53,7 @@ ask_each t (suc (suc (suc (suc (suc zero))))) height i e g = sound_at ask_height
 ask_each t (suc (suc (suc (suc (suc (suc place)))))) height i e g = absurd (cc)
 
 pub ask_sound : (t : Table) → Sound (code_of t ask_code) most_variables ask_heights
-ask_sound t = record { whole = refl; low = ask_low; each = ask_each t }
+ask_sound t = record { whole = refl; low = λ place height there. under_most height (ask_low place height there); each = ask_each t }
 
 abbrev digits_code : List Instr
 digits_code = instr.CheckIn Entry 0 ∷ instr.Load 2 ∷ instr.Constant (Number I64) 10 ∷ instr.Binary Mul I64 ∷ instr.Load 1 ∷ instr.Binary Add I64 ∷ instr.Constant (Number I64) 10 ∷ instr.Binary Mul I64 ∷ instr.Load 0 ∷ instr.Binary Add I64 ∷ instr.Halt stop.Return 1 ∷ []
@@ -58,7 +61,7 @@ digits_code = instr.CheckIn Entry 0 ∷ instr.Load 2 ∷ instr.Constant (Number 
 abbrev digits_heights : List (Option ℕ)
 digits_heights = Some 0 ∷ Some 0 ∷ Some 1 ∷ Some 2 ∷ Some 1 ∷ Some 2 ∷ Some 1 ∷ Some 2 ∷ Some 1 ∷ Some 2 ∷ Some 1 ∷ []
 
-digits_low : (place height : ℕ) → HasHeight digits_heights place height → height ≤ most_words
+pub digits_low : (place height : ℕ) → HasHeight digits_heights place height → height ≤ 3
 digits_low zero height e = low_height 0 height (omega arith) e
 digits_low (suc zero) height e = low_height 0 height (omega arith) e
 digits_low (suc (suc zero)) height e = low_height 1 height (omega arith) e
@@ -87,7 +90,7 @@ digits_each t (suc (suc (suc (suc (suc (suc (suc (suc (suc (suc zero)))))))))) h
 digits_each t (suc (suc (suc (suc (suc (suc (suc (suc (suc (suc (suc place))))))))))) height i e g = absurd (cc)
 
 pub digits_sound : (t : Table) → Sound (code_of t digits_code) most_variables digits_heights
-digits_sound t = record { whole = refl; low = digits_low; each = digits_each t }
+digits_sound t = record { whole = refl; low = λ place height there. under_most height (digits_low place height there); each = digits_each t }
 
 abbrev sum_code : List Instr
 sum_code = instr.CheckIn Entry 0 ∷ instr.Load 0 ∷ instr.JumpUnlessZero 2 ∷ instr.Constant (Number I64) 0 ∷ instr.Halt stop.Return 1 ∷ instr.Load 0 ∷ instr.Load 0 ∷ instr.Constant (Number I64) 1 ∷ instr.Binary Sub I64 ∷ instr.Halt (stop.Call (record { 0 = 2 }) 1) 2 ∷ instr.Binary Add I64 ∷ instr.Halt stop.Return 3 ∷ []
@@ -95,7 +98,7 @@ sum_code = instr.CheckIn Entry 0 ∷ instr.Load 0 ∷ instr.JumpUnlessZero 2 ∷
 abbrev sum_heights : List (Option ℕ)
 sum_heights = Some 0 ∷ Some 0 ∷ Some 1 ∷ Some 0 ∷ Some 1 ∷ Some 0 ∷ Some 1 ∷ Some 2 ∷ Some 3 ∷ Some 2 ∷ Some 2 ∷ Some 1 ∷ []
 
-sum_low : (place height : ℕ) → HasHeight sum_heights place height → height ≤ most_words
+pub sum_low : (place height : ℕ) → HasHeight sum_heights place height → height ≤ 3
 sum_low zero height e = low_height 0 height (omega arith) e
 sum_low (suc zero) height e = low_height 0 height (omega arith) e
 sum_low (suc (suc zero)) height e = low_height 1 height (omega arith) e
@@ -126,4 +129,4 @@ sum_each t (suc (suc (suc (suc (suc (suc (suc (suc (suc (suc (suc zero))))))))))
 sum_each t (suc (suc (suc (suc (suc (suc (suc (suc (suc (suc (suc (suc place)))))))))))) height i e g = absurd (cc)
 
 pub sum_sound : (t : Table) → Sound (code_of t sum_code) most_variables sum_heights
-sum_sound t = record { whole = refl; low = sum_low; each = sum_each t }
+sum_sound t = record { whole = refl; low = λ place height there. under_most height (sum_low place height there); each = sum_each t }

@@ -1,5 +1,5 @@
 //! Functions in code, with the heights of their stacks.
-ghost use Rattle.std.specs.Prelude.{◌<◌, IsTrue};
+ghost use Rattle.std.specs.Prelude.{◌<◌, ◌≤◌, IsTrue};
 ghost use Rattle.thread_state.specs.Heights.{HasHeight};
 ghost use Rattle.word_frames.specs.Seen.{IsKept, depth_of};
 
@@ -109,6 +109,16 @@ pub(crate) fn instruction(unit: Unit, place: usize) -> Option<Instr> {
     }
 }
 
+/// No stack of these functions is higher.
+pub(crate) const HIGHEST: usize = 3;
+
+/// Whether there is room for each of their stacks.
+fn has_room(frames: &Frames) -> bool
+    ensures { IsTrue result → 3 ≤ frames.now.highest_stack }
+{
+    frames.highest_stack >= HIGHEST
+}
+
 /// Whether the stack has that height at a place.
 fn has_height(heights: &[Option<u8>], place: usize, height: usize) -> bool
     ensures { IsTrue result → HasHeight heights.now place height }
@@ -119,7 +129,7 @@ fn has_height(heights: &[Option<u8>], place: usize, height: usize) -> bool
     }
 }
 
-/// The innermost frame, of a function, goes on at a place with that height, unless the height is another.
+/// The innermost frame, of a function, goes on at a place with that height, unless the height is another or there is no room.
 pub(crate) fn go_on(
     frames: &mut Frames,
     unit: Unit,
@@ -143,7 +153,7 @@ fn ask(frames: &mut Frames, point: u32, place: usize, height: usize) -> Option<E
     requires frame { 0 < depth_of frames.old }
     ensures { IsKept frames.new }
 {
-    if !has_height(ASK_HEIGHTS, place, height) {
+    if !has_room(frames) || !has_height(ASK_HEIGHTS, place, height) {
         return None;
     }
     Some(frames.go_on(ASK, ASK_HEIGHTS, point, place, height))
@@ -154,7 +164,7 @@ fn digits(frames: &mut Frames, point: u32, place: usize, height: usize) -> Optio
     requires frame { 0 < depth_of frames.old }
     ensures { IsKept frames.new }
 {
-    if !has_height(DIGITS_HEIGHTS, place, height) {
+    if !has_room(frames) || !has_height(DIGITS_HEIGHTS, place, height) {
         return None;
     }
     Some(frames.go_on(DIGITS, DIGITS_HEIGHTS, point, place, height))
@@ -165,7 +175,7 @@ fn sum(frames: &mut Frames, point: u32, place: usize, height: usize) -> Option<E
     requires frame { 0 < depth_of frames.old }
     ensures { IsKept frames.new }
 {
-    if !has_height(SUM_HEIGHTS, place, height) {
+    if !has_room(frames) || !has_height(SUM_HEIGHTS, place, height) {
         return None;
     }
     Some(frames.go_on(SUM, SUM_HEIGHTS, point, place, height))

@@ -93,7 +93,7 @@ fn give(frames: &mut Frames) -> Option<Ending>
     if depth == 1 {
         return Some(Ending::Returned(frames.newest()));
     }
-    if frames.frames[depth - 2].height >= 66 {
+    if frames.frames[depth - 2].height >= frames.highest_stack {
         return Some(Ending::Lost);
     }
     frames.leave();

@@ -17,11 +17,12 @@ loop-preserved c =
       some = omega arith;
       few = omega (arith, c.loop-test.true, i.some);
       long = ap length e ∙ length_push c.loop.slots.items r ∙ ap (λ (n : ℕ). n + 1) i.long;
-      fit = λ functions inside n x there.
-          one_fits (Fits functions) c.loop.slots.items r (i.fit functions inside) (c.in_ok-new.ensures.fits functions inside) n x
+      fit = λ n x there.
+          one_fits (Fits c.args.image.now.functions.items) c.loop.slots.items r i.fit c.in_ok-new.ensures.fits n x
           (subst (λ (rs : List Running). slice_get rs n ≡ Some x) e there);
-      seen = λ image.
+      seen =
+          let image = c.args.image.now in
           ap (map (slot_of image)) e
-          ∙ one_more image c.loop.slots.items (Live (starting 0 (record { function = name_at image c.args.main; arguments = []; version = 1 }))) r c.loop.counter i.some
-          (i.seen image) c.in_ok-new.ensures.free;
+          ∙ one_more image c.loop.slots.items (Live (starting 0 (record { function = name_at image image.main; arguments = []; version = 1 }))) r c.loop.counter i.some
+          i.seen c.in_ok-new.ensures.free;
     }

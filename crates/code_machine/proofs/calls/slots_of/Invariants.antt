@@ -1,8 +1,6 @@
 use Rattle.std.proofs.Common.{◌≡◌, ℕ, ◌-◌, ◌<◌, ◌≤◌, List, [], ◌∷◌, length, map, replicate, Some}
 use Rattle.std.specs.Prelude.{slice_get}
 use Rattle.code_runs.specs.CodeThreads.{Free, Live, starting}
-use Rattle.code_image.specs.declared.function.CodeFunction.{CodeFunction}
-use Rattle.code_image.specs.declared.image.CodeImage.{CodeImage}
 use Rattle.code_machine.specs.declared.running.Running.{Running}
 use Rattle.code_machine.specs.Kept.{Fits}
 use Rattle.code_machine.specs.Seen.{name_at, slot_of}
@@ -13,7 +11,7 @@ invariant-loop l = record {
   some : 1 ≤ l.counter;
   few : l.counter - 1 ≤ l.fn.count - 1;
   long : length l.slots.items ≡ l.counter;
-  fit : (functions : List CodeFunction) → l.main < length functions → (n : ℕ) (r : Running) → slice_get l.slots.items n ≡ Some r → Fits functions r;
-  seen : (image : CodeImage) → map (slot_of image) l.slots.items
-      ≡ Live (starting 0 (record { function = name_at image l.main; arguments = []; version = 1 })) ∷ replicate (l.counter - 1) Free;
+  fit : (n : ℕ) (r : Running) → slice_get l.slots.items n ≡ Some r → Fits l.image.functions.items r;
+  seen : map (slot_of l.image) l.slots.items
+      ≡ Live (starting 0 (record { function = name_at l.image l.image.main; arguments = []; version = 1 })) ∷ replicate (l.counter - 1) Free;
 }

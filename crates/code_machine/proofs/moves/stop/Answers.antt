@@ -1,19 +1,24 @@
 use Rattle.std.proofs.Common.{◌≡◌, inr, Some, None, refl, sym, ap, subst, ◌∙◌}
-use Rattle.std.specs.Prelude.{slice_get}
+use Rattle.std.specs.Prelude.{nat_lt, slice_get}
 use Rattle.std.specs.Option.{option_flatten}
+use Rattle.local_evaluation.specs.Pieces.{stop_of}
 use Rattle.word_frames.specs.declared.frame.Frame.{Frame}
-use Rattle.word_frames.specs.Seen.{innermost}
+use Rattle.word_frames.specs.Seen.{depth_of, innermost}
 use Rattle.code_machine.specs.declared.running.Running.{Running}
+use Rattle.code_machine.specs.Leading.{LeadsNext, stop_leads}
+use Rattle.code_machine.specs.Seen.{words_of, world_of}
+use Rattle.code_machine.specs.Steps.{StepsTo}
+use Rattle.code_machine.proofs.LeadingMoves.{rest_leads}
 use Rattle.code_machine.proofs.Lists.{inside, same_read}
 use Rattle.code_machine.proofs.Losing.{lost}
-use Rattle.code_machine.proofs.Reaching.{is_alone, lives_at, none_left}
+use Rattle.code_machine.proofs.Reaching.{lives_at, none_left}
 use Rattle.code_machine.proofs.moves.stop.Goals as goal
 
 pub returns-in_default-clause-came : goal.returns-in_default-clause-came
 returns-in_default-clause-came c = λ text is.
     let l = c.requires.lives in
     let old = c.args.run.now in
-    let same : l.running ≡ c.index.result.now = same_read old.slots.items c.args.slot l.running c.index.result.now l.there (inside old.slots.items c.args.slot l.running l.there) c.index.ensures in
+    let same : l.running ≡ c.index-running.result.now = same_read old.slots.items c.args.slot l.running c.index-running.result.now l.there (inside old.slots.items c.args.slot l.running l.there) c.index-running.ensures in
     let frame : c.innermost-frame.result ≡ innermost l.running.frames = c.innermost-frame.ensures ∙ ap (λ (r : Running). innermost r.frames) (sym same) in
     let fits = c.requires.kept.fit c.args.slot l.running l.there in
     let g = c.function.result.now in
@@ -27,37 +32,37 @@ returns-in_default-clause-came c = λ text is.
       cannot = inr (lost text c.args.image.now old c.args.slot l.running g is fits l.there l.live l.does found none);
     }
 
-pub spawn-requires-clause-lives : goal.spawn-requires-clause-lives
-spawn-requires-clause-lives c =
+pub make_stop-requires-clause-lives : goal.make_stop-requires-clause-lives
+make_stop-requires-clause-lives c =
     let l = c.requires.lives in
     let old = c.args.run.now in
-    let same : l.running ≡ c.index.result.now = same_read old.slots.items c.args.slot l.running c.index.result.now l.there (inside old.slots.items c.args.slot l.running l.there) c.index.ensures in
+    let same : l.running ≡ c.index-running.result.now = same_read old.slots.items c.args.slot l.running c.index-running.result.now l.there (inside old.slots.items c.args.slot l.running l.there) c.index-running.ensures in
     let frame : c.innermost-frame.result ≡ innermost l.running.frames = c.innermost-frame.ensures ∙ ap (λ (r : Running). innermost r.frames) (sym same) in
     let fits = c.requires.kept.fit c.args.slot l.running l.there in
     lives_at c.args.image.now.functions.items old c.args.slot l.running c.innermost-frame.result c.function.result.now c.in-Some.stop l.there fits l.live l.does l.going frame
     c.function.ensures (sym c.stop_at.ensures ∙ c.in-Some.is)
 
-pub join-requires-clause-lives : goal.join-requires-clause-lives
-join-requires-clause-lives c =
-    let l = c.requires.lives in
-    let old = c.args.run.now in
-    let same : l.running ≡ c.index.result.now = same_read old.slots.items c.args.slot l.running c.index.result.now l.there (inside old.slots.items c.args.slot l.running l.there) c.index.ensures in
-    let frame : c.innermost-frame.result ≡ innermost l.running.frames = c.innermost-frame.ensures ∙ ap (λ (r : Running). innermost r.frames) (sym same) in
-    let fits = c.requires.kept.fit c.args.slot l.running l.there in
-    lives_at c.args.image.now.functions.items old c.args.slot l.running c.innermost-frame.result c.function.result.now c.in-Some.stop l.there fits l.live l.does l.going frame
-    c.function.ensures (sym c.stop_at.ensures ∙ c.in-Some.is)
+pub returns-in-Ok-clause-came : goal.returns-in-Ok-clause-came
+returns-in-Ok-clause-came c = λ text is.
+    subst (StepsTo text c.args.image.now c.args.slot c.args.run.now c.make_stop.new.run) (sym c.stepped.ensures.moved) (c.in-Ok.ensures.came text is)
 
-pub alone-requires : goal.alone-requires
-alone-requires c =
+pub returns-in-Ok-clause-led : goal.returns-in-Ok-clause-led
+returns-in-Ok-clause-led c = λ text is.
     let l = c.requires.lives in
     let old = c.args.run.now in
-    let same : l.running ≡ c.index.result.now = same_read old.slots.items c.args.slot l.running c.index.result.now l.there (inside old.slots.items c.args.slot l.running l.there) c.index.ensures in
+    let image = c.args.image.now in
+    let x = c.in-Some.stop in
+    let same : l.running ≡ c.index-running.result.now = same_read old.slots.items c.args.slot l.running c.index-running.result.now l.there (inside old.slots.items c.args.slot l.running l.there) c.index-running.ensures in
     let frame : c.innermost-frame.result ≡ innermost l.running.frames = c.innermost-frame.ensures ∙ ap (λ (r : Running). innermost r.frames) (sym same) in
     let fits = c.requires.kept.fit c.args.slot l.running l.there in
-    record {
-      kept = c.requires.kept;
-      lives = lives_at c.args.image.now.functions.items old c.args.slot l.running c.innermost-frame.result c.function.result.now c.in-Some.stop l.there fits l.live l.does l.going frame
-          c.function.ensures (sym c.stop_at.ensures ∙ c.in-Some.is);
-      act = refl;
-      alone = is_alone c.in-Some.stop.act c.in_default-act.not-Spawn c.in_default-act.not-Join;
-    }
+    let g = c.function.result.now in
+    let found : slice_get image.functions.items (innermost l.running.frames).unit ≡ Some g =
+    subst (λ (f : Frame). slice_get image.functions.items f.unit ≡ Some g) frame c.function.ensures in
+    let there : option_flatten (slice_get g.stops.items (innermost l.running.frames).place) ≡ Some x =
+    subst (λ (f : Frame). option_flatten (slice_get g.stops.items f.place) ≡ Some x) frame (sym c.stop_at.ensures ∙ c.in-Some.is) in
+    let deep : nat_lt 1 (depth_of l.running.frames) ≡ nat_lt 1 c.depth-is_called.result =
+    ap (λ (r : Running). nat_lt 1 (depth_of r.frames)) same ∙ ap (nat_lt 1) (sym c.depth-is_called.ensures) in
+    c.stepped.ensures.led text image (world_of image old) c.args.slot
+    (subst (LeadsNext text image (world_of image old) c.args.slot)
+    (ap (stop_leads (stop_of (words_of image) x.stop)) deep ∙ sym (c.stop_leads-leads.ensures (words_of image)))
+    (rest_leads text image old c.args.slot l fits is g found x there))

@@ -5,11 +5,11 @@ use Rattle.code_machine.proofs.AskedThreads.{frame_up_is, no_frame_up}
 use Rattle.code_machine.proofs.queries.place_up.Goals as goal
 
 pub returns-then-up-frames : goal.returns-then-up-frames
-returns-then-up-frames c = λ t words.
+returns-then-up-frames c = λ t highest words.
     let past : length c.args.frames.now ≤ c.args.up = omega arith in
-    sym (ap (option_map place_of) (no_frame_up t words c.args.frames.now (length c.args.frames.now) c.args.up past))
+    sym (ap (option_map place_of) (no_frame_up t highest words c.args.frames.now (length c.args.frames.now) c.args.up past))
 
 pub returns : goal.returns
-returns c = λ t words.
+returns c = λ t highest words.
     let within : c.args.up < length c.args.frames.now = omega arith in
-    sym (ap (option_map place_of) (frame_up_is t words c.args.frames.now (length c.args.frames.now) c.args.up within))
+    sym (ap (option_map place_of) (frame_up_is t highest words c.args.frames.now (length c.args.frames.now) c.args.up within))

@@ -2,7 +2,6 @@ use Rattle.std.proofs.Common.{[], inl, refl}
 use Rattle.dsu_runs.specs.Setups.{setup_of}
 use Rattle.dsu_commands.specs.Calls.{output_of}
 use Rattle.dsu_commands.specs.Plans.{BySchedule}
-use Rattle.dsu_commands.proofs.DefinedUses.{lacks_memory}
 use Rattle.dsu_commands.proofs.Outcomes.{handed_in}
 use Rattle.dsu_commands.proofs.run.run_compiled.Goals as goal
 
@@ -10,15 +9,13 @@ pub returns-in-Ok : goal.returns-in-Ok
 returns-in-Ok g c =
     let job = c.args.job.now in
     let setup = setup_of c.args.program [] [] job.objects in
-    let first = c.requires.accepted.first in
     inl (handed_in (BySchedule job.moves) setup job.journal g.O.Sink.told g.O.Sink.faults c.run_over.result
     (output_of g.E.Sink.told g.E.Sink.faults c.args.err.now c.run_over.new.err) c.in-Ok.engine.sink c.args.out c.args.texts.now
     c.args.texts.now [] [] c.in-Ok.ensures.told refl refl
-    (c.run_over.ensures setup c.requires.accepted (c.in-Ok.ensures.start first.bytes first.accepted)))
+    (c.run_over.ensures setup c.requires.accepted c.in-Ok.ensures.start))
 
 pub stop_before-requires : goal.stop_before-requires
-stop_before-requires g c =
-    lacks_memory c.args.program [] [] c.args.job.now.objects c.requires.accepted c.in-Err.failed.why c.in-Err.ensures.fault
+stop_before-requires g c = c.in-Err.ensures.fault
 
 pub compiled_engine-requires : goal.compiled_engine-requires
 compiled_engine-requires g c = record { accepted = (c.requires.accepted.first.bytes, c.requires.accepted.first.accepted) }

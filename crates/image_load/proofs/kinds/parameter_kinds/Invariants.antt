@@ -1,4 +1,4 @@
-use Rattle.std.proofs.Common.{◌≡◌, ◌≤◌, ◌++◌, map, drop, length}
+use Rattle.std.proofs.Common.{◌≡◌, ◌≤◌, map, drop, length}
 use Rattle.c_tree.specs.Bare.{bare_binding}
 use Rattle.formed_code.specs.FormedLaws.{kinds_of}
 use Rattle.image_load.proofs.kinds.parameter_kinds.Given as goal

@@ -5,9 +5,7 @@ use Rattle.c_tree.specs.declared.def.Def.{Def}
 use Rattle.c_tree.specs.Bare.{bare_def}
 use Rattle.c_semantics.specs.Texts.{definition}
 use Rattle.resolved_tree.specs.Trees.{table}
-use Rattle.text_code.specs.declared.body.Body.{Body}
 use Rattle.text_code.specs.Bodies.{body_of, code_of_text}
-use Rattle.image_load.specs.Loaded.{ArePartsOf}
 use Rattle.image_load.specs.Numbering.{meaning}
 use Rattle.image_load.proofs.Whole.{leads, loaded, many}
 use Rattle.image_load.proofs.loading.image.Goals as goal
@@ -26,6 +24,8 @@ invariant_of-result c =
       leads = leads t text bodies p.functions.items are.functions;
       short = are.short;
       prints = are.prints;
+      low = are.low;
+      highest = are.highest;
     }
 
 pub returns-clause-image : goal.returns-clause-image

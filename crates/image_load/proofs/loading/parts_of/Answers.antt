@@ -3,13 +3,12 @@ use Rattle.std.proofs.lemmas.Result.{err_from_is_err_and}
 use Rattle.std.specs.Prelude.{codes, filter_map, slice_get}
 use Rattle.c_tree.specs.declared.def.Def.{Def}
 use Rattle.c_tree.specs.Bare.{bare_def}
-use Rattle.c_tree.specs.BareDef.{BareDef}
 use Rattle.c_tree.specs.BareExpr.{Bytes}
 use Rattle.resolved_tree.specs.Trees.{table}
 use Rattle.code_image.specs.Images.{mutex_name, names_of, tag_of}
+use Rattle.code_image.specs.Stacks.{IsHighestStack}
 use Rattle.accepted_stops.specs.FittingCode.{NamesAreFew}
 use Rattle.accepted_stops.specs.StopNames.{IsNumbered}
-use Rattle.image_load.specs.Loaded.{IsAcceptedAs}
 use Rattle.image_load.specs.Numbering.{HasNumbers}
 use Rattle.image_load.proofs.OwnBodies.{functions_same, own_bodies}
 use Rattle.image_load.proofs.loading.parts_of.Goals as goal
@@ -34,6 +33,8 @@ returns-clause-parts c = record {
   few = omega (arith, c.if-mutexes-gt-MOST_MUTEXES.false);
   short = c.in_ok-longest_print.ensures.short;
   prints = λ n f there. c.in_ok-longest_print.ensures.prints n f (ap (λ fs. slice_get fs n) c.as_slice.ensures.value ∙ there);
+  low = c.highest_stack-highest_stack.ensures.low;
+  highest = subst (λ fs. IsHighestStack fs c.highest_stack-highest_stack.result) c.as_slice-2.ensures.value c.highest_stack-highest_stack.ensures.highest;
 }
 
 pub returns-then-mutexes-gt-MOST_MUTEXES-clause-fault : goal.returns-then-mutexes-gt-MOST_MUTEXES-clause-fault

@@ -1,10 +1,9 @@
-use Rattle.std.proofs.Common.{◌≡◌, List, map, sym, ap, subst, ◌∙◌}
+use Rattle.std.proofs.Common.{List, map, sym, ap, subst, ◌∙◌}
 use Rattle.std.proofs.lemmas.Result.{err_from_is_err_and}
 use Rattle.std.specs.Prelude.{All, filter_map}
 use Rattle.std.proofs.lemmas.List.{length-map}
 use Rattle.c_tree.specs.Bare.{bare_def}
 use Rattle.source_model.specs.Worlds.{Cells, cells_at_first}
-use Rattle.bytecode.specs.Words.{Naming}
 use Rattle.source_programs.specs.Globals.{globals_of}
 use Rattle.image_load.specs.FirstCells.{ArePlain}
 use Rattle.image_load.specs.Loaded.{words_in}

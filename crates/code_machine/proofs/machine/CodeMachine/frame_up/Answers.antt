@@ -12,7 +12,7 @@ returns-in-Some c =
     let there = c.in-Some.ensures in
     let r = c.in-Some.running.now in
     let t = words_of (image_of c.args.self.now) in
-    c.place_up.ensures t r.frames.words.items
-    ∙ ap (λ (fs : List Frame). option_map place_of (slice_get (frames_below t r.frames.words.items fs (length fs)) c.args.up)) c.as_slice.ensures.value
+    c.place_up.ensures t r.frames.highest_stack r.frames.words.items
+    ∙ ap (λ (fs : List Frame). option_map place_of (slice_get (frames_below t r.frames.highest_stack r.frames.words.items fs (length fs)) c.args.up)) c.as_slice.ensures.value
     ∙ sym (ap (λ x. option_map place_of (slice_get (frames_in x) c.args.up)) there.lives
     ∙ ap (λ fs. option_map place_of (slice_get fs c.args.up)) (thread_frames (image_of c.args.self.now) r there.fits))

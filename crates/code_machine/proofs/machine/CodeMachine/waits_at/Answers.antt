@@ -17,7 +17,7 @@ returns-in-Shared c = λ text n.
     let t = words_of c.args.self.now.image in
     let function : ℕ → Option Bytes = named (words_of c.args.self.now.image) c.args.self.now.image.functions.items in
     let s = stop_of t c.args.stop.stop in
-    stop_waits text w c.args.slot image c.args.stop (option_map waiting_of c.held_for.result) n
+    stop_waits text w c.args.slot image c.args.stop (option_map (waiting_of t) c.held_for.result) n
     (c.held_for.ensures text n.frame.state.stack (subst (Acts t (names_of text) text function s) c.in-Shared.is n.acts))
 
 pub returns-in-Join : goal.returns-in-Join
@@ -27,7 +27,7 @@ returns-in-Join c = λ text n.
     let t = words_of c.args.self.now.image in
     let function : ℕ → Option Bytes = named (words_of c.args.self.now.image) c.args.self.now.image.functions.items in
     let s = stop_of t c.args.stop.stop in
-    stop_waits text w c.args.slot image c.args.stop (option_map waiting_of c.joined_by.result) n
+    stop_waits text w c.args.slot image c.args.stop (option_map (waiting_of t) c.joined_by.result) n
     (c.joined_by.ensures n.frame n.rests
     ∙ sym (awaits_thread t (names_of text) text function w c.args.slot s n.frame.state.stack (subst (Acts t (names_of text) text function s) c.in-Join.is n.acts)))
 

@@ -12,7 +12,7 @@ go_on-requires c =
     let takes = words_there c.args.image.now.functions.items r c.args.stop c.requires.rests in
     can_resume c.args.image.now.functions.items r c.args.stop c.requires.rests (record r.frames { words = with_item r.frames.words (c.stack-low.result.0 + c.stack-low.result.1 - 1) c.args.word }) c.stack-low.result.1
     (kept_words r.frames (with_item r.frames.words (c.stack-low.result.0 + c.stack-low.result.1 - 1) c.args.word) c.requires.rests.fits.kept
-    (length-set r.frames.words.items (c.stack-low.result.0 + c.stack-low.result.1 - 1) c.args.word) refl) refl c.requires.exchanges.returns
+    (length-set r.frames.words.items (c.stack-low.result.0 + c.stack-low.result.1 - 1) c.args.word) refl) refl refl c.requires.exchanges.returns
     (omega (arith, c.stack-low.ensures.height, c.requires.exchanges.takes, c.requires.exchanges.leaves, takes))
 
 pub returns-clause-answered : goal.returns-clause-answered
@@ -20,5 +20,5 @@ returns-clause-answered c = λ text is.
     let r = c.args.self.now in
     let takes = words_there c.args.image.now.functions.items r c.args.stop c.requires.rests in
     answered text c.args.image.now r (record r.frames { words = with_item r.frames.words (c.stack-low.result.0 + c.stack-low.result.1 - 1) c.args.word }) c.go_on.new.self c.args.stop c.args.word (c.stack-low.result.0 + c.stack-low.result.1 - 1) c.stack-low.result.1 c.requires.rests
-    (omega (arith, c.requires.exchanges.takes, takes)) refl refl
+    (omega (arith, c.requires.exchanges.takes, takes)) refl refl refl
     (omega (arith, c.stack-low.ensures.low, c.stack-low.ensures.height, c.requires.exchanges.takes, takes)) c.stack-low.ensures.height (c.go_on.ensures.went text is)

@@ -9,7 +9,7 @@ wait-requires-clause-words c = takes_so c.args.image.now c.args.self.now c.args.
 pub returns-clause-fits : goal.returns-clause-fits
 returns-clause-fits c =
     let r = c.args.self.now in
-    call_fits c.args.image.now r c.args.stop c.args.n c.args.count c.requires.rests c.requires.act c.wait.new.self c.wait.ensures.frames c.wait.ensures.kept
+    call_fits c.args.image.now r c.args.stop c.args.n c.args.count c.requires.rests c.requires.act c.wait.new.self c.wait.ensures.frames c.wait.ensures.high c.wait.ensures.kept
     (c.wait.ensures.there (few_arguments c.args.image.now r c.args.stop c.args.n c.args.count c.requires.rests c.requires.act))
 
 pub returns-clause-made : goal.returns-clause-made

@@ -7,6 +7,7 @@ use Rattle.thread_state.specs.Heights.{HasHeight, Sound}
 use Rattle.word_frames.specs.declared.frame.Frame.{Frame}
 use Rattle.word_frames.specs.Seen.{innermost}
 use Rattle.word_frames.specs.Changes as change
+use Rattle.code_image.specs.StopHeights.{IsNeverHigher}
 use Rattle.code_machine.specs.Seen.{words_of}
 use Rattle.code_machine.proofs.Going.{fits_on, went_on}
 use Rattle.code_machine.proofs.running.Running.go_on.Goals as goal
@@ -16,6 +17,15 @@ go_on-end-requires-clause-sound c = λ t.
     let g = c.function-function.result.now in
     subst (λ (hs : List (Option ℕ)). Sound (code_of t c.as_slice.result.now) most_variables hs) (sym c.as_slice-2.ensures.value)
     (subst (λ (is : List Instr). Sound (code_of t is) most_variables g.verified.heights.items) (sym c.as_slice.ensures.value) (g.fits.sound t))
+
+pub go_on-end-requires-clause-low : goal.go_on-end-requires-clause-low
+go_on-end-requires-clause-low c =
+    let g = c.function-function.result.now in
+    let functions = c.args.image.now.functions.items in
+    let old = c.args.self.now in
+    let found : slice_get functions (innermost old.frames).unit ≡ Some g =
+    subst (λ (f : Frame). slice_get functions f.unit ≡ Some g) c.innermost.ensures c.function-function.ensures in
+    subst (IsNeverHigher old.frames.highest_stack) (sym c.as_slice-2.ensures.value) (c.requires.stacks (innermost old.frames).unit g found)
 
 pub returns-clause-fits : goal.returns-clause-fits
 returns-clause-fits c =
@@ -27,7 +37,7 @@ returns-clause-fits c =
     subst (λ (f : Frame). slice_get functions f.unit ≡ Some g) c.innermost.ensures c.function-function.ensures in
     let low : HasHeight g.verified.heights.items (innermost new).place (innermost new).height =
     subst (λ (hs : List (Option ℕ)). HasHeight hs (innermost new).place (innermost new).height) c.as_slice-2.ensures.value c.go_on-end.ensures.height in
-    fits_on functions g old new c.args.point c.args.place c.args.height c.go_on-end.result c.requires found c.go_on-end.ensures.frames c.go_on-end.ensures.kept low
+    fits_on functions g old new c.args.point c.args.place c.args.height c.go_on-end.result c.requires found c.go_on-end.ensures.frames c.go_on-end.ensures.high c.go_on-end.ensures.kept low
     (λ t. subst (λ (is : List Instr). change.WentOn t is old.frames new c.args.point c.args.place c.args.height c.go_on-end.result) c.as_slice.ensures.value (c.go_on-end.ensures.goes t))
 
 pub returns-clause-went : goal.returns-clause-went

@@ -19,12 +19,12 @@ leave-requires-clause-space c = room_for_it c.args.image.now.functions.items c.a
 pub go_on-requires : goal.go_on-requires
 go_on-requires c =
     subst (λ (f : Frame). CanGoOn c.args.image.now.functions.items (record c.args.self.now { frames = c.leave.new.self }) f.place f.height) (sym c.innermost-caller.ensures)
-    (caller_can c.args.image.now.functions.items c.args.self.now c.args.stop c.requires.rests c.requires.called c.leave.new.self c.leave.ensures.kept c.leave.ensures.frames)
+    (caller_can c.args.image.now.functions.items c.args.self.now c.args.stop c.requires.rests c.requires.called c.leave.new.self c.leave.ensures.kept c.leave.ensures.high c.leave.ensures.frames)
 
 pub returns-clause-made : goal.returns-clause-made
 returns-clause-made c = λ text is.
     handed text c.args.image.now c.args.self.now c.args.stop is c.requires.rests c.leave.new.self c.go_on.new.self c.requires.act
     (c.go_on.ensures.same.stand ∙ c.requires.rests.live)
-    (caller_there c.args.image.now.functions.items c.args.self.now c.args.stop c.requires.rests c.requires.called c.leave.new.self c.leave.ensures.kept c.leave.ensures.frames)
+    (caller_there c.args.image.now.functions.items c.args.self.now c.args.stop c.requires.rests c.requires.called c.leave.new.self c.leave.ensures.kept c.leave.ensures.high c.leave.ensures.frames)
     (c.leave.ensures.leaves (words_of c.args.image.now))
     (subst (λ (f : Frame). WentOn text c.args.image.now (record c.args.self.now { frames = c.leave.new.self }) c.go_on.new.self f.point f.place f.height) c.innermost-caller.ensures (c.go_on.ensures.went text is))

@@ -41,7 +41,7 @@ go_on-requires c =
     let taken : act_takes x.act ≡ takes c.args.stop = ap act_takes c.requires.act in
     let left : act_leaves x.act ≡ 1 = ap act_leaves c.requires.act in
     can_resume c.args.image.now.functions.items r x c.requires.rests (record r.frames { words = v }) c.in-On.height
-    (kept_words r.frames v c.requires.rests.fits.kept long refl) refl (ap returns c.requires.act)
+    (kept_words r.frames v c.requires.rests.fits.kept long refl) refl refl (ap returns c.requires.act)
     (one ∙ ap (λ (h : ℕ). h - takes c.args.stop + 1) c.stack-low.ensures.height
     ∙ sym (ap (λ (k : ℕ). (innermost r.frames).height - k + act_leaves x.act) taken ∙ ap (λ (k : ℕ). (innermost r.frames).height - takes c.args.stop + k) left))
 
@@ -57,7 +57,7 @@ returns-in-On-clause-made c = λ text is.
     let p = c.in_ok-did.ensures.performs (names_of text) text s (resolves text image r x c.args.stop is c.requires.rests c.requires.act) in
     let q = subst (λ (did : Did). Performs (names_of text) text slot s (record { low = c.stack-low.result.0; height = c.stack-low.result.1 }) c.args.shared.now c.deref_mut.result.now did c.perform.new.self c.perform.new.words p.0) c.in-On.is p.1.1 in
     performed_on text image slot r x c.args.stop is c.requires.rests c.requires.act c.args.shared.now c.perform.new.self p.0 c.args.output.now.items c.perform.new.printed.items p.1.0
-    (record r.frames { words = v }) c.go_on.new.self c.in-On.height refl
+    (record r.frames { words = v }) c.go_on.new.self c.in-On.height refl refl
     (λ i h. ap (λ (xs : List ℕ). slice_index xs i) row ∙ c.in_ok-did.ensures.elsewhere i (inl (omega (arith, h, c.stack-low.ensures.low))) ∙ ap (λ (xs : List ℕ). slice_index xs i) c.deref_mut.ensures.value)
     (c.go_on.ensures.same.stand ∙ c.requires.rests.live)
     (does_so (names_of text) text slot s c.args.shared.now c.perform.new.self p.0 c.deref_mut.result.now c.perform.new.words r.frames.words.items v.items

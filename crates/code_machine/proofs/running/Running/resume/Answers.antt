@@ -5,7 +5,7 @@ use Rattle.code_machine.proofs.running.Running.resume.Goals as goal
 
 pub go_on-requires : goal.go_on-requires
 go_on-requires c =
-    can_resume c.args.image.now.functions.items c.args.self.now c.args.stop c.requires.rests c.args.self.now.frames c.stack-height.result.1 c.requires.rests.fits.kept refl
+    can_resume c.args.image.now.functions.items c.args.self.now c.args.stop c.requires.rests c.args.self.now.frames c.stack-height.result.1 c.requires.rests.fits.kept refl refl
     c.requires.plain.returns (omega (arith, c.stack-height.ensures.height, c.requires.plain.takes, c.requires.plain.leaves))
 
 pub returns-clause-went : goal.returns-clause-went

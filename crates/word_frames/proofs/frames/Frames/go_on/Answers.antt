@@ -1,11 +1,8 @@
-use Rattle.std.proofs.Common.{◌≡◌, ◌-◌, ℕ, subst, sym, ap, ◌∙◌, arith}
+use Rattle.std.proofs.Common.{ℕ, subst, sym, ap, ◌∙◌, arith}
 use Rattle.std.proofs.lemmas.List.{with_items_is}
 use Rattle.resolved_tree.specs.Nodes.{Table}
 use Rattle.bytecode.specs.Seen.{code_of}
 use Rattle.thread_state.specs.Heights.{Sound}
-use Rattle.thread_state.specs.Turns.{no_names}
-use Rattle.word_frames.specs.Blocks.{base_of}
-use Rattle.word_frames.specs.Seen.{depth_of}
 use Rattle.word_frames.proofs.FrameCalls.{went_on}
 use Rattle.word_frames.proofs.frames.Frames.go_on.Goals as goal
 
@@ -14,13 +11,12 @@ burst-reached-requires-clause-sound c =
     subst (λ (m : ℕ). (t : Table) → Sound (code_of t c.args.code.now) m c.args.heights.now) (sym c.variables.ensures.few) c.requires.sound
 
 pub stand-requires-clause-low : goal.stand-requires-clause-low
-stand-requires-clause-low c = (c.requires.sound no_names).low c.burst-reached.result.place c.burst-reached.result.height c.burst-reached.ensures.held
+stand-requires-clause-low c = c.requires.low c.burst-reached.result.place c.burst-reached.result.height c.burst-reached.ensures.held
 
 pub returns-clause-goes : goal.returns-clause-goes
 returns-clause-goes c = λ t.
-    let deep : c.len-last.result - 1 ≡ depth_of c.args.self.now - 1 = omega (arith, c.len-last.ensures, c.args.self.now.frames.ok.0) in
     let row = with_items_is c.args.self.now.words c.burst-reached.new.words (omega (arith, c.burst-reached.auto.words, c.deref_mut.ensures.len, c.args.self.now.words.ok.0)) in
     went_on t c.args.code.now c.args.self.now c.stand.new.self c.args.point c.args.place c.args.height c.burst-reached.result.place c.burst-reached.result.height
-    c.burst-reached.result.end c.base.result c.variables.result c.deref_mut.result.now c.burst-reached.new.words
-    c.requires.kept c.requires.frame c.deref_mut.ensures.value (sym (ap (λ v. v.items) c.stand.ensures.words ∙ row)) (c.base.ensures ∙ ap base_of deep) c.variables.ensures.value
+    c.burst-reached.result.end c.last_base-base.result c.variables.result c.deref_mut.result.now c.burst-reached.new.words
+    c.requires.kept c.requires.frame c.stand.ensures.high c.deref_mut.ensures.value (sym (ap (λ v. v.items) c.stand.ensures.words ∙ row)) c.last_base-base.ensures.value c.variables.ensures.value
     (c.burst-reached.ensures.ends t) c.burst-reached.ensures.elsewhere c.stand.ensures.frames

@@ -17,10 +17,10 @@ returns-clause-leaves c = λ t.
     let last : c.len-last.result - 1 ≡ length c.pop.new.self.items - 1 = omega (arith, c.len-last.ensures, c.pop.new.self.ok.0) in
     let read = read_innermost c.pop.new.self.items (c.len-last.result - 1) c.index-frame.result.now c.index-frame.ensures (omega (arith, few, c.requires.frames)) last in
     let is = left_frames c.args.self.now.frames.items c.pop.new.self.items c.stand.new.self.frames.items c.index-frame.result.now c.requires.frames rest read c.stand.ensures.frames in
-    let next : c.len-last.result - 1 ≡ depth_of c.args.self.now - 2 = omega (arith, last, few) in
-    let at : c.base.result + c.variables.result + c.index-frame.result.now.height ≡ low_of (depth_of c.args.self.now - 2) + (frame_at c.args.self.now (depth_of c.args.self.now - 2)).height =
-    ap (λ (b : ℕ). b + c.variables.result + c.index-frame.result.now.height) (c.base.ensures ∙ ap base_of next)
-    ∙ ap (λ (m : ℕ). base_of (depth_of c.args.self.now - 2) + m + c.index-frame.result.now.height) c.variables.ensures.value
-    ∙ ap (λ (g : Frame). low_of (depth_of c.args.self.now - 2) + g.height) is.0 in
-    left t c.args.self.now c.stand.new.self c.newest-word.result (c.base.result + c.variables.result + c.index-frame.result.now.height)
-    c.requires.kept c.requires.frames c.requires.word c.requires.space c.newest-word.ensures at (ap (λ v. v.items) c.stand.ensures.words) is.1
+    let at : c.last_base.result + c.variables.result + c.index-frame.result.now.height
+    ≡ low_of c.args.self.now.highest_stack (depth_of c.args.self.now - 2) + (frame_at c.args.self.now (depth_of c.args.self.now - 2)).height =
+    ap (λ (b : ℕ). b + c.variables.result + c.index-frame.result.now.height) (c.last_base.ensures.value ∙ ap (λ (n : ℕ). base_of c.args.self.now.highest_stack n) (omega (arith, few)))
+    ∙ ap (λ (m : ℕ). base_of c.args.self.now.highest_stack (depth_of c.args.self.now - 2) + m + c.index-frame.result.now.height) c.variables.ensures.value
+    ∙ ap (λ (g : Frame). low_of c.args.self.now.highest_stack (depth_of c.args.self.now - 2) + g.height) is.0 in
+    left t c.args.self.now c.stand.new.self c.newest-word.result (c.last_base.result + c.variables.result + c.index-frame.result.now.height)
+    c.requires.kept c.requires.frames c.requires.word c.requires.space c.newest-word.ensures at c.stand.ensures.high (ap (λ v. v.items) c.stand.ensures.words) is.1

@@ -12,7 +12,7 @@ stands c =
     c.stand.ensures.frames ∙ ap (λ (f : Frame). with_innermost c.args.self.now (record (innermost c.args.self.now) { point = c.args.point; place = c.args.place; height = f.height - c.args.count })) here
 
 pub returns-clause-there : goal.returns-clause-there
-returns-clause-there c = waits_there c.args.self.now c.stand.new.self c.args.count c.args.point c.args.place c.requires.kept c.requires.frame c.requires.words (stands c)
+returns-clause-there c = waits_there c.args.self.now c.stand.new.self c.args.count c.args.point c.args.place c.requires.kept c.requires.frame c.requires.words c.stand.ensures.high (stands c)
 
 pub returns-clause-waits : goal.returns-clause-waits
-returns-clause-waits c = λ t. waited t c.args.self.now c.stand.new.self c.args.count c.args.point c.args.place c.requires.kept c.requires.frame c.requires.words c.stand.ensures.words (stands c)
+returns-clause-waits c = λ t. waited t c.args.self.now c.stand.new.self c.args.count c.args.point c.args.place c.requires.kept c.requires.frame c.requires.words c.stand.ensures.high c.stand.ensures.words (stands c)

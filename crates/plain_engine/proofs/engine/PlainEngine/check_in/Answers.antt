@@ -1,0 +1,18 @@
+use Rattle.std.proofs.Common.{sym, subst}
+use Rattle.run_types.specs.declared.run.Event.TheVariants.{CheckIn}
+use Rattle.dsu_runs.specs.Engines.{MakesAt}
+use Rattle.plain_engine.specs.Plain.{IsEngineAt, state_shown}
+use Rattle.plain_engine.proofs.Engines.{comes, is_written}
+use Rattle.plain_engine.proofs.engine.PlainEngine.check_in.Goals as goal
+
+pub returns-clause-made : goal.returns-clause-made
+returns-clause-made g c = λ setup x at.
+    let e = c.args.self.now in
+    let told = g.S.Sink.told e.sink in
+    let new = state_shown g.M.Machine.shown c.pass.new.self in
+    subst (MakesAt (λ y. IsEngineAt setup y new e.printed e.written) setup (CheckIn c.args.slot) x told told) (sym c.made.ensures)
+    (comes setup (CheckIn c.args.slot) x (state_shown g.M.Machine.shown e.state) new e.printed e.written told c.pass.result at
+    (c.pass.ensures.made setup x at.state) c.pass.ensures.kept)
+
+pub returns-clause-written : goal.returns-clause-written
+returns-clause-written g c = is_written c.pass.result c.made.result c.made.ensures
