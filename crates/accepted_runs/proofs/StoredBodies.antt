@@ -21,9 +21,10 @@ use Rattle.c_semantics.specs.Texts.{defines, definition, names}
 use Rattle.typed_uses.proofs.Lookups.{itself}
 use Rattle.typed_uses.proofs.Points.{EachPoint, OfName, each_use_has_it}
 use Rattle.version_laws.specs.Histories.{Alike, last_text, text_in}
-use Rattle.version_laws.proofs.DefinedNames.{alike_itself, among_filtered, among_names, stays_where_same}
+use Rattle.definition_laws.proofs.Names.{among_filtered, among_names}
+use Rattle.version_laws.proofs.DefinedNames.{alike_itself, stays_where_same}
 use Rattle.version_laws.proofs.SameDefinitions.{alike_where_agreed, interfaces_alike}
-use Rattle.version_laws.proofs.Tests.{no}
+use Rattle.definition_laws.proofs.Tests.{no}
 use Rattle.frame_bodies.specs.AcceptedTexts.{AreAccepted, IsAccepted, looked_up}
 use Rattle.frame_bodies.specs.AcceptedTexts as accepted_texts
 use Rattle.frame_bodies.specs.Shapes.{DepthsFollow}

@@ -16,7 +16,8 @@ use Rattle.c_semantics.specs.Threads.{Use}
 use Rattle.name_sets.specs.NameLists.{is_among}
 use Rattle.source_model.specs.Versions.{Entry, Table, Fate, Stays, New, Gone, entries_of, belongs, entry_in, in_version, current, fate, fate_of, followed, extended, next_table}
 use Rattle.source_model.specs.Uses.{HasVersion, use_of}
-use Rattle.version_laws.proofs.DefinedNames.{stays_where_same, among_names}
+use Rattle.definition_laws.proofs.Names.{among_names}
+use Rattle.version_laws.proofs.DefinedNames.{stays_where_same}
 use Rattle.version_laws.proofs.NextVersions.{entries_next, none_later}
 
 -- ---- versions of an entry, by the test

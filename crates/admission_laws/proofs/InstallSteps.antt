@@ -22,7 +22,8 @@ use Rattle.effects.proofs.Growing.{prior_grows, standard_grows}
 use Rattle.source_model.specs.Versions.{Table, current, in_version, next_table}
 use Rattle.source_model.specs.Uses.{HasVersion, use_of}
 use Rattle.version_laws.specs.Histories.{last_text}
-use Rattle.version_laws.proofs.DefinedNames.{stays_where_same, among_names}
+use Rattle.definition_laws.proofs.Names.{among_names}
+use Rattle.version_laws.proofs.DefinedNames.{stays_where_same}
 use Rattle.version_laws.proofs.TableHistories.{last_is_next}
 use Rattle.admission_laws.specs.SoundTexts.{IsSound, BodiesStay, is_function, definitions_of, now_in}
 use Rattle.admission_laws.specs.Stacks.{Level, Stacked, MayUse}

@@ -8,7 +8,7 @@ use Rattle.c_tree.specs.BareExpr.{BareType}
 use Rattle.c_tree.specs.BareDef.{BareBinding, BareDef, Struct, Forward, Mutex, Function, Prototype, Global, Array, TransformStruct, TransformGlobal}
 use Rattle.c_semantics.specs.Same.{same_list, same_option, same_type}
 use Rattle.c_semantics.specs.Changes.{same_layout, same_interface, agree}
-use Rattle.source_model.proofs.Same.{types as types_same, same_options}
+use Rattle.definition_laws.proofs.SameTrees.{types as types_same, same_options}
 use Rattle.version_laws.proofs.SameDefinitions.{layouts_same}
 
 -- what an interface is of

@@ -11,7 +11,8 @@ use Rattle.c_semantics.specs.SourceTexts.{Text}
 use Rattle.source_model.specs.Versions.{Table, current, in_version}
 use Rattle.source_model.specs.Uses.{is_right}
 use Rattle.version_laws.specs.Histories.{Alike, IsHistory, text_in, last_text}
-use Rattle.version_laws.proofs.DefinedNames.{among_names, among_set, among_filtered, found_defines}
+use Rattle.definition_laws.proofs.Names.{among_names, among_set, among_filtered}
+use Rattle.version_laws.proofs.DefinedNames.{found_defines}
 use Rattle.version_laws.proofs.SameDefinitions.{interface_is_itself}
 use Rattle.version_laws.proofs.TableHistories.{right_by_texts, text_as_before, last_as_current, last_is_next, no_text_later}
 use Rattle.admission_laws.specs.SoundTexts.{is_function, definitions_of, version_in, newest, now_in}

@@ -63,7 +63,7 @@ among_set [] name = refl
 among_set (n ∷ ns) name = among_with n (name_set ns) name ∙ ap (λ x. bytes_eq name n || x) (among_set ns name)
 
 -- those of some names that pass a test
-among_filtered : (f : Bytes → Bool) (ns : List Bytes) (name : Bytes) → is_among (filter f ns) name ≡ (f name && is_among ns name)
+pub among_filtered : (f : Bytes → Bool) (ns : List Bytes) (name : Bytes) → is_among (filter f ns) name ≡ (f name && is_among ns name)
 among_filtered f ns name = any-filter_same (bytes_eq name) f (f name) (λ k e. ap f (sym (text_is name k e))) ns
 
 -- the names of a text that pass a test, as a set, has those that the text defines and that pass

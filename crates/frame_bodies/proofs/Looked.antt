@@ -6,8 +6,8 @@ use Rattle.c_tree.specs.BareDef.{BareBinding, BareDef, Struct, Mutex, Function, 
 use Rattle.c_semantics.specs.Texts.{result_type}
 use Rattle.c_semantics.specs.Same.{same_list, same_type}
 use Rattle.c_semantics.specs.Changes.{agree, same_interface}
-use Rattle.source_model.proofs.Same.{types as types_same, same_options}
-use Rattle.version_laws.proofs.Tests.{no, left_of, right_of}
+use Rattle.definition_laws.proofs.SameTrees.{types as types_same, same_options}
+use Rattle.definition_laws.proofs.Tests.{no, left_of, right_of}
 use Rattle.version_laws.proofs.SameDefinitions.{layouts_same}
 use Rattle.frame_bodies.proofs.ResolvedSame.{LooksSame}
 

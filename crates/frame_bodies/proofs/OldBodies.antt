@@ -12,11 +12,12 @@ use Rattle.c_semantics.specs.Same.{same_type}
 use Rattle.c_semantics.specs.Changes.{agree, changed, interface, same_definition, same_interface}
 use Rattle.c_semantics.specs.Resolution.{resolved_body}
 use Rattle.c_semantics.specs.Skeletons.{skeleton_of, direct_uses}
-use Rattle.source_model.proofs.Same.{types as types_same, same_options, blocks_same}
+use Rattle.definition_laws.proofs.SameTrees.{types as types_same, same_options, blocks_same}
 use Rattle.typed_uses.proofs.Points.{either_of}
-use Rattle.version_laws.proofs.Tests.{no, left_of, right_of}
+use Rattle.definition_laws.proofs.Tests.{no, left_of, right_of}
 use Rattle.version_laws.proofs.SameDefinitions.{layouts_same}
-use Rattle.version_laws.proofs.DefinedNames.{among_names, among_set, among_filtered, stays_where_same}
+use Rattle.definition_laws.proofs.Names.{among_names, among_set, among_filtered}
+use Rattle.version_laws.proofs.DefinedNames.{stays_where_same}
 use Rattle.frame_bodies.specs.AcceptedTexts.{is_function, looked_up}
 use Rattle.frame_bodies.specs.Unchanged.{OldBodiesStay}
 use Rattle.frame_bodies.proofs.Lists.{none_in}

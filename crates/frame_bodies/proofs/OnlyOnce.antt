@@ -39,7 +39,7 @@ Lone (d ∷ ds) = ((f : Bytes) → defines f d ≡ true → NoFunction f ds) × 
 
 -- ---- what is found in a longer list
 
-found_still : (test : Def → Bool) (before more : List Def) → is_none (find test before) ≡ false → is_none (find test (before ++ more)) ≡ false
+pub found_still : (test : Def → Bool) (before more : List Def) → is_none (find test before) ≡ false → is_none (find test (before ++ more)) ≡ false
 found_still test [] more h = absurd (no (sym h))
 found_still test (x ∷ xs) more h = by (test x) (found_still test xs more) h
   where
@@ -48,7 +48,7 @@ found_still test (x ∷ xs) more h = by (test x) (found_still test xs more) h
     by true rest h = h
     by false rest h = rest h
 
-found_last : (test : Def → Bool) (before : List Def) (d : Def) → test d ≡ true → is_none (find test (before ++ d ∷ [])) ≡ false
+pub found_last : (test : Def → Bool) (before : List Def) (d : Def) → test d ≡ true → is_none (find test (before ++ d ∷ [])) ≡ false
 found_last test [] d h = ap (λ b. is_none (cond b (Some d) None)) h
 found_last test (x ∷ xs) d h = by (test x) (found_last test xs d h)
   where

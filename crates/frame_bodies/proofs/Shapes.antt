@@ -12,7 +12,7 @@ use Rattle.c_semantics.specs.Points.{at_depth, evaluated, evaluated_if, of_body,
 use Rattle.c_semantics.specs.Skeletons.{Flow, Part, Targets, ◌then_part◌, access, expression_if, goes, guarded, loop, on_to, skeleton, union, with_point}
 use Rattle.c_semantics.specs.Skeletons as flow
 use Rattle.c_semantics.specs.Leaving.{stays, all_stay, leaves_at_ends}
-use Rattle.version_laws.proofs.Tests.{no, left_of, right_of}
+use Rattle.definition_laws.proofs.Tests.{no, left_of, right_of}
 use Rattle.frame_bodies.specs.Shapes.{BeginsAndEnds, EachDepthFollows, EachGoesOn, GoesOn}
 
 -- a row leads somewhere

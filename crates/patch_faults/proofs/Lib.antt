@@ -1,5 +1,5 @@
 mod LeastPlaces
-mod ValuesOfTypes
+pub mod ValuesOfTypes
 mod FoundValues
 mod Examples
 mod ExampleSorts

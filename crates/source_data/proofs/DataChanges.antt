@@ -9,7 +9,7 @@ use Rattle.c_semantics.specs.Texts.{definition, names}
 use Rattle.c_semantics.specs.Changes.{agree, interface, same_interface}
 use Rattle.type_transformers.specs.declared.change.Change.{Change}
 use Rattle.type_transformers.specs.Changes.{changing, has_data, name_of}
-use Rattle.version_laws.proofs.DefinedNames.{among_filtered, among_names, among_set}
+use Rattle.definition_laws.proofs.Names.{among_filtered, among_names, among_set}
 
 same_bytes : (a b : Bytes) → bytes_eq a b ≡ true → a ≡ b
 same_bytes a b e = (bytes_eq-Decides a b).0 e

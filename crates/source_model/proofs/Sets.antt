@@ -1,6 +1,6 @@
 -- The interface set lies in the changed set.
 use Rattle.std.proofs.Common.{◌≡◌, Bool, true, false, List, [], ◌∷◌, Option, Some, None, refl}
-use Rattle.std.specs.Prelude.{◌&&◌, ◌||◌, not, cond, filter, map, bytes_eq}
+use Rattle.std.specs.Prelude.{◌||◌, not, cond, filter, map, bytes_eq}
 use Rattle.c_tree.specs.BareExpr.{Bytes}
 use Rattle.c_tree.specs.BareDef.{BareBinding, BareDef, Struct, Forward, Mutex, Function, Prototype, Global, Array, TransformStruct, TransformGlobal}
 use Rattle.name_sets.specs.NameLists.{is_among, name_set}
@@ -8,21 +8,7 @@ use Rattle.c_semantics.specs.Texts.{definition, names}
 use Rattle.c_semantics.specs.Same.{same_type, same_binding, same_list}
 use Rattle.c_semantics.specs.Changes.{agree, same_definition, same_interface}
 use Rattle.source_model.specs.ChangeLaws.{DefinitionsHaveInterfaces, InterfaceInChanged}
-
-pub no : false ≡ true → ⊥
-no e = cc
-
-pub left_of : (a b : Bool) → (a && b) ≡ true → a ≡ true
-left_of true b h = refl
-left_of false b h = h
-
-pub right_of : (a b : Bool) → (a && b) ≡ true → b ≡ true
-right_of true b h = h
-right_of false b h = absurd (no h)
-
-pub both_hold : (a b : Bool) → a ≡ true → b ≡ true → (a && b) ≡ true
-both_hold true b g h = h
-both_hold false b g h = absurd (no g)
+use Rattle.definition_laws.proofs.Tests.{no, left_of, right_of, both_hold}
 
 -- parameters with equal names and types have equal types
 same_types : (ps qs : List BareBinding) → same_list same_binding ps qs ≡ true

@@ -1,5 +1,4 @@
 pub mod Parts
-pub mod Tests
 pub mod SameDefinitions
 pub mod EntersAlike
 pub mod DefinedNames

@@ -14,9 +14,10 @@ use Rattle.c_semantics.specs.Texts.{definition, names}
 use Rattle.c_semantics.specs.Changes.{agree, changed, same_definition}
 use Rattle.source_model.specs.Versions.{Entry, Versioned, Table, entries_of, belongs, in_version, greatest_of, latest, current, Fate, Stays, New, Gone, fate, fate_of, first_entry, first_table, extended, followed, next_line, table_names, next_table}
 use Rattle.version_laws.specs.Histories.{Alike}
-use Rattle.version_laws.proofs.Tests.{no}
+use Rattle.definition_laws.proofs.Tests.{no}
 use Rattle.version_laws.proofs.SameDefinitions.{alike_through, alike_where_agreed}
-use Rattle.version_laws.proofs.DefinedNames.{among_names, among_set, among_filtered, alike_itself, stays_where_same}
+use Rattle.definition_laws.proofs.Names.{among_names, among_set, among_filtered}
+use Rattle.version_laws.proofs.DefinedNames.{alike_itself, stays_where_same}
 
 -- ---- the entries of a name in the next table
 

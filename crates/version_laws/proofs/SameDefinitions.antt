@@ -13,8 +13,8 @@ use Rattle.c_semantics.specs.Same.{same_list, same_option, same_type, same_bindi
 use Rattle.c_semantics.specs.Changes.{same_layout, same_signature, same_interface, same_definition, agree}
 use Rattle.version_laws.specs.Histories.{Alike}
 use Rattle.version_laws.proofs.Parts.{three}
-use Rattle.version_laws.proofs.Tests.{no, left_of, right_of, both_hold}
-use Rattle.source_model.proofs.Same.{types as types_same, type_alike, same_options, blocks_same as bodies_same, block_alike as body_alike}
+use Rattle.definition_laws.proofs.Tests.{no, left_of, right_of, both_hold}
+use Rattle.definition_laws.proofs.SameTrees.{types as types_same, type_alike, same_options, blocks_same as bodies_same, block_alike as body_alike}
 
 -- what a definition says of its name
 pub data Said : Type 0 where

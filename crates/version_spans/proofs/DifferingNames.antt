@@ -4,7 +4,7 @@ use Rattle.c_tree.specs.BareExpr.{Bytes}
 use Rattle.c_tree.specs.BareDef.{BareDef}
 use Rattle.name_sets.specs.NameLists.{is_among, name_set}
 use Rattle.c_semantics.specs.Texts.{definition, names}
-use Rattle.version_laws.proofs.DefinedNames.{among_names, among_set}
+use Rattle.definition_laws.proofs.Names.{among_names, among_set}
 use Rattle.version_spans.specs.declared.names.NameForm.{NameForm as Form}
 use Rattle.version_spans.specs.declared.names.NameSet.{NameSet}
 use Rattle.version_spans.specs.Beginnings.{differ, differ_by}

@@ -1,5 +1,5 @@
 -- What accepted texts have: a function `main`, and each global and array under a name of its own.
-use Rattle.std.proofs.Common.{◌≡◌, ◌≢◌, ℕ, Bool, true, false, List, [], ◌∷◌, ◌++◌, map, find, Option, Some, None, is_none, is_some, option_and_then, All, codes, cond, refl, sym, ap, subst, ◌∙◌, arith}
+use Rattle.std.proofs.Common.{◌≡◌, ◌≢◌, ℕ, true, false, List, [], ◌∷◌, ◌++◌, map, Option, Some, None, is_none, is_some, option_and_then, All, codes, refl, sym, ap, subst, ◌∙◌, arith}
 use Rattle.std.specs.Prelude.{AllPairs}
 use Rattle.std.proofs.lemmas.List.Elements.{All-cons, All-nil}
 use Rattle.std.proofs.lemmas.List.Kept.{AllPairs-cons}
@@ -22,6 +22,7 @@ use Rattle.typed_uses.proofs.Lookups.{look}
 use Rattle.frame_bodies.specs.AcceptedTexts.{IsAccepted, is_function}
 use Rattle.frame_bodies.proofs.AcceptedFacts.{bare_of, facts_in}
 use Rattle.frame_bodies.proofs.TypedExpressions.{function_of}
+use Rattle.frame_bodies.proofs.OnlyOnce.{found_still, found_last}
 use Rattle.world_laws.specs.Holdings.{names_with_cells}
 use Rattle.world_laws.specs.WorldLaws.{NamedOnce}
 use Rattle.world_laws.proofs.Found.{itself}
@@ -64,23 +65,6 @@ main_in text a =
 -- a name differs from those of some definitions that have cells
 abbrev Apart : Bytes → List BareDef → Type 0
 Apart n ds = All (λ m. n ≢ m) (names_with_cells ds)
-
-found_still : (test : Def → Bool) (before more : List Def) → is_none (find test before) ≡ false → is_none (find test (before ++ more)) ≡ false
-found_still test [] more h = absurd (no (sym h))
-found_still test (x ∷ xs) more h = by (test x) (found_still test xs more) h
-  where
-    by : (b : Bool) → (is_none (find test xs) ≡ false → is_none (find test (xs ++ more)) ≡ false)
-        → is_none (cond b (Some x) (find test xs)) ≡ false → is_none (cond b (Some x) (find test (xs ++ more))) ≡ false
-    by true rest h = h
-    by false rest h = rest h
-
-found_last : (test : Def → Bool) (before : List Def) (d : Def) → test d ≡ true → is_none (find test (before ++ d ∷ [])) ≡ false
-found_last test [] d h = ap (λ b. is_none (cond b (Some d) None)) h
-found_last test (x ∷ xs) d h = by (test x) (found_last test xs d h)
-  where
-    by : (b : Bool) → is_none (find test (xs ++ d ∷ [])) ≡ false → is_none (cond b (Some x) (find test (xs ++ d ∷ []))) ≡ false
-    by true rest = refl
-    by false rest = rest
 
 -- a definition with cells has no name that is there before it
 new_name : (text before : List Def) (e : Def) (n own : Bytes) → is_none (definition_of before n) ≡ false
