@@ -15,10 +15,7 @@ const SIX: Value = Value::Number(Int::I32(6));
 static OLD: [Value; 2] = [SIX, SEVENTH];
 
 /// A part of another formula.
-pub(crate) fn part(
-    alloc: Global,
-    node: FormulaNode<Formula>,
-) -> Result<Boxed<Formula>, AllocError> {
+fn part(alloc: Global, node: FormulaNode<Formula>) -> Result<Boxed<Formula>, AllocError> {
     Boxed::of(alloc, Formula { node })
 }
 

@@ -5,7 +5,7 @@
 //! - `constants`: `constant_values`
 //! - `comparisons`: `sorted_names` and `patch_compare`
 //! - `transformers`: `transformer_types`
-//! - `formulas` and `layouts`: `versioned_structs`
+//! - `formulas`: `versioned_structs`
 //! - `pairs`, `fields`, `globals` and `names`: `type_transformers`
 //! - `bodies` and `room`: `brought_bodies`, and the room in a store
 #![tactic(auto)]
@@ -22,8 +22,6 @@ mod fields;
 mod formulas;
 #[cfg(test)]
 mod globals;
-#[cfg(test)]
-mod layouts;
 #[cfg(test)]
 mod names;
 #[cfg(test)]

@@ -1,7 +1,6 @@
 //! The fields of a new layout from those of the old one.
 ghost use Rattle.std.specs.Prelude.{◌≡◌, ◌≤◌, map, length};
 ghost use Rattle.local_evaluation.specs.Values.{seen};
-ghost use Rattle.constant_values.specs.Kinds.{zero_of_kind};
 ghost use Rattle.versioned_structs.specs.Limits.{most_fields};
 ghost use Rattle.versioned_structs.specs.Transforms.{new_value, new_values};
 
@@ -87,16 +86,4 @@ pub fn apply(transform: &Transform, fields: &Fields) -> Fields
         new.push(change.value(old));
     }
     new
-}
-
-/// A field of each kind, each zero, null or no thread.
-pub(crate) fn zeros(kinds: &[ValueKind]) -> Fields
-    requires { length kinds.now ≤ most_fields }
-    ensures { map seen result ≡ map zero_of_kind kinds.now }
-{
-    let mut fields = Fields::new();
-    for kind in kinds {
-        fields.push(zero(*kind));
-    }
-    fields
 }
