@@ -5,6 +5,7 @@ ghost use Rattle.bytecode.specs.Seen.{code_of};
 ghost use Rattle.code_kinds.specs.WellFormed.{most_variables};
 ghost use Rattle.source_model.specs.Moves.{frame_count};
 ghost use Rattle.thread_state.specs.Heights.{HasHeight, Sound};
+ghost use Rattle.fused_code.specs.Fused.{AreFused};
 ghost use Rattle.word_frames.specs.Seen.{HasArguments, IsKept, arguments_of, depth_of, frame_at, innermost};
 ghost use Rattle.word_frames.specs.Changes.{Enters, Leaves, Waits, WentOn, new_frame, with_innermost};
 
@@ -12,8 +13,9 @@ use crate::blocks::{SPARE, base, copy_reversed, fill, variables};
 use crate::frame::Frame;
 use crate::frames::Frames;
 use bytecode::Instr;
+use fused_code::{Op, burst};
 use resolved_tree::Word;
-use thread_state::{End, burst};
+use thread_state::End;
 
 impl Frames {
     /// A thread starts: it has no frame, and this is the word of the argument for its function. A function without parameters
@@ -60,14 +62,15 @@ impl Frames {
     }
 
     /// The innermost frame, which stopped at a point, goes on at a place with so many words on its stack, to its next stop or a
-    /// trap. `code` is the code of its function, and `heights` has the height of the stack at each place, none of them higher than the
-    /// highest of the thread.
+    /// trap. `code` is the code of its function, `ops` are its operations, and `heights` has the height of the stack at each place, none
+    /// of them higher than the highest of the thread.
     ///
     /// It takes time linear in the instructions that are executed.
     pub fn go_on(
         &mut self,
         code: &[Instr],
         heights: &[Option<u8>],
+        ops: &[Op],
         point: u32,
         place: usize,
         height: usize,
@@ -75,6 +78,7 @@ impl Frames {
         requires kept { IsKept self.old }
         requires frame { 0 < depth_of self.old }
         requires sound { (t : Table) → Sound (code_of t code.now) most_variables heights.now }
+        requires fused { AreFused code.now most_variables heights.now ops.now }
         requires height { HasHeight heights.now place height }
         requires low { (p h : ℕ) → HasHeight heights.now p h → h ≤ self.old.highest_stack }
         ensures kept { IsKept self.new }
@@ -86,6 +90,7 @@ impl Frames {
     {
         let base = self.last_base();
         let reached = burst(
+            ops,
             code,
             heights,
             variables(),

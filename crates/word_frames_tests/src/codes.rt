@@ -5,9 +5,11 @@ ghost use Rattle.word_frames.specs.Seen.{IsKept, depth_of};
 
 use bytecode::{Instr, ValueKind};
 use c_ints::{BinOp, Kind};
+use fused_code::fuse;
 use local_evaluation::Stop;
 use resolved_tree::Word;
 use skeletons::CheckInKind;
+use std::alloc::Global;
 use thread_state::End;
 use word_frames::Frames;
 
@@ -131,6 +133,7 @@ fn has_height(heights: &[Option<u8>], place: usize, height: usize) -> bool
 
 /// The innermost frame, of a function, goes on at a place with that height, unless the height is another or there is no room.
 pub(crate) fn go_on(
+    alloc: Global,
     frames: &mut Frames,
     unit: Unit,
     point: u32,
@@ -142,13 +145,13 @@ pub(crate) fn go_on(
     ensures { IsKept frames.new }
 {
     match unit {
-        Unit::Ask => ask(frames, point, place, height),
-        Unit::Digits => digits(frames, point, place, height),
-        Unit::Sum => sum(frames, point, place, height),
+        Unit::Ask => ask(alloc, frames, point, place, height),
+        Unit::Digits => digits(alloc, frames, point, place, height),
+        Unit::Sum => sum(alloc, frames, point, place, height),
     }
 }
 
-fn ask(frames: &mut Frames, point: u32, place: usize, height: usize) -> Option<End>
+fn ask(alloc: Global, frames: &mut Frames, point: u32, place: usize, height: usize) -> Option<End>
     requires kept { IsKept frames.old }
     requires frame { 0 < depth_of frames.old }
     ensures { IsKept frames.new }
@@ -156,10 +159,19 @@ fn ask(frames: &mut Frames, point: u32, place: usize, height: usize) -> Option<E
     if !has_room(frames) || !has_height(ASK_HEIGHTS, place, height) {
         return None;
     }
-    Some(frames.go_on(ASK, ASK_HEIGHTS, point, place, height))
+    match fuse(alloc, ASK, ASK_HEIGHTS, 64) {
+        Ok(ops) => Some(frames.go_on(ASK, ASK_HEIGHTS, ops.as_slice(), point, place, height)),
+        Err(_) => None,
+    }
 }
 
-fn digits(frames: &mut Frames, point: u32, place: usize, height: usize) -> Option<End>
+fn digits(
+    alloc: Global,
+    frames: &mut Frames,
+    point: u32,
+    place: usize,
+    height: usize,
+) -> Option<End>
     requires kept { IsKept frames.old }
     requires frame { 0 < depth_of frames.old }
     ensures { IsKept frames.new }
@@ -167,10 +179,13 @@ fn digits(frames: &mut Frames, point: u32, place: usize, height: usize) -> Optio
     if !has_room(frames) || !has_height(DIGITS_HEIGHTS, place, height) {
         return None;
     }
-    Some(frames.go_on(DIGITS, DIGITS_HEIGHTS, point, place, height))
+    match fuse(alloc, DIGITS, DIGITS_HEIGHTS, 64) {
+        Ok(ops) => Some(frames.go_on(DIGITS, DIGITS_HEIGHTS, ops.as_slice(), point, place, height)),
+        Err(_) => None,
+    }
 }
 
-fn sum(frames: &mut Frames, point: u32, place: usize, height: usize) -> Option<End>
+fn sum(alloc: Global, frames: &mut Frames, point: u32, place: usize, height: usize) -> Option<End>
     requires kept { IsKept frames.old }
     requires frame { 0 < depth_of frames.old }
     ensures { IsKept frames.new }
@@ -178,5 +193,8 @@ fn sum(frames: &mut Frames, point: u32, place: usize, height: usize) -> Option<E
     if !has_room(frames) || !has_height(SUM_HEIGHTS, place, height) {
         return None;
     }
-    Some(frames.go_on(SUM, SUM_HEIGHTS, point, place, height))
+    match fuse(alloc, SUM, SUM_HEIGHTS, 64) {
+        Ok(ops) => Some(frames.go_on(SUM, SUM_HEIGHTS, ops.as_slice(), point, place, height)),
+        Err(_) => None,
+    }
 }

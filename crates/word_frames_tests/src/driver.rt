@@ -5,6 +5,7 @@ use crate::codes::{go_on, instruction, unit_of};
 use bytecode::Instr;
 use local_evaluation::Stop;
 use resolved_tree::Word;
+use std::alloc::Global;
 use thread_state::End;
 use word_frames::{Frames, MOST_FRAMES};
 
@@ -20,7 +21,7 @@ pub enum Ending {
 }
 
 /// Runs a function with one argument, or without one, in a thread that starts.
-pub fn run(frames: &mut Frames, number: u32, argument: Option<u64>) -> Ending
+pub fn run(alloc: Global, frames: &mut Frames, number: u32, argument: Option<u64>) -> Ending
     requires { IsKept frames.old }
     ensures { IsKept frames.new }
 {
@@ -30,11 +31,11 @@ pub fn run(frames: &mut Frames, number: u32, argument: Option<u64>) -> Ending
     } else {
         frames.enter(Word(0), 1, number, 1);
     }
-    if go_on(frames, unit_of(number), 0, 1, 0).is_none() {
+    if go_on(alloc, frames, unit_of(number), 0, 1, 0).is_none() {
         return Ending::Lost;
     }
     for _ in 0..2000 {
-        if let Some(ending) = turn(frames) {
+        if let Some(ending) = turn(alloc, frames) {
             return ending;
         }
     }
@@ -42,7 +43,7 @@ pub fn run(frames: &mut Frames, number: u32, argument: Option<u64>) -> Ending
 }
 
 /// Makes the innermost frame's stop, and goes on; an ending where the run ends.
-fn turn(frames: &mut Frames) -> Option<Ending>
+fn turn(alloc: Global, frames: &mut Frames) -> Option<Ending>
     requires { IsKept frames.old }
     ensures { IsKept frames.new }
 {
@@ -51,15 +52,16 @@ fn turn(frames: &mut Frames) -> Option<Ending>
     };
     match instruction(unit_of(frame.unit), frame.place) {
         Some(Instr::Halt(Stop::Call(Word(function), count), point)) => {
-            call(frames, function, count, point, frame.place)
+            call(alloc, frames, function, count, point, frame.place)
         }
-        Some(Instr::Halt(Stop::Return, _)) => give(frames),
+        Some(Instr::Halt(Stop::Return, _)) => give(alloc, frames),
         _ => Some(Ending::Lost),
     }
 }
 
 /// A call at a point and a place: the innermost frame waits, and the function is entered.
 fn call(
+    alloc: Global,
     frames: &mut Frames,
     function: usize,
     count: usize,
@@ -78,11 +80,11 @@ fn call(
     let number = if function == 1 { 1 } else { 2 };
     frames.wait(count, point, place + 1);
     frames.enter(Word(function), 1, number, count);
-    ended(go_on(frames, unit_of(number), 0, 1, 0))
+    ended(go_on(alloc, frames, unit_of(number), 0, 1, 0))
 }
 
 /// A return: the word is the thread's, or the frame that called goes on with it.
-fn give(frames: &mut Frames) -> Option<Ending>
+fn give(alloc: Global, frames: &mut Frames) -> Option<Ending>
     requires { IsKept frames.old }
     ensures { IsKept frames.new }
 {
@@ -101,6 +103,7 @@ fn give(frames: &mut Frames) -> Option<Ending>
         return Some(Ending::Lost);
     };
     ended(go_on(
+        alloc,
         frames,
         unit_of(frame.unit),
         frame.point,

@@ -1,5 +1,14 @@
+use Rattle.std.proofs.Common.{List, subst, sym}
+use Rattle.fused_code.specs.Fused.{AreFused}
+use Rattle.fused_code.specs.declared.op.Op.{Op}
 use Rattle.word_frames_tests.proofs.RightHeights.{sum_sound}
 use Rattle.word_frames_tests.proofs.codes.sum.Goals as goal
 
 pub go_on-requires-clause-sound : goal.go_on-requires-clause-sound
 go_on-requires-clause-sound c = sum_sound
+
+pub fuse-requires : goal.fuse-requires
+fuse-requires c = sum_sound
+
+pub go_on-requires-clause-fused : goal.go_on-requires-clause-fused
+go_on-requires-clause-fused c = subst (λ (os : List Op). AreFused _ _ _ os) (sym c.as_slice.ensures.value) c.in-Ok.ensures

@@ -3,12 +3,17 @@ use Rattle.std.proofs.lemmas.List.{with_items_is}
 use Rattle.resolved_tree.specs.Nodes.{Table}
 use Rattle.bytecode.specs.Seen.{code_of}
 use Rattle.thread_state.specs.Heights.{Sound}
+use Rattle.fused_code.specs.Fused.{AreFused}
 use Rattle.word_frames.proofs.FrameCalls.{went_on}
 use Rattle.word_frames.proofs.frames.Frames.go_on.Goals as goal
 
 pub burst-reached-requires-clause-sound : goal.burst-reached-requires-clause-sound
 burst-reached-requires-clause-sound c =
     subst (λ (m : ℕ). (t : Table) → Sound (code_of t c.args.code.now) m c.args.heights.now) (sym c.variables.ensures.few) c.requires.sound
+
+pub burst-reached-requires-clause-fused : goal.burst-reached-requires-clause-fused
+burst-reached-requires-clause-fused c =
+    subst (λ (m : ℕ). AreFused c.args.code.now m c.args.heights.now c.args.ops.now) (sym c.variables.ensures.few) c.requires.fused
 
 pub stand-requires-clause-low : goal.stand-requires-clause-low
 stand-requires-clause-low c = c.requires.low c.burst-reached.result.place c.burst-reached.result.height c.burst-reached.ensures.held

@@ -1,0 +1,2 @@
+pub mod RightHeights
+pub mod OperatorHeights
