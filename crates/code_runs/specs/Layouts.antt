@@ -74,6 +74,12 @@ used_object (ReadField tag name) (h ∷ under) = Some (tag, h)
 used_object (WriteField tag name) (w ∷ h ∷ under) = Some (tag, h)
 used_object _ stack = None
 
+-- the tag of the struct whose field a stop reads or writes
+abbrev pub field_tag : Stop → Option Bytes
+field_tag (ReadField tag name) = Some tag
+field_tag (WriteField tag name) = Some tag
+field_tag _ = None
+
 -- what is shared once the object that a stop uses has the layout of the text in force
 pub data Freshens (texts : List (List BareDef)) (names : Names) (s : Stop) (stack : List ℕ) (d : Data) : Data → Type 0 where
   -- there is one layout, since no text was installed

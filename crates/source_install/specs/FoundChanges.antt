@@ -1,4 +1,4 @@
--- How changes of data are found, for the contracts of private functions.
+-- How changes of data are found by name.
 use Rattle.std.specs.Prelude.{List, map, find, Option, Some, None}
 use Rattle.c_tree.specs.BareExpr.{Bytes}
 use Rattle.c_definitions.specs.Index.{is_key}

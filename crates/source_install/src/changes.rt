@@ -10,7 +10,7 @@ use std::alloc::{AllocError, Global};
 use type_transformers::{Change, GlobalChange};
 use versioned_structs::Transform;
 
-/// What changes.
+/// Data that an install may change: the fields of a struct's objects, or the cells of a global.
 #[derive(Clone, Copy)]
 pub enum Data {
     Struct,
@@ -38,7 +38,8 @@ fn add_key(table: &mut Scopes<usize>, name: Option<&Text>, place: usize) -> Resu
     Ok(())
 }
 
-/// The places of the changes that are found by names.
+/// A table of the changes of one kind of data, from tags or names to places among the changes. Where two changes have one name it
+/// has the first. It fails only when out of memory.
 pub fn table_of(alloc: Global, kind: Data, changes: &[Change]) -> Result<Scopes<usize>, AllocError>
     ensures { IfOk result (λ table. table ≡ table_of (keys kind changes.now)) }
 {
@@ -81,7 +82,8 @@ fn found<'a>(
     at(changes, place_of(table, kind, changes, name))
 }
 
-/// How the fields of a struct change.
+/// The change of the fields of the struct with a tag, by the table of the changes of structs; none where its layout stays, or
+/// where the struct is new.
 pub fn transform<'a>(
     structs: &Scopes<usize>,
     changes: &'a [Change],
@@ -97,7 +99,7 @@ pub fn transform<'a>(
 }
 
 /// How the cells of a global change.
-pub fn cells_change<'a>(
+pub(crate) fn cells_change<'a>(
     globals: &Scopes<usize>,
     changes: &'a [Change],
     name: &str,

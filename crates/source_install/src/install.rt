@@ -167,8 +167,9 @@ fn zero_fields_if(
     }
 }
 
-/// Whether a text defines the struct with a tag, and not with the fields that it has in the version in force.
-fn is_new(program: &Programs, number: usize, tag: Word) -> bool
+/// Whether the text with a number, counted from 0, defines the struct with a tag, and not with the fields that it has in the version
+/// in force.
+pub fn is_new(program: &Programs, number: usize, tag: Word) -> bool
     ensures { ArePrograms program.now → let name = struct_name (word (words_of program.now) tag) in
         result ≡ (is_some (definition (text_at program.now number) name)
         && not (agree same_interface (definition (current_of program.now) name) (definition (text_at program.now number) name))) }

@@ -60,6 +60,8 @@ impl WordData {
         ensures made { let d = self.old in Made self.new words.now stack [] result
             (λ x. One (stack_of words.now stack) (λ w under. x ≡ goes (with_row d n (slice_set (row d n) 0 w)) (w ∷ under))) }
         ensures keeps { LeavesOne 1 stack result words.now words.now }
+        ensures objects { self.new.objects ≡ self.old.objects }
+        ensures version { self.new.version ≡ self.old.version }
     {
         let word = word_under(words, stack, 0);
         set_cell(&mut self.cells, n, 0, word);
@@ -90,6 +92,8 @@ impl WordData {
             (λ x. Two (stack_of words.old stack) (λ w i under. x ≡ write_element self.old n i w under)) }
         ensures elsewhere { IsSameOutside stack.low (stack.low + stack.height + 1) words.old words.new }
         ensures keeps { LeavesOne 2 stack result words.old words.new }
+        ensures objects { self.new.objects ≡ self.old.objects }
+        ensures version { self.new.version ≡ self.old.version }
     {
         let word = word_under(words, stack, 0);
         let index = word_under(words, stack, 1);

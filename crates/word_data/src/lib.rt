@@ -4,12 +4,15 @@
 //! leaves its own there, exactly as the definitions of runs of code say. It takes no memory but for the bytes of a print, and none for
 //! them where there is room for as many as the print writes at most, whatever its arguments.
 //!
+//! What an install of a newer text changes, and the object that a stop brings to a newer layout, are put in place by calls that can't fail.
+//!
 //! Read `specs/Stacks`, `specs/Resolved`, `specs/Lengths` and `specs/Performing`; then [`stop`] (what is asked and answered), [`shared`]
-//! (what is kept, and which stop does what), and `cells`, `objects`, `mutexes` and `print` (what each does), over `stack` (the words of
-//! a frame).
+//! (what is kept, and which stop does what), `cells`, `objects`, `mutexes` and `print` (what each does), over `stack` (the words of a
+//! frame), and `changes` (what is put in place).
 #![tactic(auto)]
 
 mod cells;
+mod changes;
 mod mutexes;
 mod objects;
 mod print;

@@ -17,7 +17,7 @@ use program_locks::LockAnswer;
 use run_types::TrapKind;
 
 /// The mutex with a number, if there are more.
-fn mutex(mutexes: usize, n: u32) -> Option<NameId>
+pub(crate) fn mutex(mutexes: usize, n: u32) -> Option<NameId>
     requires { mutexes ≤ most_names }
     ensures { SomeIff result (n < mutexes) n }
 {

@@ -41,6 +41,7 @@ fn set_field_of(objects: &mut Objects, handle: Handle, place: u32, word: u64) ->
     ensures changed { (o : Object) → get objects.old.live handle ≡ Some o
         → objects.new ≡ with_object objects.old handle (record o { fields = slice_set o.fields place word }) }
     ensures same { IsFalse result → objects.new ≡ objects.old }
+    ensures created { objects.new.created ≡ objects.old.created }
 {
     match objects.get_mut(handle) {
         Some(object) => {
@@ -80,6 +81,8 @@ impl WordData {
             goes (with_objects d (with_object d.objects h (record o { fields = slice_set o.fields n w }))) (w ∷ under)))) }
         ensures elsewhere { IsSameOutside stack.low (stack.low + stack.height + 1) words.old words.new }
         ensures keeps { LeavesOne 2 stack result words.old words.new }
+        ensures created { self.new.objects.created ≡ self.old.objects.created }
+        ensures version { self.new.version ≡ self.old.version }
     {
         let word = word_under(words, stack, 0);
         let handle = word_under(words, stack, 1);
@@ -107,6 +110,8 @@ impl WordData {
             × (x ≡ goes (with_objects d after) (handle_word handle ∷ stack_of words.old stack)))))) }
         ensures elsewhere { IsSameOutside stack.low (stack.low + stack.height + 1) words.old words.new }
         ensures keeps { IfOk result (λ did. LeavesOne 0 stack did words.old words.new) }
+        ensures created { self.new.objects.created ≤ 1 + self.old.objects.created }
+        ensures version { self.new.version ≡ self.old.version }
         ensures fault { OnErr result ((self.new ≡ self.old) × (words.new ≡ words.old)) }
         ensures cause { OnErr result (self.old.objects.created ≡ creation_limit) }
     {
@@ -128,6 +133,8 @@ impl WordData {
             (λ x. One (stack_of words.old stack) (λ h under. x ≡ release self.old h under)) }
         ensures elsewhere { IsSameOutside stack.low (stack.low + stack.height + 1) words.old words.new }
         ensures keeps { LeavesOne 1 stack result words.old words.new }
+        ensures created { self.new.objects.created ≡ self.old.objects.created }
+        ensures version { self.new.version ≡ self.old.version }
     {
         let handle = word_under(words, stack, 0);
         if handle != 0 && !self.objects.end(Handle::new(handle)) {

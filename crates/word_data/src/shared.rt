@@ -8,6 +8,7 @@ ghost use Rattle.program_locks.specs.Slots.{most_slots};
 ghost use Rattle.resolved_tree.specs.Trees.{table};
 ghost use Rattle.thread_state.specs.Frames.{IsSameOutside};
 ghost use Rattle.code_runs.specs.CodeData.{Names};
+ghost use Rattle.word_data.specs.declared.stop.Did.TheVariants.{Waits as WaitsDid};
 ghost use Rattle.word_data.specs.Resolved.{Resolves, takes};
 ghost use Rattle.word_data.specs.Lengths.{longest_of};
 ghost use Rattle.word_data.specs.Performing.{LeavesOne, MayFail, Performs};
@@ -99,6 +100,10 @@ impl WordData {
         ensures keeps { IfOk result (λ did. LeavesOne (takes stop) stack did words.old words.new) }
         ensures long { OnOk result (length printed.new.items ≤ length printed.old.items + longest_of (table trees.now) stop) }
         ensures capacity { vec_capacity printed.old ≤ vec_capacity printed.new }
+        ensures created { (n : ℕ) → self.old.objects.created ≤ n → self.new.objects.created ≤ 1 + n }
+        ensures version { self.new.version ≡ self.old.version }
+        ensures waits { IfOk result (λ did. (holder : ℕ) → did ≡ WaitsDid holder
+            → (self.new.objects.created ≡ self.old.objects.created) × (printed.new ≡ printed.old)) }
         ensures fault { OnErr result ((self.new ≡ self.old) × (words.new ≡ words.old)) }
         ensures cause { OnErr result (MayFail (table trees.now) stop self.old printed.old) }
     {

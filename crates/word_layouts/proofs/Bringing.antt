@@ -16,7 +16,7 @@ use Rattle.definition_laws.proofs.SameDefinitions.{interface_equal_if_same}
 use Rattle.source_model.specs.Worlds as world
 use Rattle.source_model.specs.Installs.{brought_by}
 use Rattle.patch_faults.specs.TransformLaws.{has_type, HaveTypes}
-use Rattle.word_layouts.proofs.FieldTypes.{fields_have_types, of_kind, zero_has_type}
+use Rattle.patch_faults.proofs.ValuesOfTypes.{fields_have_types, of_kind, zero_has_type}
 use Rattle.typed_trees.specs.ValueTypes.{HasType, ScopeHas}
 use Rattle.constant_values.specs.Kinds.{kind_of}
 use Rattle.versioned_structs.specs.Limits.{most_fields}

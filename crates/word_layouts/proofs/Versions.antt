@@ -1,13 +1,16 @@
--- One version more.
-use Rattle.std.proofs.Common.{◌≡◌, ℕ, zero, suc, ◌+◌, ◌<◌, inl, inr, List, [], ◌∷◌, ◌++◌, length, length-append, slice_get, Some, Contains, refl, sym, ap, subst, ◌∙◌, arith}
+-- One struct more among the changes of a version, and one version more.
+use Rattle.std.proofs.Common.{◌≡◌, ℕ, zero, suc, ◌+◌, ◌<◌, ◌≤◌, true, true≢false, inl, inr, List, [], ◌∷◌, ◌++◌, length, length-append, get_or, slice_get, Option, Some, Contains, bytes_eq, refl, sym, ap, subst, ◌∙◌, arith}
 use Rattle.std.specs.Prelude.{slice_index_or}
-use Rattle.std.specs.Option.{option_and_then}
+use Rattle.std.specs.Option.{option_and_then, option_flatten}
 use Rattle.std.proofs.lemmas.Bool.{cases_lt}
+use Rattle.std.proofs.lemmas.List.Sums.{fails_before_first}
+use Rattle.std.proofs.lemmas.Slice.Eq.{bytes_eq-Decides}
 use Rattle.c_tree.specs.BareExpr.{Bytes}
 use Rattle.c_tree.specs.BareDef.{BareDef}
 use Rattle.version_laws.specs.Histories.{last_text, text_in}
 use Rattle.code_runs.specs.CodeData.{number_of}
 use Rattle.code_runs.specs.Layouts.{text_at}
+use Rattle.word_layouts.specs.declared.change.WordChange.{WordChange}
 use Rattle.word_layouts.specs.declared.layouts.VersionChanges.{VersionChanges}
 use Rattle.word_layouts.specs.ChangedWords.{change_at, change_of}
 use Rattle.word_layouts.specs.WordChanges.{AreChangesOf, HasFewFields, IsWordChange, StandFor}
@@ -31,6 +34,60 @@ get_left (x ∷ xs) ys (suc n) h = get_left xs ys n (omega (arith, h))
 get_seam : {X : Type 0} (xs : List X) (y : X) → slice_get (xs ++ y ∷ []) (length xs) ≡ Some y
 get_seam [] y = refl
 get_seam (x ∷ xs) y = get_seam xs y
+
+-- ---- the changes of a version
+
+-- a tag among some is at its number
+number_within : (tags : List Bytes) (tag : Bytes) → Contains tags tag → number_of tags tag < length tags
+number_within tags tag known = elim (cases_lt (number_of tags tag) (length tags)) [
+  | inl inside ↦ inside
+  | inr outside ↦
+      let within = known.1 in
+      let passes : bytes_eq tag (get_or tags known.0 tag) ≡ true = (bytes_eq-Decides tag (get_or tags known.0 tag)).1 (sym known.2) in
+      let fails = fails_before_first (bytes_eq tag) tags known.0 tag (omega (arith, outside, within)) in
+      absurd (true≢false (sym passes ∙ fails))
+]
+
+-- changes are those of the structs whose tags have the first numbers
+pub record ArePrepared (p q : List BareDef) (tags : List Bytes) (place : ℕ) (structs : List (Option WordChange)) : Type 0 where
+  pub count : length structs ≡ place
+  pub each : (tag : Bytes) → Contains tags tag → number_of tags tag < place
+      → IsWordChange p q tag (option_flatten (slice_get structs (number_of tags tag)))
+
+pub prepared_none : (p q : List BareDef) (tags : List Bytes) → ArePrepared p q tags 0 []
+prepared_none p q tags = record {
+  count = refl;
+  each = λ tag known below. absurd (omega (arith, below));
+}
+
+-- one more
+pub prepared_more : (p q : List BareDef) (tags : List Bytes) (place : ℕ) (structs : List (Option WordChange)) (change : Option WordChange)
+    → ArePrepared p q tags place structs
+    → ((tag : Bytes) → Contains tags tag → number_of tags tag ≡ place → IsWordChange p q tag change)
+    → ArePrepared p q tags (place + 1) (structs ++ change ∷ [])
+prepared_more p q tags place structs change before is = record {
+  count = let count = before.count in let more = length-append structs (change ∷ []) in omega (arith, count, more);
+  each = λ tag known below.
+      let n = number_of tags tag in
+      elim (cases_lt n place) [
+        | inl inside ↦
+            let count = before.count in
+            subst (λ o. IsWordChange p q tag (option_flatten o)) (sym (get_left structs (change ∷ []) n (omega (arith, inside, count))))
+            (before.each tag known inside)
+        | inr outside ↦
+            let here : place ≡ n = omega (arith, below, outside) in
+            let last : slice_get (structs ++ change ∷ []) n ≡ Some change =
+            ap (slice_get (structs ++ change ∷ [])) (sym (before.count ∙ here)) ∙ get_seam structs change in
+            subst (λ o. IsWordChange p q tag (option_flatten o)) (sym last) (is tag known (sym here))
+      ];
+}
+
+-- all
+pub prepared_all : (p q : List BareDef) (tags : List Bytes) (place : ℕ) (structs : List (Option WordChange)) → length tags ≤ place
+    → ArePrepared p q tags place structs → (tag : Bytes) → Contains tags tag
+    → IsWordChange p q tag (option_flatten (slice_get structs (number_of tags tag)))
+prepared_all p q tags place structs enough all tag known =
+    let within = number_within tags tag known in all.each tag known (omega (arith, within, enough))
 
 -- ---- versions
 

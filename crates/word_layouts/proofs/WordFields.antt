@@ -17,7 +17,7 @@ use Rattle.c_tree.specs.BareDef.{BareBinding}
 use Rattle.c_semantics.specs.Values.{Value, Number, Reference, Started, converted_to, int_of}
 use Rattle.c_semantics.specs.Pieces.{Variable}
 use Rattle.patch_faults.specs.TransformLaws.{has_type, HaveTypes}
-use Rattle.word_layouts.proofs.FieldTypes.{one_kind}
+use Rattle.patch_faults.proofs.ValuesOfTypes.{one_kind}
 use Rattle.constant_values.specs.Kinds.{a_type_of, kind_of as kind_of_type}
 use Rattle.constant_values.specs.declared.kind.ValueKind.{ValueKind}
 use Rattle.versioned_structs.specs.declared.transform.FieldChange.{FieldChange}

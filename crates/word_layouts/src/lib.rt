@@ -10,19 +10,26 @@
 //! A transform may compare handles, and copies them. So the values that it is applied to have each object under its own word, and it is
 //! enough that different objects have different words.
 //!
-//! What an install changes is given, and becomes the newest version by [`WordLayouts::add`]. A global whose type changes gets the words
-//! of its new cells by [`cells_after`].
+//! [`prepare`] makes what an install changes from the layouts of both texts ([`Layout`], and `specs/TextLayouts`) and the changes of data,
+//! and [`WordLayouts::add`] makes that the newest version. A global whose type changes gets the words of its new cells by
+//! [`cells_after`].
 //!
 //! Read in this order: `words` (words as values, and back), `change` (what changes the objects of a struct), `step` (one change),
-//! `layouts` (the changes of all versions), `cells` (globals).
+//! `layouts` (the changes of all versions), `copies` (copies of transforms), `layout` (the structs of a text), `preparation` (what an
+//! install changes), `cells` (globals).
 #![tactic(auto)]
 
 mod cells;
 mod change;
+mod copies;
+mod layout;
 mod layouts;
+mod preparation;
 mod step;
 mod words;
 
 pub use cells::cells_after;
 pub use change::{Conversion, WordChange};
+pub use layout::Layout;
 pub use layouts::{VersionChanges, WordLayouts};
+pub use preparation::prepare;

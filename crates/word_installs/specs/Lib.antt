@@ -1,0 +1,4 @@
+pub mod Freshened
+pub mod TextRows
+pub mod NewRows
+pub mod Prepared
