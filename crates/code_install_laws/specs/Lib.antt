@@ -1,0 +1,2 @@
+pub mod InstalledTexts
+pub mod UsedNames
