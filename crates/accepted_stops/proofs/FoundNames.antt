@@ -173,11 +173,12 @@ module _ (ds : List BareDef) (few : length (names ds) ≤ most_names) where
   mutex_numbered name h =
       is_numbered (names_of ds).mutexes name (listed mutex_name (bytes_eq name) IsMutex name never (mutex_own name) ds h) mutexes_few
 
+  pub tags_few : length (names_of ds).tags ≤ most_names
+  tags_few = let less = fewer tag_of tags_fewer ds in omega (arith, few, less)
+
   pub tag_numbered : (tag : Bytes) → IsStruct (definition ds (struct_name tag)) → IsNumbered (names_of ds).tags tag
   tag_numbered tag h =
-      let less = fewer tag_of tags_fewer ds in
-      is_numbered (names_of ds).tags tag (listed tag_of (bytes_eq tag) IsStruct (struct_name tag) never (struct_own tag) ds h)
-      (omega (arith, few, less))
+      is_numbered (names_of ds).tags tag (listed tag_of (bytes_eq tag) IsStruct (struct_name tag) never (struct_own tag) ds h) tags_few
 
   pub function_numbered : (name : Bytes) → IsFunction (definition ds name) → IsNumbered (function_names ds) name
   function_numbered name h =

@@ -3,3 +3,4 @@ pub mod TreeStops
 pub mod FewNames
 pub mod FoundNames
 pub mod Stops
+pub mod StructNames

@@ -1,10 +1,10 @@
 -- The code of an accepted text fits it.
-use Rattle.std.proofs.Common.{◌≡◌, ◌≤◌, ℕ, List, length, arith}
+use Rattle.std.proofs.Common.{◌≡◌, ◌≤◌, ℕ, List, Option, length, subst, arith}
 use Rattle.std.specs.Prelude.{codes}
 use Rattle.c_tree.specs.BareDef.{BareDef}
 use Rattle.c_tree.specs.BareExpr.{Bytes}
 use Rattle.c_semantics.specs.Names.{struct_name}
-use Rattle.c_semantics.specs.Texts.{parameters_of, result_type}
+use Rattle.c_semantics.specs.Texts.{members_of, parameters_of, result_type}
 use Rattle.c_semantics.specs.Resolution.{resolved_body}
 use Rattle.c_semantics.specs.SourceTexts.{Text}
 use Rattle.c_semantics.specs.Stops.{Stop}
@@ -13,11 +13,13 @@ use Rattle.typed_runs.proofs.FirstWorld.{main_typed}
 use Rattle.frame_bodies.specs.AcceptedTexts.{IsAccepted, looked_up}
 use Rattle.code_kinds.specs.WellFormed.{most_variables}
 use Rattle.accepted_code.specs.AcceptedCode.{FunctionsHaveFineCode, coded_in}
+use Rattle.code_runs.specs.CodeData.{most_fields}
 use Rattle.accepted_stops.specs.StopNames.{IsNamed, function_names}
-use Rattle.accepted_stops.specs.FittingCode.{AcceptedCodeFits, AcceptedNamesAreFew}
+use Rattle.accepted_stops.specs.FittingCode.{AcceptedCodeFits, AcceptedNamesAreFew, AcceptedStructsAreSmall}
 use Rattle.accepted_stops.proofs.FewNames.{few_members, few_names}
 use Rattle.accepted_stops.proofs.Fitting.{fits_less}
-use Rattle.accepted_stops.proofs.FoundNames.{array_numbered, function_numbered, is_member, mutex_numbered, mutexes_few, tag_numbered, variable_numbered}
+use Rattle.accepted_stops.proofs.FoundNames.{array_numbered, function_numbered, is_member, mutex_numbered, mutexes_few, tag_numbered, tags_few, variable_numbered}
+use Rattle.accepted_stops.proofs.StructNames.{struct_found}
 use Rattle.accepted_stops.proofs.TreeStops.{IsUsed, typed_code_fits}
 
 module _ (text : Text) (a : IsAccepted text) where
@@ -61,4 +63,11 @@ pub accepted_names_are_few : AcceptedNamesAreFew
 accepted_names_are_few text a = record {
   main = function_numbered text.definitions (few_names text a) (codes "main") (main_typed text a).function;
   mutexes = mutexes_few text.definitions (few_names text a);
+  tags = tags_few text.definitions (few_names text a);
+}
+
+pub accepted_structs_are_small : AcceptedStructsAreSmall
+accepted_structs_are_small text tag d a found = record {
+  struct = struct_found text tag d a found;
+  few = subst (λ (o : Option BareDef). length (members_of o) ≤ most_fields) found (few_members text (struct_name tag) a);
 }

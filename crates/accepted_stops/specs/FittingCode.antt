@@ -6,11 +6,15 @@ use Rattle.name_sets.specs.Limit.{most_names}
 use Rattle.c_tree.specs.BareExpr.{Bytes}
 use Rattle.c_tree.specs.BareDef.{BareDef}
 use Rattle.c_semantics.specs.SourceTexts.{Text}
+use Rattle.c_semantics.specs.Names.{struct_name}
 use Rattle.c_semantics.specs.Stops.{Stop, kind_of}
+use Rattle.c_semantics.specs.Texts.{definition, members_of}
+use Rattle.typed_trees.specs.ExpressionTypes.{IsStruct}
 use Rattle.frame_bodies.specs.AcceptedTexts.{IsAccepted}
 use Rattle.bytecode.specs.Instructions.{Instruction, Back, CheckIn, Halt}
 use Rattle.tree_code.specs.Code.{Code}
 use Rattle.accepted_code.specs.AcceptedCode.{coded_in}
+use Rattle.code_runs.specs.CodeData.{most_fields}
 use Rattle.code_image.specs.Images.{names_of}
 use Rattle.accepted_stops.specs.StopNames.{IsNamed, IsNumbered, function_names}
 
@@ -34,10 +38,21 @@ AcceptedCodeFits =
     (text : Text) (function : Bytes) → IsAccepted text
     → CodeFits (IsNamed text.definitions (function_names text.definitions)) (coded_in text function).code
 
--- it has a main, and few mutexes
+-- it has a main, few mutexes and few tags
 pub record NamesAreFew (text : List BareDef) : Type 0 where
   pub main : IsNumbered (function_names text) (codes "main")
   pub mutexes : length (names_of text).mutexes ≤ most_names
+  pub tags : length (names_of text).tags ≤ most_names
 
 abbrev pub AcceptedNamesAreFew : Type 0
 AcceptedNamesAreFew = (text : Text) → IsAccepted text → NamesAreFew text.definitions
+
+-- what it defines as a struct's name is a struct, with few members
+pub record StructIsSmall (text : List BareDef) (tag : Bytes) (d : BareDef) : Type 0 where
+  pub struct : IsStruct (Some d)
+  pub few : length (members_of (Some d)) ≤ most_fields
+
+abbrev pub AcceptedStructsAreSmall : Type 0
+AcceptedStructsAreSmall =
+    (text : Text) (tag : Bytes) (d : BareDef) → IsAccepted text → definition text.definitions (struct_name tag) ≡ Some d
+    → StructIsSmall text.definitions tag d

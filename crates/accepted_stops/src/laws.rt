@@ -1,6 +1,6 @@
 //! What is known of the stops of accepted texts, each as the contract of a call that does nothing but cite what it rests on.
 
-ghost use Rattle.accepted_stops.specs.FittingCode.{AcceptedCodeFits, AcceptedNamesAreFew};
+ghost use Rattle.accepted_stops.specs.FittingCode.{AcceptedCodeFits, AcceptedNamesAreFew, AcceptedStructsAreSmall};
 
 use accepted_code::accepted_functions_have_fine_code;
 
@@ -11,7 +11,12 @@ pub fn accepted_code_fits()
     accepted_functions_have_fine_code();
 }
 
-/// An accepted text has a function `main`, and as few mutexes as a text may have names.
+/// An accepted text has a function `main`, and no more mutexes or tags than a text may have names.
 pub fn accepted_names_are_few()
     ensures { AcceptedNamesAreFew }
+{}
+
+/// What an accepted text defines as the name of a struct is a struct, with no more members than an object may have fields.
+pub fn accepted_structs_are_small()
+    ensures { AcceptedStructsAreSmall }
 {}

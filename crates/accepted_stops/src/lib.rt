@@ -7,9 +7,9 @@
 //!
 //! Read `specs/StopNames` (what a stop names) and `specs/FittingCode` (the laws); the calls of `laws` carry them. In `proofs/`,
 //! `Fitting` has code in parts, `TreeStops` the stops of typed trees, `FewNames` how many names a text has, `FoundNames` their
-//! numbers, and `Stops` the laws.
+//! numbers, `StructNames` what a struct's name is defined as, and `Stops` the laws.
 #![tactic(auto)]
 
 mod laws;
 
-pub use laws::{accepted_code_fits, accepted_names_are_few};
+pub use laws::{accepted_code_fits, accepted_names_are_few, accepted_structs_are_small};

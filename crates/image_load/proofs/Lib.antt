@@ -1,8 +1,16 @@
+pub mod NameLists
 pub mod NameNumbers
+pub mod NamesOfTexts
 pub mod StopsOfCode
 pub mod Heights
 pub mod FirstRows
-pub mod Whole
+pub mod Lists
 pub mod PlainCells
 pub mod OwnBodies
 pub mod FoundMembers
+pub mod TextBodies
+pub mod Rows
+pub mod ListedNames
+pub mod NumberedBodies
+pub mod Whole
+pub mod RunNumbers

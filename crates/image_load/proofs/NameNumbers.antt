@@ -1,21 +1,17 @@
 -- The numbers of names, added one by one.
 use Rattle.std.proofs.Common.{◌≡◌, ℕ, zero, suc, ◌+◌, ◌<◌, Bool, true, false, cond, if◌then◌else◌, List, [], ◌∷◌, ◌++◌, length, map, take, get_or, Option, Some, None, bytes_eq, slice_get, refl, sym, ap, subst, ◌∙◌, arith}
-use Rattle.std.specs.Prelude.{filter_map}
-use Rattle.std.specs.List.{cons_option, position, position_from}
+use Rattle.std.specs.List.{position, position_from}
 use Rattle.std.specs.Option.{is_some}
 use Rattle.std.proofs.lemmas.Iterator.Adapters.{position_from-zero}
-use Rattle.std.proofs.lemmas.List.{append-nil, map-append, take_more}
-use Rattle.std.proofs.lemmas.List.Elements.{filter_map-append}
+use Rattle.std.proofs.lemmas.List.{map-append, take_more}
 use Rattle.std.proofs.lemmas.List.Quantifiers.{position-Some}
 use Rattle.std.proofs.lemmas.Option.{same_Some, slice_get-get_or}
 use Rattle.std.proofs.lemmas.Slice.Eq.{bytes_eq-Decides}
 use Rattle.c_tree.specs.BareExpr.{Bytes}
-use Rattle.c_tree.specs.BareDef.{BareDef}
-use Rattle.source_model.specs.Worlds.{Cells}
 use Rattle.source_programs.specs.declared.places.Places.{Places}
 use Rattle.source_programs.specs.Places.{place_in}
 use Rattle.source_programs.proofs.Placed.{found_at}
-use Rattle.image_load.specs.Numbering.{HasNumbers, IsNumber, with_name}
+use Rattle.image_load.specs.Numbering.{HasNumbers, IsNumber}
 
 -- ---- the position in a list with one more item
 
@@ -50,22 +46,6 @@ position_more p xs y =
 
 -- ---- tables
 
--- a name that is there already
-pub numbers_same : (places : Places) (names : List Bytes) (name : Bytes) (i : ℕ) → HasNumbers places names → place_in places name ≡ Some i
-    → HasNumbers places (names ++ name ∷ [])
-numbers_same places names name i has found = λ other. by other (bytes_eq other name) refl
-  where
-    by : (other : Bytes) (b : Bool) → bytes_eq other name ≡ b → place_in places other ≡ position (λ n. bytes_eq other n) (names ++ name ∷ [])
-    by other true e =
-        let same = (bytes_eq-Decides other name).0 e in
-        let first : position (λ n. bytes_eq other n) names ≡ Some i = sym (has other) ∙ ap (place_in places) same ∙ found in
-        has other ∙ first ∙ sym (position_more (λ n. bytes_eq other n) names name
-        ∙ ap (λ o. earlier o (cond (bytes_eq other name) (Some (length names)) None)) first)
-    by other false e =
-        has other ∙ sym (position_more (λ n. bytes_eq other n) names name
-        ∙ ap (λ b. earlier (position (λ n. bytes_eq other n) names) (cond b (Some (length names)) None)) e
-        ∙ earlier_nothing (position (λ n. bytes_eq other n) names))
-
 -- one that is put there
 pub numbers_more : (old new : Places) (names : List Bytes) (name : Bytes) (k : ℕ) → HasNumbers old names → k ≡ length names → place_in old name ≡ None
     → ((other : Bytes) → place_in new other ≡ (if bytes_eq other name then Some k else place_in old other))
@@ -86,18 +66,6 @@ numbers_more old new names name k has many none put = λ other. put other ∙ by
         ∙ sym (position_more (λ n. bytes_eq other n) names name
         ∙ ap (λ b. earlier (position (λ n. bytes_eq other n) names) (cond b (Some (length names)) None)) e
         ∙ earlier_nothing (position (λ n. bytes_eq other n) names))
-
--- one that has a place
-pub numbers_kept : (places : Places) (names : List Bytes) (name : Bytes) → is_some (place_in places name) ≡ true → HasNumbers places names
-    → HasNumbers places (names ++ name ∷ [])
-numbers_kept places names name there has = by (place_in places name) refl there
-  where
-    by : (o : Option ℕ) → place_in places name ≡ o → is_some o ≡ true → HasNumbers places (names ++ name ∷ [])
-    by None e f = absurd (clash f)
-      where
-        clash : false ≡ true → ⊥
-        clash h = cc
-    by (Some i) e f = numbers_same places names name i has e
 
 pub is_none : (o : Option ℕ) → is_some o ≡ false → o ≡ None
 is_none None e = refl
@@ -124,30 +92,8 @@ pub next_item : {A B : Type 0} (f : A → B) (xs : List A) (i : ℕ) (x : A) →
     → map f (take (i + 1) xs) ≡ map f (take i xs) ++ f x ∷ []
 next_item f xs i x l is = ap (map f) (take_more xs i x l ∙ ap (λ z. take i xs ++ z ∷ []) (sym is)) ∙ map-append f (take i xs) (x ∷ [])
 
--- ---- names of definitions
-
--- those of one definition more
-pub named_more : (f : BareDef → Option Bytes) (ys zs : List BareDef) (y : BareDef) → zs ≡ ys ++ y ∷ []
-    → with_name (filter_map f ys) (f y) ≡ filter_map f zs
-named_more f ys zs y e = by (f y) ∙ sym (filter_map-append f ys (y ∷ [])) ∙ sym (ap (filter_map f) e)
-  where
-    by : (o : Option Bytes) → with_name (filter_map f ys) o ≡ filter_map f ys ++ cons_option o []
-    by None = sym (append-nil (filter_map f ys))
-    by (Some name) = refl
-
--- ---- names of globals and arrays
-
-position_by : {X : Type 0} (p : Bytes → Bool) (f : X → Bytes) (n : ℕ) (xs : List X) → position_from (λ x. p (f x)) n xs ≡ position_from p n (map f xs)
-position_by p f n [] = refl
-position_by p f n (x ∷ xs) = ap (cond (p (f x)) (Some n)) (position_by p f (n + 1) xs)
-
--- those by which they are found are their numbers
-pub numbers_of_cells : (places : Places) (gs hs : List Cells) → ((name : Bytes) → place_in places name ≡ position (λ g. bytes_eq name g.name) gs)
-    → gs ≡ hs → HasNumbers places (map (λ c. c.name) hs)
-numbers_of_cells places gs hs placed same = λ name.
-    placed name ∙ position_from-zero (λ g. bytes_eq name g.name) gs ∙ position_by (bytes_eq name) (λ c. c.name) 0 gs
-    ∙ ap (λ cs. position_from (bytes_eq name) 0 (map (λ c. c.name) cs)) same
-    ∙ sym (position_from-zero (bytes_eq name) (map (λ c. c.name) hs))
+pub next_place : {A : Type 0} (xs : List A) (i : ℕ) (x : A) → i < length xs → x ≡ get_or xs i x → take (i + 1) xs ≡ take i xs ++ x ∷ []
+next_place xs i x l is = take_more xs i x l ∙ ap (λ z. take i xs ++ z ∷ []) (sym is)
 
 -- ---- lists that grow
 

@@ -96,7 +96,7 @@ each_plain : (t : BareType) (es : List BareExpr) → All IsPlain (map (λ v. ini
 each_plain t [] = All-nil IsPlain
 each_plain t (x ∷ xs) = All-cons IsPlain (initial t (Some x)) (map (λ v. initial t (Some v)) xs) (initial_plain t (Some x)) (each_plain t xs)
 
-cells_plain : (d : BareDef) → All IsPlain (initial_cells d)
+pub cells_plain : (d : BareDef) → All IsPlain (initial_cells d)
 cells_plain (bare.Global v) = All-cons IsPlain (initial v.declared v.initial) [] (initial_plain v.declared v.initial) (All-nil IsPlain)
 cells_plain (bare.Array type name n values) =
     filled_plain type (elements n) (map (λ v. initial type (Some v)) (unwrap_or values [])) (each_plain type (unwrap_or values []))

@@ -1,12 +1,13 @@
-//! Why a text isn't loaded.
+//! Why texts aren't loaded.
 use std::alloc::{AllocError, AllocFailed};
 
-/// Why a text isn't loaded.
+/// Why texts aren't loaded.
 #[derive(Clone, Copy, Debug, PartialEq, Eq)]
 pub enum LoadFault {
-    /// There was no memory; or a number in the text's code is 2^32 or more, or one of its formats may print more than 2^31 bytes.
+    /// There was no memory; or a number is 2^32 or more, or a format may print more than 2^31 bytes.
     Memory,
-    /// The text isn't accepted: it has no `main`, uses a name that isn't defined as it is used, or is past a limit.
+    /// A text isn't accepted: it has no `main`, uses a name that isn't defined as it is used, or is past a limit; or together the texts
+    /// have more mutexes or more tags than have numbers.
     NotAccepted,
 }
 

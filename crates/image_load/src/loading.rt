@@ -1,148 +1,181 @@
-//! The code of a text, and its first cells.
-ghost use Rattle.std.specs.Prelude.{◌≡◌, IfErr, IfOk, filter_map, length, map};
-ghost use Rattle.c_tree.specs.Bare.{bare_def};
-ghost use Rattle.source_model.specs.Worlds.{cells_at_first};
-ghost use Rattle.resolved_tree.specs.Trees.{table};
-ghost use Rattle.source_programs.specs.Globals.{globals_of};
-ghost use Rattle.c_semantics.specs.Texts.{definition};
-ghost use Rattle.text_code.specs.Bodies.{body_of, code_of_text};
-ghost use Rattle.code_image.specs.Images.{names_of};
+//! The code of the texts of a run, the first cells, and the tables of the texts.
+ghost use Rattle.std.specs.Prelude.{◌≡◌, ◌≤◌, ◌<◌, ◌^◌, IfErr, IfOk, OnOk, length, map};
+ghost use Rattle.name_sets.specs.Limit.{most_names};
+ghost use Rattle.source_programs.specs.Programs.{text_in};
+ghost use Rattle.code_image.specs.Images.{names_in};
 ghost use Rattle.image_load.specs.declared.fault.LoadFault.TheVariants.{Memory};
-ghost use Rattle.image_load.specs.Loaded.{ArePartsOf, HasFirstCells, IsAcceptedAs, IsLoaded};
-ghost use Rattle.image_load.specs.Numbering.{HasNumbers};
+ghost use Rattle.image_load.specs.Loaded.{AreAcceptedAs, AreLoaded, HasFewNames, HasFirstCells};
+ghost use Rattle.image_load.specs.MadeTexts.{AreCompiled, ArePartsOf};
+ghost use Rattle.image_load.specs.Numbering.{AreNumbers, AreTables, texts_of, words_of};
+ghost use Rattle.image_load.specs.TextTables.{AreDataOf};
 
-use crate::cells::rows;
+use crate::bodies::{compiled, outlined};
+use crate::callees::callees_of;
+use crate::cells::first_rows;
 use crate::fault::LoadFault;
-use crate::functions::functions;
 use crate::lengths::longest_print;
-use crate::names::Names;
+use crate::names::Run;
+use crate::numbers::{MOST_NAMES, Numbers, numbers_of};
 use crate::stacks::highest_stack;
-use crate::tables::{function_numbers, mutexes, number, tags};
+use crate::tables::number;
+use crate::text_data::TextData;
+use crate::text_tables::tables_of;
+use crate::texts::{Made, made_of};
 use accepted_code::code_of_texts_is_that_of_their_functions;
 use accepted_stops::accepted_names_are_few;
-use c_definitions::Known;
-use c_tree::Def;
-use code_image::{CodeFunction, CodeImage};
+use c_types::Typed;
+use code_image::CodeImage;
 use resolved_tree::Trees;
-use source_programs::{Globals, Places, first_globals};
+use source_programs::first_globals;
 use std::alloc::Global;
-use text_code::{Body, compile};
+use text_code::Body;
 
-/// So many mutexes at most have a number.
-const MOST_MUTEXES: usize = 2048;
+/// So many globals and arrays have numbers of 32 bits.
+const MOST_CELLS: usize = 0x1_0000_0000;
 
-/// A text that was loaded.
+/// The texts of a run that were loaded.
 #[derive(Drop)]
 pub struct LoadedCode {
     pub image: CodeImage,
-    /// The words of the first cells of each global and array, in the text's order.
+    /// The words of the first cells of the first text, by the numbers of the names of globals and arrays.
     pub cells: Vec<Vec<u64>>,
+    /// The tables of each text.
+    pub texts: Vec<TextData>,
 }
 
-/// The code of an accepted text, and the words of its first cells. Of such a text the fault is lack of memory. One that isn't accepted
-/// may be loaded, too; else the fault says that it isn't. It takes time n log n in the text and in its cells.
-pub fn load(alloc: Global, text: &[Def]) -> Result<LoadedCode, LoadFault>
-    ensures image { IfOk result (λ l. IsLoaded (map bare_def text.now) l.image) }
-    ensures rows { IfOk result (λ l. length l.cells.items ≡ length (names_of (map bare_def text.now)).cells) }
-    ensures cells { IfOk result (λ l. HasFirstCells (map bare_def text.now) (map (λ v. v.items) l.cells.items)) }
-    ensures fault { IfErr result (λ fault. IsAcceptedAs (map bare_def text.now) → fault ≡ Memory) }
+/// The code of the texts that a run may have, the words of the first cells of the first one, and the tables of each text by the numbers of
+/// the names of all of them. Of accepted texts whose mutexes and tags all have numbers the fault is lack of memory. Texts that aren't
+/// accepted may be loaded, too; else the fault says that they aren't. It takes time n log n in the texts and in their cells, and linear in
+/// the product of their number and that of their names.
+pub fn load(alloc: Global, texts: &[Typed]) -> Result<LoadedCode, LoadFault>
+    requires { 0 < length texts.now }
+    ensures image { IfOk result (λ l. AreLoaded (map text_in texts.now) l.image) }
+    ensures rows { IfOk result (λ l. length l.cells.items ≡ length (names_in (map text_in texts.now)).cells) }
+    ensures cells { IfOk result (λ l. HasFirstCells (map text_in texts.now) (map (λ v. v.items) l.cells.items)) }
+    ensures tables { IfOk result (λ l. AreDataOf (map text_in texts.now) l.texts.items) }
+    ensures fault { let texts = map text_in texts.now in IfErr result (λ fault. AreAcceptedAs texts → HasFewNames texts → fault ≡ Memory) }
 {
-    let globals = first_globals(alloc, text)?;
-    under_globals(alloc, text, &globals)
+    let numbers = numbers_of(alloc, texts)?;
+    under_numbers(alloc, texts, &numbers)
 }
 
-/// The same, where the globals and arrays are known.
-fn under_globals(alloc: Global, text: &[Def], globals: &Globals) -> Result<LoadedCode, LoadFault>
-    requires { globals_of globals.now.list.items ≡ filter_map cells_at_first (map bare_def text.now) }
-    ensures image { IfOk result (λ l. IsLoaded (map bare_def text.now) l.image) }
-    ensures rows { IfOk result (λ l. length l.cells.items ≡ length (names_of (map bare_def text.now)).cells) }
-    ensures cells { IfOk result (λ l. HasFirstCells (map bare_def text.now) (map (λ v. v.items) l.cells.items)) }
-    ensures fault { IfErr result (λ fault. IsAcceptedAs (map bare_def text.now) → fault ≡ Memory) }
+/// The same, where names have numbers.
+fn under_numbers(alloc: Global, texts: &[Typed], numbers: &Numbers) -> Result<LoadedCode, LoadFault>
+    requires some { 0 < length texts.now }
+    requires numbers { AreTables (names_in (map text_in texts.now)) numbers.now }
+    ensures image { IfOk result (λ l. AreLoaded (map text_in texts.now) l.image) }
+    ensures rows { IfOk result (λ l. length l.cells.items ≡ length (names_in (map text_in texts.now)).cells) }
+    ensures cells { IfOk result (λ l. HasFirstCells (map text_in texts.now) (map (λ v. v.items) l.cells.items)) }
+    ensures tables { IfOk result (λ l. AreDataOf (map text_in texts.now) l.texts.items) }
+    ensures fault { let texts = map text_in texts.now in IfErr result (λ fault. AreAcceptedAs texts → HasFewNames texts → fault ≡ Memory) }
 {
-    let cells = rows(alloc, globals.list.as_slice())?;
-    let image = known_image(alloc, text, &globals.places)?;
-    Ok(LoadedCode { image, cells })
+    few_names(numbers)?;
+    let cells = first_cells(alloc, texts, numbers)?;
+    let tables = tables_of(alloc, numbers, texts)?;
+    let image = image(alloc, texts, numbers)?;
+    Ok(LoadedCode {
+        image,
+        cells,
+        texts: tables,
+    })
 }
 
-/// The code of a text, whose globals and arrays have numbers.
-fn known_image(alloc: Global, text: &[Def], cells: &Places) -> Result<CodeImage, LoadFault>
-    requires { HasNumbers cells.now (names_of (map bare_def text.now)).cells }
-    ensures image { IfOk result (IsLoaded (map bare_def text.now)) }
-    ensures fault { IfErr result (λ fault. IsAcceptedAs (map bare_def text.now) → fault ≡ Memory) }
+/// All names have numbers; else a fault.
+fn few_names(numbers: &Numbers) -> Result<(), LoadFault>
+    ensures mutexes { OnOk result (length numbers.now.mutexes.names.items ≤ most_names) }
+    ensures tags { OnOk result (length numbers.now.tags.names.items ≤ most_names) }
+    ensures cells { OnOk result (length numbers.now.cells.names.items ≤ 2 ^ 32) }
+    ensures fault { IfErr result (λ fault. length numbers.now.mutexes.names.items ≤ most_names
+        → length numbers.now.tags.names.items ≤ most_names → fault ≡ Memory) }
 {
-    let known = Known::of(alloc, text)?;
-    image(alloc, &known, cells)
+    if numbers.mutexes.names.len() > MOST_NAMES || numbers.tags.names.len() > MOST_NAMES {
+        return Err(LoadFault::NotAccepted);
+    }
+    if numbers.cells.names.len() > MOST_CELLS {
+        return Err(LoadFault::Memory);
+    }
+    Ok(())
 }
 
-/// The same, where the text's definitions are known.
-fn image(alloc: Global, known: &Known, cells: &Places) -> Result<CodeImage, LoadFault>
-    requires { HasNumbers cells.now (names_of (map bare_def known.now)).cells }
-    ensures image { IfOk result (IsLoaded (map bare_def known.now)) }
-    ensures fault { IfErr result (λ fault. IsAcceptedAs (map bare_def known.now) → fault ≡ Memory) }
+/// The words of the first cells of the first text.
+fn first_cells(
+    alloc: Global,
+    texts: &[Typed],
+    numbers: &Numbers,
+) -> Result<Vec<Vec<u64>>, LoadFault>
+    requires some { 0 < length texts.now }
+    requires numbers { AreTables (names_in (map text_in texts.now)) numbers.now }
+    ensures rows { IfOk result (λ rows. length rows.items ≡ length (names_in (map text_in texts.now)).cells) }
+    ensures cells { IfOk result (λ rows. HasFirstCells (map text_in texts.now) (map (λ v. v.items) rows.items)) }
+    ensures fault { IfErr result (λ fault. fault ≡ Memory) }
+{
+    let program = texts[0].program();
+    let globals = first_globals(alloc, program.definitions.as_slice())?;
+    first_rows(alloc, numbers.cells.names.as_slice(), &globals)
+}
+
+/// The code of the texts.
+fn image(alloc: Global, texts: &[Typed], numbers: &Numbers) -> Result<CodeImage, LoadFault>
+    requires some { 0 < length texts.now }
+    requires numbers { AreTables (names_in (map text_in texts.now)) numbers.now }
+    requires mutexes { length numbers.now.mutexes.names.items ≤ most_names }
+    requires tags { length numbers.now.tags.names.items ≤ most_names }
+    ensures image { IfOk result (AreLoaded (map text_in texts.now)) }
+    ensures fault { IfErr result (λ fault. AreAcceptedAs (map text_in texts.now) → fault ≡ Memory) }
 {
     code_of_texts_is_that_of_their_functions();
     let mut trees = Trees::new(alloc);
-    let bodies = compile(alloc, &mut trees, known.definitions())?;
-    let parts = parts_of(alloc, known, cells, &trees, bodies.as_slice())?;
+    let outlines = outlined(alloc, &mut trees, texts)?;
+    let bodies = compiled(alloc, &trees, texts, outlines.as_slice())?;
+    let callees = callees_of(alloc, &trees, bodies.as_slice())?;
+    let run = Run {
+        texts,
+        trees: &trees,
+        callees: callees.words.as_slice(),
+        cells: &numbers.cells.places,
+        mutexes: &numbers.mutexes.places,
+        tags: &numbers.tags.places,
+        functions: &callees.numbers.places,
+    };
+    let parts = parts_of(alloc, &run, bodies.as_slice())?;
     Ok(CodeImage {
         trees,
-        functions: parts.functions,
+        functions: parts.made.functions,
+        callees: callees.words,
+        bodies: parts.made.bodies,
         main: parts.main,
-        mutexes: parts.mutexes,
+        mutexes: numbers.mutexes.names.len(),
         longest_print: parts.longest_print,
         highest_stack: parts.highest_stack,
     })
 }
 
-/// What an image is made of, but for its trees.
+/// What an image is made of, but for its names.
 #[derive(Drop)]
 pub(crate) struct Parts {
-    pub functions: Vec<CodeFunction>,
+    pub made: Made,
     pub main: u32,
-    pub mutexes: usize,
     pub longest_print: usize,
     pub highest_stack: usize,
 }
 
-/// The functions of a text with these bodies, the number of `main`, how many mutexes there are, how many bytes a stop prints at
-/// most, and the height of the highest stack.
-fn parts_of(
-    alloc: Global,
-    known: &Known,
-    cells: &Places,
-    trees: &Trees,
-    bodies: &[Body],
-) -> Result<Parts, LoadFault>
-    requires { HasNumbers cells.now (names_of (map bare_def known.now)).cells }
-    ensures parts { IfOk result (ArePartsOf (map bare_def known.now) (table trees.now) bodies.now) }
-    ensures fault { let text = map bare_def known.now in IfErr result (λ fault. IsAcceptedAs text
-        → map (body_of (table trees.now)) bodies.now ≡ code_of_text (definition text) text → fault ≡ Memory) }
+/// The functions of texts with these bodies, the number of the name `main`, how many bytes a stop prints at most, and the height of the
+/// highest stack.
+fn parts_of(alloc: Global, run: &Run, bodies: &[Vec<Body>]) -> Result<Parts, LoadFault>
+    requires some { 0 < length run.now.texts.now }
+    requires numbers { AreNumbers run.now }
+    requires bodies { AreCompiled (words_of run.now) (texts_of run.now) (map (λ v. v.items) bodies.now) }
+    ensures parts { IfOk result (ArePartsOf run.now) }
+    ensures fault { IfErr result (λ fault. AreAcceptedAs (texts_of run.now) → fault ≡ Memory) }
 {
     accepted_names_are_few();
-    code_of_texts_is_that_of_their_functions();
-    let mutexes = mutexes(alloc, known.definitions())?;
-    if mutexes.count > MOST_MUTEXES {
-        return Err(LoadFault::NotAccepted);
-    }
-    let tags = tags(alloc, known.definitions())?;
-    let numbers = function_numbers(alloc, trees, bodies)?;
-    let main = number(&numbers.places, "main")?;
-    let names = Names {
-        known,
-        trees,
-        bodies,
-        cells,
-        mutexes: &mutexes.places,
-        tags: &tags.places,
-        functions: &numbers.places,
-    };
-    let made = functions(alloc, &names)?;
-    let longest_print = longest_print(trees, made.as_slice())?;
-    let highest_stack = highest_stack(made.as_slice());
+    let main = number(run.functions, "main")?;
+    let made = made_of(alloc, run, bodies)?;
+    let longest_print = longest_print(run.trees, made.functions.as_slice())?;
+    let highest_stack = highest_stack(made.functions.as_slice());
     Ok(Parts {
-        functions: made,
+        made,
         main,
-        mutexes: mutexes.count,
         longest_print,
         highest_stack,
     })

@@ -4,12 +4,13 @@ use std::alloc::Global;
 use std::test::Fail;
 use word_data::SharedStop;
 
-/// A line for each function, and one for each of its stops: the place, what is done with its number, and where it goes on.
+/// A line for each function, with the number of its text, and one for each of its stops: the place, what is done with its number, and where it goes on.
 pub(crate) fn acts_of(alloc: Global, image: &CodeImage) -> Result<String, Fail> {
     let mut shown = String::new(alloc);
     for function in image.functions.as_slice() {
         let name = image.word(function.name);
-        write!(shown, "{name}\n")?;
+        let text = function.text;
+        write!(shown, "{name} {text}\n")?;
         add_stops(&mut shown, function)?;
     }
     Ok(shown)

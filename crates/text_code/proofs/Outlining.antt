@@ -14,8 +14,10 @@ use Rattle.resolved_tree.specs.Nodes.{Table}
 use Rattle.expr_gen.specs.declared.context.Variable.{Variable}
 use Rattle.expr_gen.specs.Scope.{binding_of, variables_of}
 use Rattle.name_resolution.specs.Known.{known_of}
+use Rattle.name_resolution.specs.Found.{Grows}
 use Rattle.text_code.specs.declared.body.Body.{Body}
-use Rattle.text_code.specs.Bodies.{ResolvedFunction, CodedFunction, body_of, code_of_text}
+use Rattle.text_code.specs.declared.outline.Outline.{Outline}
+use Rattle.text_code.specs.Bodies.{ResolvedFunction, CodedFunction, body_of, code_of_text, coded, outlined, outlines_of}
 use Rattle.tree_code.specs.Code.{Code}
 
 -- a function's parts, one by one
@@ -68,10 +70,25 @@ given_none f h g xs more ys i y e l is before here =
     ap (map f) e ∙ before ∙ sym (append-nil (filter_map h (map g (take i ys))))
     ∙ ap (λ o. filter_map h (map g (take i ys)) ++ cons_option o []) here ∙ sym (more_given h g ys i y l is)
 
--- the code by the definitions that are known, which are the text's own
-pub coded_by_text : {E : Type 0} (t : Table) (known text : List Def) (r : Result (Vec Body Global) E) → known ≡ text
-    → IfOk r (λ bodies. map (body_of t) bodies.items ≡ code_of_text (known_of known) (map bare_def text))
-    → IfOk r (λ bodies. map (body_of t) bodies.items ≡ code_of_text (known_of text) (map bare_def text))
-coded_by_text t known text r same h =
-    let P : List Def → Type 0 = λ k. IfOk r (λ bodies. map (body_of t) bodies.items ≡ code_of_text (known_of k) (map bare_def text)) in
+-- the functions by the definitions that are known, which are the text's own
+pub outlined_by_text : {E : Type 0} (now : Table) (known text : List Def) (r : Result (Vec Outline Global) E) → known ≡ text
+    → IfOk r (λ made. (u : Table) → Grows now u → map (outlined u) made.items ≡ outlines_of (known_of known) (map bare_def text))
+    → IfOk r (λ made. (u : Table) → Grows now u → map (outlined u) made.items ≡ outlines_of (known_of text) (map bare_def text))
+outlined_by_text now known text r same h =
+    let P : List Def → Type 0 = λ k. IfOk r (λ made.
+    (u : Table) → Grows now u → map (outlined u) made.items ≡ outlines_of (known_of k) (map bare_def text)) in
     subst P same h
+
+-- their code
+pub coded_by_text : {E : Type 0} (t : Table) (known text : List Def) (outlines : List Outline) (r : Result (Vec Body Global) E) → known ≡ text
+    → IfOk r (λ bodies. map (body_of t) bodies.items ≡ map (coded (known_of known)) (map (outlined t) outlines))
+    → IfOk r (λ bodies. map (outlined t) outlines ≡ outlines_of (known_of text) (map bare_def text)
+    → map (body_of t) bodies.items ≡ code_of_text (known_of text) (map bare_def text))
+coded_by_text t known text outlines (Ok bodies) same h = λ e.
+    h ∙ ap (λ (k : List Def). map (coded (known_of k)) (map (outlined t) outlines)) same ∙ ap (map (coded (known_of text))) e
+coded_by_text t known text outlines (Err e) same h = h
+
+-- what holds where something does that holds
+pub where_it_holds : {A E : Type 0} (r : Result A E) (P : Type 0) (Q : A → Type 0) → IfOk r (λ x. P → Q x) → P → IfOk r Q
+where_it_holds (Ok x) P Q h p = h p
+where_it_holds (Err e) P Q h p = h

@@ -19,7 +19,7 @@ use std::alloc::{AllocError, Global};
 
 /// A function whose body is in the table of trees.
 #[derive(Drop)]
-pub(crate) struct Outline {
+pub struct Outline {
     pub name: Word,
     /// The parameters, the last one first, as a frame numbers them.
     pub parameters: Vec<Variable>,

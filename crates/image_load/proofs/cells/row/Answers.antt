@@ -5,7 +5,7 @@ use Rattle.local_evaluation.specs.Values.{seen}
 use Rattle.bytecode.specs.Words.{word_of}
 use Rattle.image_load.specs.FirstCells.{IsPlain}
 use Rattle.image_load.proofs.NameNumbers.{listed_read}
-use Rattle.image_load.proofs.Whole.{of_images}
+use Rattle.image_load.proofs.Lists.{of_images}
 use Rattle.image_load.proofs.cells.row.Goals as goal
 
 pub loop-place-preserved : goal.loop-place-preserved
