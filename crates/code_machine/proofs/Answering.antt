@@ -1,5 +1,5 @@
 -- A word comes in place of the newest one, and the thread goes on.
-use Rattle.std.proofs.Common.{◌≡◌, ℕ, zero, suc, ◌+◌, ◌-◌, ◌<◌, ◌≤◌, List, [], ◌∷◌, length, drop, sym, subst, ap, ◌∙◌, arith}
+use Rattle.std.proofs.Common.{◌≡◌, ℕ, zero, suc, ◌+◌, ◌-◌, ◌<◌, ◌≤◌, List, ◌∷◌, length, drop, sym, subst, ap, ◌∙◌, arith}
 use Rattle.std.specs.Prelude.{slice_index, slice_set}
 use Rattle.std.proofs.lemmas.List.{get_or-set_other}
 use Rattle.c_tree.specs.BareDef.{BareDef}
@@ -31,15 +31,15 @@ newest_first ws base zero some = absurd (omega arith)
 newest_first ws base (suc k) some =
     let at : base + k ≡ base + (suc k - 1) = omega arith in ap (λ (i : ℕ). slice_index ws i ∷ downward ws base k) at
 
-pub answered : (text : List BareDef) (image : CodeImage) (r : Running) (mid : Frames) (new : Running) (x : StopPlace) (word at height : ℕ)
-    → RestsAt image.functions.items r x → 1 ≤ (innermost r.frames).height → mid.highest_stack ≡ r.frames.highest_stack → mid.frames.items ≡ r.frames.frames.items
+pub answered : (texts : List (List BareDef)) (image : CodeImage) (r : Running) (mid : Frames) (new : Running) (x : StopPlace) (word at height : ℕ)
+    → RestsAt image.functions.items (length image.callees.items) r x → 1 ≤ (innermost r.frames).height → mid.highest_stack ≡ r.frames.highest_stack → mid.frames.items ≡ r.frames.frames.items
     → mid.words.items ≡ slice_set r.frames.words.items at word → at ≡ stack_base r.frames + ((innermost r.frames).height - 1) → height ≡ (innermost r.frames).height
-    → WentOn text image (record r { frames = mid }) new x.point x.after height → Answered text image r new x word
-answered text image r mid new x word at height rests high wide same changed there grown w =
+    → WentOn texts image (record r { frames = mid }) new x.point x.after height → Answered texts image r new x word
+answered texts image r mid new x word at height rests high wide same changed there grown w =
     let t = words_of image in
     let ws = r.frames.words.items in
     let h = (innermost r.frames).height in
-    let stood : Stood image.functions.items r.frames RestsThere = stood_there image.functions.items r x rests in
+    let stood : Stood image.functions.items r.frames RestsThere = stood_there image.functions.items (length image.callees.items) r x rests in
     let kept : IsKept r.frames = rests.fits.kept in
     let low_enough : (innermost r.frames).height ≤ r.frames.highest_stack = kept.low (depth_of r.frames - 1) (omega (arith, stood.some)) in
     let inside : stack_base r.frames + (innermost r.frames).height < length r.frames.words.items =
@@ -56,9 +56,9 @@ answered text image r mid new x word at height rests high wide same changed ther
     ap (λ (b : ℕ). downward mid.words.items b height) base
     ∙ ap (λ (xs : List ℕ). downward xs (stack_base r.frames) height) changed
     ∙ left ws (stack_base r.frames) h 1 word at height high inside there tall in
-    let g : GoesOn (text ∷ []) (with_stack st c.frame) x.after (word ∷ drop 1 (downward r.frames.words.items (stack_base r.frames) (innermost r.frames).height)) x.point w.next =
-    subst (λ (ys : List ℕ). GoesOn (text ∷ []) (with_stack st c.frame) x.after ys x.point w.next) stack
-    (subst (λ (f : CodeFrame). GoesOn (text ∷ []) f x.after (stack_of mid height) x.point w.next) head w.goes) in
+    let g : GoesOn texts (with_stack st c.frame) x.after (word ∷ drop 1 (downward r.frames.words.items (stack_base r.frames) (innermost r.frames).height)) x.point w.next =
+    subst (λ (ys : List ℕ). GoesOn texts (with_stack st c.frame) x.after ys x.point w.next) stack
+    (subst (λ (f : CodeFrame). GoesOn texts f x.after (stack_of mid height) x.point w.next) head w.goes) in
     record {
       frame = c.frame;
       next = w.next;

@@ -1,11 +1,12 @@
 -- What a machine's slot has of the thread in it.
-use Rattle.std.proofs.Common.{◌≡◌, ℕ, zero, suc, ◌-◌, ◌<◌, ◌≤◌, true, false, List, [], ◌∷◌, map, length, drop, inl, inr, option_map, slice_get, Option, Some, None, All, refl, sym, ap, subst, ◌∙◌, arith}
+use Rattle.std.proofs.Common.{◌≡◌, ℕ, zero, suc, ◌-◌, ◌<◌, ◌≤◌, true, false, List, [], ◌∷◌, map, length, drop, inl, inr, option_map, slice_get, Option, Some, None, refl, sym, ap, subst, ◌∙◌, arith}
 use Rattle.std.specs.Prelude.{MatchOption, slice_index_or, unwrap_or}
 use Rattle.std.specs.Option.{option_flatten}
-use Rattle.std.proofs.lemmas.List.Elements.{All-get_or}
-use Rattle.std.proofs.lemmas.Option.{get_or_from_slice_get, slice_get-map, slice_get_within}
+use Rattle.std.proofs.lemmas.Option.{get_or_from_slice_get, slice_get-map}
 use Rattle.run_types.specs.declared.trap.TrapKind.{TrapKind}
 use Rattle.c_tree.specs.BareDef.{BareDef}
+use Rattle.version_laws.specs.Histories.{text_in}
+use Rattle.resolved_tree.specs.declared.words.Word.{Word}
 use Rattle.resolved_tree.specs.Nodes.{Table, word}
 use Rattle.local_evaluation.specs.Pieces.{stop_of}
 use Rattle.bytecode.specs.Meaning.{Traps, step}
@@ -24,16 +25,17 @@ use Rattle.word_frames.proofs.FrameLists.{innermost_first}
 use Rattle.code_image.specs.declared.act.StopPlace.{StopPlace}
 use Rattle.code_image.specs.declared.function.CodeFunction.{CodeFunction}
 use Rattle.code_image.specs.declared.image.CodeImage.{CodeImage}
-use Rattle.code_image.specs.Acts.{IsStopPlace}
-use Rattle.code_image.specs.Images.{IsFunctionOf, IsImage, names_of}
+use Rattle.code_image.specs.Acts.{Acts, IsStopPlace, named}
+use Rattle.code_image.specs.Images.{IsFunctionOf, names_in}
 use Rattle.code_machine.specs.declared.running.Next.{Next}
 use Rattle.code_machine.specs.declared.running.Next.TheVariants.{Enters, Stands}
 use Rattle.code_machine.specs.declared.running.Running.{Running}
-use Rattle.code_machine.specs.Kept.{Fits, Stood, end_of}
+use Rattle.code_machine.specs.Kept.{FitsImage, IsFrame, Stood, end_of}
 use Rattle.code_machine.specs.Queries.{HasNoStop, IsNextStop, RestsIn, entered_by, entering_in, frames_by, frames_in, in_transaction, is_live}
 use Rattle.code_machine.specs.Seen.{enter_of, no_frame, thread_by, thread_of, words_of}
+use Rattle.code_machine.specs.Versions.{RunsCode, texts_by}
 use Rattle.code_machine.proofs.Fitting.{traps_is}
-use Rattle.code_machine.proofs.Going.{code_is}
+use Rattle.code_machine.proofs.Going.{code_is, function_of, own_text}
 
 -- ---- what is in a slot
 
@@ -69,8 +71,8 @@ no_transaction seen.Free e = refl
 no_transaction (seen.Live th) e = cc
 no_transaction (seen.Over serial w) e = refl
 
-pub rests_nowhere : (text : List BareDef) (w : CodeWorld) (slot : ℕ) → is_live (in_slot w slot) ≡ false → HasNoStop text w slot
-rests_nowhere text w slot e f h = absurd (no (sym (ap is_live h.lives) ∙ e))
+pub rests_nowhere : (texts : List (List BareDef)) (w : CodeWorld) (slot : ℕ) → is_live (in_slot w slot) ≡ false → HasNoStop texts w slot
+rests_nowhere texts w slot e f h = absurd (no (sym (ap is_live h.lives) ∙ e))
   where
     no : true ≡ false → ⊥
     no e = cc
@@ -102,11 +104,6 @@ module _ (t : Table) (highest : ℕ) (words : List ℕ) (all : List Frame) where
 
 -- ---- the innermost frame
 
-at_function : (P : CodeFunction → Type 0) (functions : List CodeFunction) (n : ℕ) (g : CodeFunction) → All P functions
-    → slice_get functions n ≡ Some g → P g
-at_function P functions n g all e =
-    subst P (get_or_from_slice_get functions n g g e) (All-get_or P functions n g (slice_get_within functions n g e) all)
-
 found : (o : Option (Option StopPlace)) (x : StopPlace) → option_flatten o ≡ Some x → o ≡ Some (Some x)
 found None x e = cc
 found (Some None) x e = cc
@@ -121,16 +118,18 @@ depth_is image r = by r.next
     by (Enters n count) = refl
     by (Stands end) = refl
 
-pub enters_name : (image : CodeImage) (r : Running) (n count : ℕ) (g : CodeFunction) → r.next ≡ Enters n count
-    → slice_get image.functions.items n ≡ Some g → Some (word (words_of image) g.name) ≡ entered_by (thread_of image r).next
-enters_name image r n count g is there =
-    sym (ap (λ x. entered_by (thread_by image r x).next) is
-    ∙ ap (λ o. Some (unwrap_or (option_map (λ (f : CodeFunction). word (words_of image) f.name) o) [])) there)
+pub enters_name : (image : CodeImage) (r : Running) (n count : ℕ) → FitsImage image r → r.next ≡ Enters n count
+    → option_map (word (words_of image)) (slice_get image.callees.items n) ≡ entered_by (thread_of image r).next
+enters_name image r n count fits is =
+    let name : (w : Word) × (slice_get image.callees.items n ≡ Some w) = some_at image.callees.items n (fits.due n count is).inside in
+    ap (option_map (word (words_of image))) name.1
+    ∙ sym (ap (λ x. entered_by (thread_by image r x).next) is
+    ∙ ap (λ (o : Option Word). Some (unwrap_or (option_map (word (words_of image)) o) [])) name.1)
 
 pub stands_none : (image : CodeImage) (r : Running) (end : End) → r.next ≡ Stands end → entered_by (thread_of image r).next ≡ None
 stands_none image r end is = ap (λ x. entered_by (thread_by image r x).next) is
 
-module _ (image : CodeImage) (r : Running) (fits : Fits image.functions.items r) where
+module _ (image : CodeImage) (r : Running) (fits : FitsImage image r) where
   abbrev t : Table
   t = words_of image
 
@@ -170,18 +169,23 @@ module _ (image : CodeImage) (r : Running) (fits : Fits image.functions.items r)
     pub rests : (thread_of image r).next ≡ seen.Rests last
     rests = ap (λ x. (thread_by image r x).next) stands ∙ ap (λ fs. seen.Rests (slice_index_or fs 0 no_frame)) all_are
 
-    module _ (text : List BareDef) (is : IsImage text image) (g : CodeFunction) (there : slice_get image.functions.items (innermost r.frames).unit ≡ Some g) where
-      pub function : IsFunctionOf t text image.functions.items g
-      function =
-          at_function (IsFunctionOf t text image.functions.items) image.functions.items (innermost r.frames).unit g is.functions there
+    here : IsFrame image.functions.items (innermost r.frames)
+    here = let some = some_frame in fits.frames (depth_of r.frames - 1) (omega (arith, some))
 
-      pub same_code : frame_code (text ∷ []) last ≡ code_of t g.verified.body.code.items
-      same_code =
-          let last_one : depth_of r.frames - 1 < depth_of r.frames = let some = some_frame in omega (arith, some) in
-          code_is text image r.frames g last under is some_frame (fits.frames (depth_of r.frames - 1) last_one) there all_are
+    module _ (all : List (List BareDef)) (versions : List ℕ) (runs : RunsCode all versions image r) (g : CodeFunction)
+        (there : slice_get image.functions.items (innermost r.frames).unit ≡ Some g) where
+      pub function : IsFunctionOf t all image.callees.items g
+      function = function_of all versions image r g last under runs some_frame there all_are
+
+      pub same_text : text_in (texts_by all versions) last.version ≡ function.text
+      unfolding function
+      same_text = own_text all versions image r g last under runs some_frame there all_are
+
+      pub same_code : frame_code (texts_by all versions) last ≡ code_of t g.verified.body.code.items
+      same_code = code_is all versions image r g last under runs some_frame there all_are here
 
       -- how its private instructions ended
-      pub ended : end_of (step (frame_code (text ∷ []) last) last.state) ≡ Some end
+      pub ended : end_of (step (frame_code (texts_by all versions) last) last.state) ≡ Some end
       ended = subst (λ code. end_of (step code last.state) ≡ Some end) (sym same_code) (stood.ends t g last under there all_are)
 
   -- ---- where it rests
@@ -207,7 +211,7 @@ module _ (image : CodeImage) (r : Running) (fits : Fits image.functions.items r)
     -- it rests nowhere where it enters
     pub never_enters : (n count : ℕ) → r.next ≡ Enters n count → (f : CodeFrame) → RestsIn w slot f → ⊥
     never_enters n count enters f h =
-        enters_not (enter_of image r.frames n count) f (sym (ap (λ x. (thread_by image r x).next) enters) ∙ next_of_it f h)
+        enters_not (enter_of image r n count) f (sym (ap (λ x. (thread_by image r x).next) enters) ∙ next_of_it f h)
 
     -- the stack of the frame that rests
     pub stack_is : (f : CodeFrame) → RestsIn w slot f → (0 < depth_of r.frames) × (f.state.stack ≡ stack_of r.frames (innermost r.frames).height)
@@ -217,55 +221,59 @@ module _ (image : CodeImage) (r : Running) (fits : Fits image.functions.items r)
         by (Enters n count) is = absurd (never_enters n count is f h)
         by (Stands end) is = (some_frame end is, ap (λ (g : CodeFrame). g.state.stack) (sym (last_is end is f h)))
 
-    module _ (text : List BareDef) (is : IsImage text image) (g : CodeFunction)
-        (there : slice_get image.functions.items (innermost r.frames).unit ≡ Some g) where
-      -- a stop is there
-      pub next_stop_is : r.next ≡ Stands RestsThere → (x : StopPlace)
-          → option_flatten (slice_get g.stops.items (innermost r.frames).place) ≡ Some x → IsNextStop text image w slot x
-      next_stop_is stands x e =
-          let at : IsStopPlace t (names_of text) text image.functions.items (code_of t g.verified.body.code.items) (innermost r.frames).place x =
-          (function RestsThere stands text is g there).stops (innermost r.frames).place x
-          (found (slice_get g.stops.items (innermost r.frames).place) x e) in
-          record {
-            frame = last RestsThere stands;
-            rests = record { thread = thread_of image r; lives = lives; next = rests RestsThere stands };
-            stops =
-                subst (λ code. Stops code (stop_of t x.stop) x.point (innermost r.frames).place x.after)
-                (sym (same_code RestsThere stands text is g there)) at.stops;
-            acts = at.acts;
-          }
+    module _ (all : List (List BareDef)) (versions : List ℕ) (runs : RunsCode all versions image r) where
+      abbrev texts : List (List BareDef)
+      texts = texts_by all versions
 
-      -- none is
-      pub none_there : r.next ≡ Stands RestsThere → option_flatten (slice_get g.stops.items (innermost r.frames).place) ≡ None
-          → HasNoStop text w slot
-      none_there stands e f h =
-          inr (λ s n after stops.
-          (function RestsThere stands text is g there).others (innermost r.frames).place s n after e
-          (subst (λ code. Stops code s n (innermost r.frames).place after) (same_code RestsThere stands text is g there)
-          (subst (λ y. Stops (frame_code (text ∷ []) y) s n y.state.place after) (sym (last_is RestsThere stands f h)) stops)))
+      module _ (g : CodeFunction) (there : slice_get image.functions.items (innermost r.frames).unit ≡ Some g) where
+        -- a stop is there
+        pub next_stop_is : r.next ≡ Stands RestsThere → (x : StopPlace)
+            → option_flatten (slice_get g.stops.items (innermost r.frames).place) ≡ Some x → IsNextStop texts (names_in all) image w slot x
+        next_stop_is stands x e =
+            let own = function RestsThere stands all versions runs g there in
+            let at : IsStopPlace t (names_in all) own.text image.callees.items (code_of t g.verified.body.code.items) (innermost r.frames).place x =
+            own.stops (innermost r.frames).place x (found (slice_get g.stops.items (innermost r.frames).place) x e) in
+            record {
+              frame = last RestsThere stands;
+              rests = record { thread = thread_of image r; lives = lives; next = rests RestsThere stands };
+              stops =
+                  subst (λ code. Stops code (stop_of t x.stop) x.point (innermost r.frames).place x.after)
+                  (sym (same_code RestsThere stands all versions runs g there)) at.stops;
+              acts =
+                  subst (λ (text : List BareDef). Acts t (names_in all) text (named t image.callees.items) (stop_of t x.stop) x.act)
+                  (sym (same_text RestsThere stands all versions runs g there)) at.acts;
+            }
 
-      pub stop_or_none : r.next ≡ Stands RestsThere → (o : Option StopPlace) → o ≡ option_flatten (slice_get g.stops.items (innermost r.frames).place)
-          → MatchOption o (HasNoStop text w slot) (IsNextStop text image w slot)
-      stop_or_none stands None e = none_there stands (sym e)
-      stop_or_none stands (Some x) e = next_stop_is stands x (sym e)
+        -- none is
+        pub none_there : r.next ≡ Stands RestsThere → option_flatten (slice_get g.stops.items (innermost r.frames).place) ≡ None
+            → HasNoStop texts w slot
+        none_there stands e f h =
+            inr (λ s n after stops.
+            (function RestsThere stands all versions runs g there).others (innermost r.frames).place s n after e
+            (subst (λ code. Stops code s n (innermost r.frames).place after) (same_code RestsThere stands all versions runs g there)
+            (subst (λ y. Stops (frame_code texts y) s n y.state.place after) (sym (last_is RestsThere stands f h)) stops)))
 
-      -- an operator traps
-      pub traps_there : (kind : TrapKind) → r.next ≡ Stands (TrapsThere kind) → HasNoStop text w slot
-      traps_there kind stands f h =
-          inl (
-            kind,
-            subst (λ y. step (frame_code (text ∷ []) y) y.state ≡ Traps kind) (last_is (TrapsThere kind) stands f h)
-                (traps_is (step (frame_code (text ∷ []) (last (TrapsThere kind) stands)) (last (TrapsThere kind) stands).state) kind (ended (TrapsThere kind) stands text is g there)),
-          )
+        pub stop_or_none : r.next ≡ Stands RestsThere → (o : Option StopPlace) → o ≡ option_flatten (slice_get g.stops.items (innermost r.frames).place)
+            → MatchOption o (HasNoStop texts w slot) (IsNextStop texts (names_in all) image w slot)
+        stop_or_none stands None e = none_there stands (sym e)
+        stop_or_none stands (Some x) e = next_stop_is stands x (sym e)
 
-    -- the same, of a function that is there
-    pub none_traps : (kind : TrapKind) → r.next ≡ Stands (TrapsThere kind) → (text : List BareDef) → IsImage text image → HasNoStop text w slot
-    none_traps kind stands text is =
-        let some = some_frame (TrapsThere kind) stands in
-        let last_one : depth_of r.frames - 1 < depth_of r.frames = omega (arith, some) in
-        let own = fits.frames (depth_of r.frames - 1) last_one in
-        let g = some_at image.functions.items (innermost r.frames).unit own.inside in traps_there text is g.0 g.1 kind stands
+        -- an operator traps
+        pub traps_there : (kind : TrapKind) → r.next ≡ Stands (TrapsThere kind) → HasNoStop texts w slot
+        traps_there kind stands f h =
+            inl (
+              kind,
+              subst (λ y. step (frame_code texts y) y.state ≡ Traps kind) (last_is (TrapsThere kind) stands f h)
+                  (traps_is (step (frame_code texts (last (TrapsThere kind) stands)) (last (TrapsThere kind) stands).state) kind
+                  (ended (TrapsThere kind) stands all versions runs g there)),
+            )
+
+      -- the same, of a function that is there
+      pub none_traps : (kind : TrapKind) → r.next ≡ Stands (TrapsThere kind) → HasNoStop texts w slot
+      none_traps kind stands =
+          let own = here (TrapsThere kind) stands in
+          let g = some_at image.functions.items (innermost r.frames).unit own.inside in traps_there g.0 g.1 kind stands
 
     -- it rests at no stop where it enters
-    pub none_enters : (n count : ℕ) → r.next ≡ Enters n count → (text : List BareDef) → HasNoStop text w slot
-    none_enters n count enters text f h = absurd (never_enters n count enters f h)
+    pub none_enters : (n count : ℕ) → r.next ≡ Enters n count → (history : List (List BareDef)) → HasNoStop history w slot
+    none_enters n count enters history f h = absurd (never_enters n count enters f h)

@@ -1,5 +1,6 @@
 -- What a thread waits for, by the stop at which it rests.
-use Rattle.std.proofs.Common.{◌≡◌, ℕ, List, [], ◌∷◌, Option, None, ◌⊎◌, inl, inr, refl, sym, subst}
+use Rattle.std.proofs.Common.{◌≡◌, ℕ, List, Option, Some, None, is_some, ◌⊎◌, inl, inr, refl, sym, subst}
+use Rattle.std.specs.Prelude.{option_map}
 use Rattle.run_types.specs.declared.trap.TrapKind.{TrapKind}
 use Rattle.c_tree.specs.BareExpr.{Bytes}
 use Rattle.c_tree.specs.BareDef.{BareDef}
@@ -21,7 +22,6 @@ use Rattle.code_image.specs.declared.act.Act.TheVariants.{Shared, Join as JoinAc
 use Rattle.code_image.specs.declared.act.StopPlace.{StopPlace}
 use Rattle.code_image.specs.declared.image.CodeImage.{CodeImage}
 use Rattle.code_image.specs.Acts.{Acts}
-use Rattle.code_image.specs.Images.{names_of}
 use Rattle.code_machine.specs.Queries.{HasNoStop, IsNextStop, WaitsFor}
 use Rattle.code_machine.specs.Seen.{words_of}
 
@@ -57,21 +57,21 @@ awaits_thread t names text function w slot s stack a = absurd a
 
 -- ---- what a thread waits for
 
-module _ (text : List BareDef) (w : CodeWorld) (slot : ℕ) where
+module _ (texts : List (List BareDef)) (names : Names) (w : CodeWorld) (slot : ℕ) where
   abbrev AllWait : CodeSlot → Option Waiting → Type 0
-  AllWait x what = Waits (text ∷ []) (names_of text) w slot x what
+  AllWait x what = Waits texts names w slot x what
 
   -- it rests at a stop
-  pub stop_waits : (image : CodeImage) (x : StopPlace) (what : Option Waiting) (n : IsNextStop text image w slot x)
-      → what ≡ at_stop (names_of text) w slot (stop_of (words_of image) x.stop) n.frame.state.stack → WaitsFor text w slot what
+  pub stop_waits : (image : CodeImage) (x : StopPlace) (what : Option Waiting) (n : IsNextStop texts names image w slot x)
+      → what ≡ at_stop names w slot (stop_of (words_of image) x.stop) n.frame.state.stack → WaitsFor texts names w slot what
   stop_waits image x what n is =
       inl (subst (λ y. AllWait y what) (sym n.rests.lives)
-      (subst (λ next. WaitsNext (text ∷ []) (names_of text) w slot next what) (sym n.rests.next)
-      (subst (WaitsNext (text ∷ []) (names_of text) w slot (seen.Rests n.frame)) (sym is)
+      (subst (λ next. WaitsNext texts names w slot next what) (sym n.rests.next)
+      (subst (WaitsNext texts names w slot (seen.Rests n.frame)) (sym is)
       (stopping n.frame (stop_of (words_of image) x.stop) x.point x.after n.stops))))
 
   -- or at none
-  pub none_waits : HasNoStop text w slot → WaitsFor text w slot None
+  pub none_waits : HasNoStop texts w slot → WaitsFor texts names w slot None
   none_waits none = by (in_slot w slot) refl
     where
       traps_or : (s : Step) → ((kind : TrapKind) × (s ≡ Traps kind)) ⊎ ((kind : TrapKind) → s ≡ Traps kind → ⊥)
@@ -80,33 +80,38 @@ module _ (text : List BareDef) (w : CodeWorld) (slot : ℕ) where
       traps_or Rests = inr (λ kind e. cc)
       traps_or Lost = inr (λ kind e. cc)
 
-      waits_as : (th : CodeThread) → in_slot w slot ≡ seen.Live th → WaitsNext (text ∷ []) (names_of text) w slot th.next None
-          → WaitsFor text w slot None
+      waits_as : (th : CodeThread) → in_slot w slot ≡ seen.Live th → WaitsNext texts names w slot th.next None
+          → WaitsFor texts names w slot None
       waits_as th lives h = inl (subst (λ y. AllWait y None) (sym lives) h)
 
-      resting : (th : CodeThread) → in_slot w slot ≡ seen.Live th → (f : CodeFrame) → th.next ≡ seen.Rests f → WaitsFor text w slot None
-      resting th lives f next = at (none f (record { thread = th; lives = lives; next = next })) (traps_or (step (frame_code (text ∷ []) f) f.state))
+      resting : (th : CodeThread) → in_slot w slot ≡ seen.Live th → (f : CodeFrame) → th.next ≡ seen.Rests f → WaitsFor texts names w slot None
+      resting th lives f next = at (none f (record { thread = th; lives = lives; next = next })) (traps_or (step (frame_code texts f) f.state))
         where
-          trapped : (kind : TrapKind) → step (frame_code (text ∷ []) f) f.state ≡ Traps kind → WaitsFor text w slot None
+          trapped : (kind : TrapKind) → step (frame_code texts f) f.state ≡ Traps kind → WaitsFor texts names w slot None
           trapped kind e =
-              waits_as th lives (subst (λ x. WaitsNext (text ∷ []) (names_of text) w slot x None) (sym next) (trapping f kind e))
+              waits_as th lives (subst (λ x. WaitsNext texts names w slot x None) (sym next) (trapping f kind e))
 
-          at : ((kind : TrapKind) × (step (frame_code (text ∷ []) f) f.state ≡ Traps kind))
-              ⊎ ((s : Stop) (n after : ℕ) → Stops (frame_code (text ∷ []) f) s n f.state.place after → ⊥)
-              → ((kind : TrapKind) × (step (frame_code (text ∷ []) f) f.state ≡ Traps kind))
-              ⊎ ((kind : TrapKind) → step (frame_code (text ∷ []) f) f.state ≡ Traps kind → ⊥)
-              → WaitsFor text w slot None
+          at : ((kind : TrapKind) × (step (frame_code texts f) f.state ≡ Traps kind))
+              ⊎ ((s : Stop) (n after : ℕ) → Stops (frame_code texts f) s n f.state.place after → ⊥)
+              → ((kind : TrapKind) × (step (frame_code texts f) f.state ≡ Traps kind))
+              ⊎ ((kind : TrapKind) → step (frame_code texts f) f.state ≡ Traps kind → ⊥)
+              → WaitsFor texts names w slot None
           at h (inl e) = trapped e.0 e.1
           at (inl e) (inr never) = absurd (never e.0 e.1)
           at (inr none) (inr never) =
               inr (refl, record { thread = th; frame = f; lives = lives; next = next; traps = never; stops = none })
 
-      lives_so : (th : CodeThread) → in_slot w slot ≡ seen.Live th → (x : CodeNext) → th.next ≡ x → WaitsFor text w slot None
+      lives_so : (th : CodeThread) → in_slot w slot ≡ seen.Live th → (x : CodeNext) → th.next ≡ x → WaitsFor texts names w slot None
       lives_so th lives (seen.Enters e) is =
-          waits_as th lives (subst (λ x. WaitsNext (text ∷ []) (names_of text) w slot x None) (sym is) (entering e))
+          waits_as th lives (subst (λ x. WaitsNext texts names w slot x None) (sym is) (entering e))
       lives_so th lives (seen.Rests f) is = resting th lives f is
 
-      by : (x : CodeSlot) → in_slot w slot ≡ x → WaitsFor text w slot None
+      by : (x : CodeSlot) → in_slot w slot ≡ x → WaitsFor texts names w slot None
       by seen.Free is = inl (subst (λ y. AllWait y None) (sym is) refl)
       by (seen.Live th) is = lives_so th is th.next refl
       by (seen.Over serial v) is = inl (subst (λ y. AllWait y None) (sym is) refl)
+
+-- an answer whose names are looked up is one
+pub still_some : {A B : Type 0} (f : A → B) (o : Option A) → is_some o ≡ is_some (option_map f o)
+still_some f None = refl
+still_some f (Some a) = refl

@@ -1,7 +1,9 @@
 -- What is kept of a thread that calls and returns.
 use Rattle.std.proofs.Common.{◌≡◌, inl, inr, ℕ, suc, ◌+◌, ◌-◌, ◌<◌, ◌≤◌, List, length, take, false, Some, sym, subst, ap, ◌∙◌, arith}
-use Rattle.std.specs.Prelude.{slice_get, slice_index_or, slice_set}
+use Rattle.std.specs.Prelude.{All, slice_get, slice_index_or, slice_set}
 use Rattle.std.proofs.lemmas.Bool.{cases_eq}
+use Rattle.std.proofs.lemmas.List.Elements.{All-get_or, All-set, All-take}
+use Rattle.c_tree.specs.BareDef.{BareDef}
 use Rattle.code_kinds.specs.WellFormed.{most_variables}
 use Rattle.thread_state.specs.declared.steps.End.TheVariants.{Rests as RestsThere}
 use Rattle.word_frames.specs.declared.frame.Frame.{Frame}
@@ -17,36 +19,41 @@ use Rattle.code_image.specs.Stacks.{AreNeverHigher}
 use Rattle.code_image.specs.StopHeights.{LeadsTo, act_leaves, act_takes, returns}
 use Rattle.code_machine.specs.declared.running.Next.TheVariants.{Enters}
 use Rattle.code_machine.specs.declared.running.Running.{Running}
-use Rattle.code_machine.specs.Kept.{Fits, HasHeightAt, IsFrame, Stood, Wait}
+use Rattle.code_machine.specs.Kept.{FitsImage, HasHeightAt, IsFrame, Stood, Wait}
 use Rattle.code_machine.specs.Stops.{CanGoOn, RestsAt}
+use Rattle.code_machine.specs.Versions.{IsOfVersion, RunsCode}
 use Rattle.code_machine.proofs.Lists.{some}
 use Rattle.code_machine.proofs.Fitting.{are_frames, depth_is, frame_moved, innermost_is, moved, wait_still}
 use Rattle.code_machine.proofs.Resuming.{frame_there, height_after, stood_there, words_there}
 use Rattle.code_machine.proofs.Starting.{first_of, not_stands, second_of}
 
 -- what an act leads to
-pub leads_so : (image : CodeImage) (r : Running) (x : StopPlace) → RestsAt image.functions.items r x → LeadsTo (length image.functions.items) x.act
+pub leads_so : (image : CodeImage) (r : Running) (x : StopPlace) → RestsAt image.functions.items (length image.callees.items) r x
+    → LeadsTo (length image.callees.items) x.act
 leads_so image r x rests =
-    let here : IsFrame image.functions.items (innermost r.frames) = frame_there image.functions.items r x rests in
+    let here : IsFrame image.functions.items (innermost r.frames) = frame_there image.functions.items (length image.callees.items) r x rests in
     let found : (g : CodeFunction) × (slice_get image.functions.items (innermost r.frames).unit ≡ Some g) = some image.functions.items (innermost r.frames).unit here.inside in
     image.leads (innermost r.frames).unit found.0 found.1 (innermost r.frames).place x (rests.there found.0 found.1)
 
 -- ---- a call
-module _ (image : CodeImage) (r : Running) (x : StopPlace) (n count : ℕ) (rests : RestsAt image.functions.items r x) (act : x.act ≡ CallAct n count) where
+module _ (image : CodeImage) (r : Running) (x : StopPlace) (n count : ℕ) (rests : RestsAt image.functions.items (length image.callees.items) r x)
+    (act : x.act ≡ CallAct n count) where
   pub takes_so : count ≤ (innermost r.frames).height
-  takes_so = subst (λ a. act_takes a ≤ (innermost r.frames).height) act (words_there image.functions.items r x rests)
+  takes_so = subst (λ a. act_takes a ≤ (innermost r.frames).height) act (words_there image.functions.items (length image.callees.items) r x rests)
 
-  pub calls_one : n < length image.functions.items
-  calls_one = (subst (LeadsTo (length image.functions.items)) act (leads_so image r x rests)).within
+  pub calls_one : n < length image.callees.items
+  calls_one = (subst (LeadsTo (length image.callees.items)) act (leads_so image r x rests)).within
 
   pub few_arguments : count ≤ most_variables
-  few_arguments = (subst (LeadsTo (length image.functions.items)) act (leads_so image r x rests)).few
+  few_arguments = (subst (LeadsTo (length image.callees.items)) act (leads_so image r x rests)).few
 
-  pub call_fits : (mid : Frames) → mid.frames.items ≡ with_innermost r.frames (moved (innermost r.frames) x.point x.after ((innermost r.frames).height - count))
-      → mid.highest_stack ≡ r.frames.highest_stack → IsKept mid → HasArguments mid count → Fits image.functions.items (record r { frames = mid; next = Enters n count })
-  call_fits mid frames same kept there =
+  pub call_fits : (mid : Frames) (version : ℕ) → mid.frames.items ≡ with_innermost r.frames (moved (innermost r.frames) x.point x.after ((innermost r.frames).height - count))
+      → mid.highest_stack ≡ r.frames.highest_stack → IsKept mid → HasArguments mid count
+      → FitsImage image (record r { frames = mid; next = Enters n count; version = version })
+  call_fits mid version frames same kept there =
       let functions : List CodeFunction = image.functions.items in
-      let stood : Stood functions r.frames RestsThere = stood_there functions r x rests in
+      let callees : ℕ = length image.callees.items in
+      let stood : Stood functions r.frames RestsThere = stood_there functions callees r x rests in
       let h : ℕ = (innermost r.frames).height - count in
       let f : Frame = moved (innermost r.frames) x.point x.after h in
       let deep : depth_of mid ≡ depth_of r.frames = depth_is functions r.frames mid f stood.some frames in
@@ -54,7 +61,7 @@ module _ (image : CodeImage) (r : Running) (x : StopPlace) (n count : ℕ) (rest
       let height : suc h ≡ (innermost r.frames).height - act_takes x.act + act_leaves x.act =
       rw act (omega arith) in
       let goes : returns x.act ≡ false = ap returns act in
-      let after : HasHeightAt functions (innermost r.frames) x.after (suc h) = height_after functions r x rests (suc h) goes height in
+      let after : HasHeightAt functions (innermost r.frames) x.after (suc h) = height_after functions callees r x rests (suc h) goes height in
       let here : HasHeightAt functions (innermost mid) (innermost mid).place (suc (innermost mid).height) =
       subst (λ (q : Frame). HasHeightAt functions q q.place (suc q.height)) (sym last) after in
       let still : Wait functions mid (depth_of r.frames - 1) = wait_still functions r.frames mid f stood.some frames stood.wait in
@@ -67,9 +74,9 @@ module _ (image : CodeImage) (r : Running) (x : StopPlace) (n count : ℕ) (rest
       record {
         kept = kept;
         serial = rests.fits.serial;
-        frames = are_frames functions r.frames mid f stood.some frames (frame_moved functions (innermost r.frames) x.point x.after h (frame_there functions r x rests)) rests.fits.frames;
+        frames = are_frames functions r.frames mid f stood.some frames (frame_moved functions (innermost r.frames) x.point x.after h (frame_there functions callees r x rests)) rests.fits.frames;
         due = λ m c e. record {
-          inside = subst (λ (k : ℕ). k < length functions) (first_of n m count c e) calls_one;
+          inside = subst (λ (k : ℕ). k < callees) (first_of n m count c e) calls_one;
           there = subst (HasArguments mid) (second_of n m count c e) there;
           wait = all;
         };
@@ -78,9 +85,9 @@ module _ (image : CodeImage) (r : Running) (x : StopPlace) (n count : ℕ) (rest
       }
 
 -- ---- a return to the frame that called
-module _ (functions : List CodeFunction) (r : Running) (x : StopPlace) (rests : RestsAt functions r x) (called : 1 < depth_of r.frames) where
+module _ (functions : List CodeFunction) (callees : ℕ) (r : Running) (x : StopPlace) (rests : RestsAt functions callees r x) (called : 1 < depth_of r.frames) where
   waits_so : HasHeightAt functions (frame_at r.frames (depth_of r.frames - 2)) (frame_at r.frames (depth_of r.frames - 2)).place (suc (frame_at r.frames (depth_of r.frames - 2)).height)
-  waits_so = (stood_there functions r x rests).wait (depth_of r.frames - 2) (omega arith)
+  waits_so = (stood_there functions callees r x rests).wait (depth_of r.frames - 2) (omega arith)
 
   is_caller : IsFrame functions (frame_at r.frames (depth_of r.frames - 2))
   is_caller = rests.fits.frames (depth_of r.frames - 2) (omega arith)
@@ -114,7 +121,7 @@ module _ (functions : List CodeFunction) (r : Running) (x : StopPlace) (rests : 
         let deep : depth_of mid - 1 ≡ depth_of r.frames - 2 = omega (arith, made.long) in
         let last : ◌≡◌ {A = Frame} (innermost mid) g = ap (λ (k : ℕ). slice_index_or mid.frames.items k no_frame) deep ∙ made.last in
         let one : suc f.height ≡ f.height + 1 = omega arith in
-        let here : IsFrame functions g = record { version = is_caller.version; inside = is_caller.inside; function = is_caller.function } in
+        let here : IsFrame functions g = record { inside = is_caller.inside; function = is_caller.function } in
         record {
           kept = kept;
           serial = rests.fits.serial;
@@ -128,6 +135,23 @@ module _ (functions : List CodeFunction) (r : Running) (x : StopPlace) (rests : 
               (subst (λ (k : ℕ). HasHeightAt functions f f.place k) one waits_so);
           wait = λ k p.
               let h : k < depth_of r.frames - 2 = omega (arith, deep, p) in
-              rw (made.others k h) ((stood_there functions r x rests).wait k (omega (arith, h)));
+              rw (made.others k h) ((stood_there functions callees r x rests).wait k (omega (arith, h)));
           stacks = subst (λ (k : ℕ). AreNeverHigher k functions) (sym same) rests.fits.stacks;
         }
+
+-- so its frames run the code of their versions
+pub runs_left : (all : List (List BareDef)) (versions : List ℕ) (image : CodeImage) (old new : Running) → 1 < depth_of old.frames
+    → (let f = frame_at old.frames (depth_of old.frames - 2) in new.frames.frames.items ≡ slice_set (take (depth_of old.frames - 1) old.frames.frames.items) (depth_of old.frames - 2) (record f { height = f.height + 1 }))
+    → RunsCode all versions image old → RunsCode all versions image new
+runs_left all versions image old new called frames code =
+    let P : Frame → Type 0 = IsOfVersion image.functions.items versions in
+    let fs : List Frame = old.frames.frames.items in
+    let f : Frame = frame_at old.frames (depth_of old.frames - 2) in
+    let of : IsOfVersion image.functions.items versions f = All-get_or P fs (depth_of old.frames - 2) no_frame (omega (arith, called)) code.frames in
+    let taller : P (record f { height = f.height + 1 }) = record { before = of.before; version = of.version; text = of.text } in
+    record {
+      image_is = code.image_is;
+      frames =
+          subst (All P) (sym frames)
+          (All-set P (take (depth_of old.frames - 1) fs) (depth_of old.frames - 2) (record f { height = f.height + 1 }) taller (All-take P (depth_of old.frames - 1) fs code.frames));
+    }

@@ -23,7 +23,7 @@ abbrev pub moved : Frame → ℕ → ℕ → ℕ → Frame
 moved f point place height = record f { point = point; place = place; height = height }
 
 pub frame_moved : (functions : List CodeFunction) (f : Frame) (point place height : ℕ) → IsFrame functions f → IsFrame functions (moved f point place height)
-frame_moved functions f point place height is = record { version = is.version; inside = is.inside; function = is.function }
+frame_moved functions f point place height is = record { inside = is.inside; function = is.function }
 
 -- how a burst ended
 pub end_is : (end : End) → end_of (ended end) ≡ Some end

@@ -5,6 +5,12 @@ pub mod StackChanges
 pub mod Resuming
 pub mod Acting
 pub mod Worlds
+pub mod Keeping
+pub mod InForce
+pub mod UsedObjects
+pub mod Installing
+pub mod FirstVersion
+pub mod Numbers
 pub mod Stopping
 pub mod Entering
 pub mod Trapping

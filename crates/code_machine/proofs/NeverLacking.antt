@@ -1,5 +1,5 @@
 -- A stop of a thread that has the numbers and the memory that it needs isn't out of memory.
-use Rattle.std.proofs.Common.{◌≡◌, ℕ, suc, ◌<◌, ◌≤◌, Some, refl, subst, ap, ◌∙◌, arith}
+use Rattle.std.proofs.Common.{◌≡◌, ℕ, suc, ◌<◌, ◌≤◌, length, Some, refl, subst, ap, ◌∙◌, arith}
 use Rattle.std.specs.Prelude.{◌^◌, slice_get}
 use Rattle.resolved_tree.specs.Trees.{table}
 use Rattle.word_data.specs.declared.stop.SharedStop.TheVariants.{New, Print}
@@ -27,11 +27,11 @@ depth_seen : (image : CodeImage) (r : Running) (next : Next) → (thread_by imag
 depth_seen image r (Enters n count) = refl
 depth_seen image r (Stands end) = refl
 
-module _ (image : CodeImage) (r : Running) (x : StopPlace) (rests : RestsAt image.functions.items r x) (act : Act) (is : x.act ≡ act) where
-  -- it prints no more than the longest print of the text
+module _ (image : CodeImage) (r : Running) (x : StopPlace) (rests : RestsAt image.functions.items (length image.callees.items) r x) (act : Act) (is : x.act ≡ act) where
+  -- it prints no more than the longest print of the texts
   pub prints_few : act_prints (table image.trees) act ≤ image.longest_print
   prints_few =
-      let here : IsFrame image.functions.items (innermost r.frames) = frame_there image.functions.items r x rests in
+      let here : IsFrame image.functions.items (innermost r.frames) = frame_there image.functions.items (length image.callees.items) r x rests in
       let found : (g : CodeFunction) × (slice_get image.functions.items (innermost r.frames).unit ≡ Some g) = some image.functions.items (innermost r.frames).unit here.inside in
       subst (λ (a : Act). act_prints (table image.trees) a ≤ image.longest_print) is
       (image.prints (innermost r.frames).unit found.0 found.1 (innermost r.frames).place x (rests.there found.0 found.1))

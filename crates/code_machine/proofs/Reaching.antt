@@ -22,11 +22,11 @@ flattened None x e = absurd (cc)
 flattened (Some None) x e = absurd (cc)
 flattened (Some (Some y)) x e = ap Some e
 
-pub lives_at : (functions : List CodeFunction) (run : RunState) (slot : ℕ) (r : Running) (frame : Frame) (g : CodeFunction) (x : StopPlace)
-    → slice_get run.slots.items slot ≡ Some r → Fits functions r → r.stand ≡ Live → r.next ≡ Stands RestsThere → run.finish ≡ None
+pub lives_at : (functions : List CodeFunction) (callees : ℕ) (run : RunState) (slot : ℕ) (r : Running) (frame : Frame) (g : CodeFunction) (x : StopPlace)
+    → slice_get run.slots.items slot ≡ Some r → Fits functions callees r → r.stand ≡ Live → r.next ≡ Stands RestsThere → run.finish ≡ None
     → frame ≡ innermost r.frames → slice_get functions frame.unit ≡ Some g → option_flatten (slice_get g.stops.items frame.place) ≡ Some x
-    → LivesAt functions run slot x
-lives_at functions run slot r frame g x there fits live next going is found stops = record {
+    → LivesAt functions callees run slot x
+lives_at functions callees run slot r frame g x there fits live next going is found stops = record {
   running = r;
   there = there;
   rests = record {

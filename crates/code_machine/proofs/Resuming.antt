@@ -1,5 +1,5 @@
 -- A thread goes on after a stop.
-use Rattle.std.proofs.Common.{◌≡◌, ℕ, suc, ◌+◌, ◌-◌, ◌<◌, ◌≤◌, List, [], ◌∷◌, length, false, Some, refl, sym, subst, ap, ◌∙◌, arith}
+use Rattle.std.proofs.Common.{◌≡◌, ℕ, suc, ◌+◌, ◌-◌, ◌<◌, ◌≤◌, List, length, false, Some, refl, sym, subst, ap, ◌∙◌, arith}
 use Rattle.std.specs.Prelude.{slice_get, slice_index_or}
 use Rattle.c_tree.specs.BareDef.{BareDef}
 use Rattle.thread_state.specs.declared.steps.End.TheVariants.{Rests as RestsThere}
@@ -27,7 +27,7 @@ use Rattle.code_machine.specs.Stops.{CanGoOn, RestsAt, Resumed, WentOn, settled}
 use Rattle.code_machine.proofs.Lists.{some}
 use Rattle.code_machine.proofs.Fitting.{head_is}
 
-module _ (functions : List CodeFunction) (r : Running) (x : StopPlace) (rests : RestsAt functions r x) where
+module _ (functions : List CodeFunction) (callees : ℕ) (r : Running) (x : StopPlace) (rests : RestsAt functions callees r x) where
   pub stood_there : Stood functions r.frames RestsThere
   stood_there = rests.fits.stood RestsThere rests.next
 
@@ -65,10 +65,11 @@ module _ (functions : List CodeFunction) (r : Running) (x : StopPlace) (rests : 
   }
 
 -- it went on with the stack that it had
-pub resumed : (text : List BareDef) (image : CodeImage) (r new : Running) (x : StopPlace) → RestsAt image.functions.items r x
-    → WentOn text image r new x.point x.after (innermost r.frames).height → Resumed text image r new x
-resumed text image r new x rests w =
-    let stood : Stood image.functions.items r.frames RestsThere = stood_there image.functions.items r x rests in
+pub resumed : (texts : List (List BareDef)) (image : CodeImage) (r new : Running) (x : StopPlace)
+    → RestsAt image.functions.items (length image.callees.items) r x
+    → WentOn texts image r new x.point x.after (innermost r.frames).height → Resumed texts image r new x
+resumed texts image r new x rests w =
+    let stood : Stood image.functions.items r.frames RestsThere = stood_there image.functions.items (length image.callees.items) r x rests in
     let stack : w.frame.state.stack ≡ stack_of r.frames (innermost r.frames).height = ap (λ (f : CodeFrame). f.state.stack) (head_is (words_of image) r.frames w.frame w.below stood.some w.before) in
     record {
       frame = w.frame;
@@ -76,7 +77,7 @@ resumed text image r new x rests w =
       below = w.below;
       before = w.before;
       after = w.after;
-      goes = subst (λ (st : List ℕ). GoesOn (text ∷ []) w.frame x.after st x.point w.next) (sym stack) w.goes;
+      goes = subst (λ (st : List ℕ). GoesOn texts w.frame x.after st x.point w.next) (sym stack) w.goes;
     }
 
 -- a thread in another number of transactions
@@ -87,11 +88,11 @@ with_depth image r k (Stands end) = refl
 pub depth_set : (image : CodeImage) (r : Running) (k : ℕ) → thread_of image (record r { depth = k }) ≡ record (thread_of image r) { depth = k }
 depth_set image r k = with_depth image r k r.next
 
-pub fits_deeper : (functions : List CodeFunction) (r : Running) (k : ℕ) → Fits functions r → Fits functions (record r { depth = k })
-fits_deeper functions r k fits = record { kept = fits.kept; serial = fits.serial; frames = fits.frames; due = fits.due; stood = fits.stood; stacks = fits.stacks }
+pub fits_deeper : (functions : List CodeFunction) (callees : ℕ) (r : Running) (k : ℕ) → Fits functions callees r → Fits functions callees (record r { depth = k })
+fits_deeper functions callees r k fits = record { kept = fits.kept; serial = fits.serial; frames = fits.frames; due = fits.due; stood = fits.stood; stacks = fits.stacks }
 
-pub fits_standing : (functions : List CodeFunction) (r : Running) (stand : Stand) → Fits functions r → Fits functions (record r { stand = stand })
-fits_standing functions r stand fits = record { kept = fits.kept; serial = fits.serial; frames = fits.frames; due = fits.due; stood = fits.stood; stacks = fits.stacks }
+pub fits_standing : (functions : List CodeFunction) (callees : ℕ) (r : Running) (stand : Stand) → Fits functions callees r → Fits functions callees (record r { stand = stand })
+fits_standing functions callees r stand fits = record { kept = fits.kept; serial = fits.serial; frames = fits.frames; due = fits.due; stood = fits.stood; stacks = fits.stacks }
 
 -- the world in which a thread goes on
 pub continues : (image : CodeImage) (new : Running) (slot : ℕ) (d : Data) (w : CodeWorld) (th : CodeThread) (next : CodeFrame) → new.stand ≡ LiveStand

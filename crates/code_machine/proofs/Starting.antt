@@ -33,16 +33,16 @@ no_arguments s none = record {
 }
 
 -- a thread with no frames, that enters a function
-pub fresh : (functions : List CodeFunction) (s : Frames) (r : Running) (main count : ℕ) → r.frames ≡ s → IsKept s → s.frames.items ≡ [] → r.serial < most_threads
-    → r.next ≡ Enters main count → main < length functions → AreNeverHigher s.highest_stack functions → HasArguments s count → Fits functions r
-fresh functions s r main count same kept none serial next inside stacks there =
+pub fresh : (functions : List CodeFunction) (callees : ℕ) (s : Frames) (r : Running) (main count : ℕ) → r.frames ≡ s → IsKept s → s.frames.items ≡ [] → r.serial < most_threads
+    → r.next ≡ Enters main count → main < callees → AreNeverHigher s.highest_stack functions → HasArguments s count → Fits functions callees r
+fresh functions callees s r main count same kept none serial next inside stacks there =
     let empty : depth_of r.frames ≡ 0 = ap (λ (q : Frames). depth_of q) same ∙ ap (λ (fs : List Frame). length fs) none in
     record {
       kept = subst IsKept (sym same) kept;
       serial = serial;
       frames = λ n h. absurd (omega (arith, empty));
       due = λ n c e. record {
-        inside = subst (λ (k : ℕ). k < length functions) (first_of main n count c (sym next ∙ e)) inside;
+        inside = subst (λ (k : ℕ). k < callees) (first_of main n count c (sym next ∙ e)) inside;
         there = subst (λ (k : ℕ). HasArguments r.frames k) (second_of main n count c (sym next ∙ e)) (subst (λ (q : Frames). HasArguments q count) (sym same) there);
         wait = λ k h. absurd (omega (arith, empty));
       };
@@ -51,15 +51,17 @@ fresh functions s r main count same kept none serial next inside stacks there =
     }
 
 -- a thread that starts
-pub starts : (image : CodeImage) (s : Frames) (r : Running) (function serial : ℕ) (arguments : List ℕ) (count : ℕ) → r.frames ≡ s → s.frames.items ≡ []
-    → arguments_of s count ≡ arguments → r.stand ≡ LiveStand → r.serial ≡ serial → r.depth ≡ 0 → r.next ≡ Enters function count
-    → slot_of image r ≡ Live (starting serial (record { function = name_at image function; arguments = arguments; version = 1 }))
-starts image s r function serial arguments count same none given stand number outside next =
+pub starts : (image : CodeImage) (s : Frames) (r : Running) (version function serial : ℕ) (arguments : List ℕ) (count : ℕ) → r.frames ≡ s → s.frames.items ≡ []
+    → arguments_of s count ≡ arguments → r.stand ≡ LiveStand → r.serial ≡ serial → r.depth ≡ 0 → r.version ≡ version → r.next ≡ Enters function count
+    → slot_of image r ≡ Live (starting serial (record { function = name_at image function; arguments = arguments; version = version }))
+starts image s r version function serial arguments count same none given stand number outside behalf next =
     let all : frames_of (words_of image) r.frames ≡ [] =
     ap (λ (q : Frames). frames_of (words_of image) q) same ∙ ap (λ (fs : List Frame). frames_below (words_of image) s.highest_stack s.words.items fs (length fs)) none in
     let words : arguments_of r.frames count ≡ arguments = ap (λ (q : Frames). arguments_of q count) same ∙ given in
-    let e : CodeEnter = record { function = name_at image function; arguments = arguments; version = 1 } in
-    let enter : enter_of image r.frames function count ≡ e = ap (λ (ws : List ℕ). record { function = name_at image function; arguments = ws; version = 1 }) words in
+    let e : CodeEnter = record { function = name_at image function; arguments = arguments; version = version } in
+    let enter : enter_of image r function count ≡ e =
+    ap (λ (ws : List ℕ). record { function = name_at image function; arguments = ws; version = r.version }) words
+    ∙ ap (λ (v : ℕ). record { function = name_at image function; arguments = arguments; version = v }) behalf in
     let thread : thread_of image r ≡ starting serial e =
     ap (thread_by image r) next
     ∙ ap (λ (d : CodeEnter). record { serial = r.serial; depth = r.depth; next = EntersSeen d; below = frames_of (words_of image) r.frames }) enter

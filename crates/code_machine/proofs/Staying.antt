@@ -1,12 +1,12 @@
--- Threads that can't move, whatever the text is.
+-- Threads that can't move, whatever the texts are.
 use Rattle.std.proofs.Common.{◌≡◌, ℕ, zero, suc, List, [], ◌∷◌, map, true, false, Option, Some, None, refl, sym, ◌∙◌}
 use Rattle.std.specs.Prelude.{MatchOption, option_map, slice_get, slice_index_or}
 use Rattle.std.specs.Option.{is_some}
 use Rattle.c_tree.specs.BareDef.{BareDef}
+use Rattle.code_runs.specs.CodeData.{Names}
 use Rattle.code_runs.specs.CodeThreads.{CodeSlot, CodeThread, Free as FreeSlot, Live as LiveSlot}
 use Rattle.code_runs.specs.CodeWaits.{Stays, none_lives, over}
 use Rattle.code_image.specs.declared.image.CodeImage.{CodeImage}
-use Rattle.code_image.specs.Images.{names_of}
 use Rattle.code_machine.specs.declared.running.Next.{Next}
 use Rattle.code_machine.specs.declared.running.Running.{Running}
 use Rattle.code_machine.specs.declared.running.Stand.{Stand}
@@ -22,9 +22,9 @@ some_finish None e = e
 some_finish (Some f) e = refl
 
 -- the run has ended
-pub over_stays : (text : List BareDef) (image : CodeImage) (run : RunState) (slot : ℕ) → is_some run.finish ≡ true
-    → Stays (text ∷ []) (names_of text) (world_of image run) slot
-over_stays text image run slot e = over (some_finish run.finish e)
+pub over_stays : (texts : List (List BareDef)) (names : Names) (image : CodeImage) (run : RunState) (slot : ℕ) → is_some run.finish ≡ true
+    → Stays texts names (world_of image run) slot
+over_stays texts names image run slot e = over (some_finish run.finish e)
 
 absent : (f : Running → CodeSlot) (rs : List Running) (i : ℕ) (d : CodeSlot) → slice_get rs i ≡ None → slice_index_or (map f rs) i d ≡ d
 absent f [] i d e = refl
@@ -35,9 +35,9 @@ free_not_live : (th : CodeThread) → FreeSlot ≡ LiveSlot th → ⊥
 free_not_live th e = cc
 
 -- there is no such slot
-pub none_stays : (text : List BareDef) (image : CodeImage) (run : RunState) (slot : ℕ) → slice_get run.slots.items slot ≡ None
-    → Stays (text ∷ []) (names_of text) (world_of image run) slot
-none_stays text image run slot none =
+pub none_stays : (texts : List (List BareDef)) (names : Names) (image : CodeImage) (run : RunState) (slot : ℕ) → slice_get run.slots.items slot ≡ None
+    → Stays texts names (world_of image run) slot
+none_stays texts names image run slot none =
     none_lives (λ th e. free_not_live th (sym (absent (slot_of image) run.slots.items slot FreeSlot none) ∙ e))
 
 live_stand : (image : CodeImage) (r : Running) (s : Stand) (th : CodeThread) → slot_by image r s ≡ LiveSlot th → s ≡ Live
@@ -46,16 +46,16 @@ live_stand image r Live th e = refl
 live_stand image r (Over word) th e = absurd (cc)
 
 -- no thread lives there
-pub dead_stays : (text : List BareDef) (image : CodeImage) (run : RunState) (slot : ℕ) (r : Running) → slice_get run.slots.items slot ≡ Some r
-    → (r.stand ≡ Live → ⊥) → Stays (text ∷ []) (names_of text) (world_of image run) slot
-dead_stays text image run slot r there dead =
+pub dead_stays : (texts : List (List BareDef)) (names : Names) (image : CodeImage) (run : RunState) (slot : ℕ) (r : Running) → slice_get run.slots.items slot ≡ Some r
+    → (r.stand ≡ Live → ⊥) → Stays texts names (world_of image run) slot
+dead_stays texts names image run slot r there dead =
     none_lives (λ th e. dead (live_stand image r r.stand th (sym (slot_is image run slot r there) ∙ e)))
 
 -- what the thread in a slot does next, by whether one lives there
 pub next_of : (run : RunState) (slot : ℕ) (r : Running) → slice_get run.slots.items slot ≡ Some r → run.finish ≡ None → (o : Option Next)
     → MatchOption o (r.stand ≡ Live → ⊥) (λ next. (r.stand ≡ Live) × (r.next ≡ next))
-    → MatchOption o ((text : List BareDef) (image : CodeImage) → Stays (text ∷ []) (names_of text) (world_of image run) slot) (Lives run slot)
-next_of run slot r there going None dead = λ text image. dead_stays text image run slot r there dead
+    → MatchOption o ((texts : List (List BareDef)) (names : Names) (image : CodeImage) → Stays texts names (world_of image run) slot) (Lives run slot)
+next_of run slot r there going None dead = λ texts names image. dead_stays texts names image run slot r there dead
 next_of run slot r there going (Some next) h = record { running = r; there = there; live = h.0; does = h.1; going = going }
 
 -- a run that goes on

@@ -18,13 +18,12 @@ use Rattle.code_image.specs.declared.image.CodeImage.{CodeImage}
 use Rattle.code_machine.specs.declared.running.Running.{Running}
 use Rattle.code_machine.specs.declared.running.Stand.TheVariants.{Free as FreeStand, Live as LiveStand, Over as OverStand}
 use Rattle.code_machine.specs.declared.state.RunState.{RunState}
-use Rattle.code_machine.specs.Kept.{AreKept, Fits, most_threads}
+use Rattle.code_machine.specs.Kept.{FitsImage}
 use Rattle.code_machine.specs.Seen.{finish_of, slot_of, world_of}
 use Rattle.code_machine.specs.Stops.{Answered, RestsAt, SameThread}
 use Rattle.code_machine.specs.ThreadStops.{StartedIn, Took, first_enter}
 use Rattle.code_machine.proofs.Lists.{get_set_other, inside, one, some}
 use Rattle.code_machine.proofs.Resuming.{frame_there, words_there}
-use Rattle.code_machine.proofs.Worlds.{kept_set}
 
 -- what was read at a place is what is there
 pub there_read : (rs : List Running) (len i : ℕ) (r : Running) → len ≡ length rs → i < length rs → r ≡ slice_index_or rs i r → slice_get rs i ≡ Some r
@@ -41,34 +40,30 @@ abbrev pub HasNewest : Running → ℕ → Type 0
 HasNewest r word = downward r.frames.words.items (stack_base r.frames) (innermost r.frames).height ≡ word ∷ newest_rest r
 
 -- a stop that takes a word finds it
-pub newest_there : (functions : List CodeFunction) (r : Running) (x : StopPlace) → RestsAt functions r x → act_takes x.act ≡ 1 → 0 < (innermost r.frames).height
-newest_there functions r x rests one = omega (arith, words_there functions r x rests, one)
+pub newest_there : (functions : List CodeFunction) (callees : ℕ) (r : Running) (x : StopPlace) → RestsAt functions callees r x → act_takes x.act ≡ 1
+    → 0 < (innermost r.frames).height
+newest_there functions callees r x rests one = omega (arith, words_there functions callees r x rests, one)
 
 -- ---- a start
 
--- the function of the thread that starts is there
-pub function_inside : (image : CodeImage) (r : Running) (x : StopPlace) (n : ℕ) → RestsAt image.functions.items r x → x.act ≡ Spawn n
-    → n < length image.functions.items
+-- the function of the thread that starts has a name
+pub function_inside : (image : CodeImage) (r : Running) (x : StopPlace) (n : ℕ) → RestsAt image.functions.items (length image.callees.items) r x
+    → x.act ≡ Spawn n → n < length image.callees.items
 function_inside image r x n rests act =
     let functions = image.functions.items in
+    let callees = length image.callees.items in
     let found : (g : CodeFunction) × (slice_get functions (innermost r.frames).unit ≡ Some g) =
-    some functions (innermost r.frames).unit (frame_there functions r x rests).inside in
-    let leads : LeadsTo (length functions) x.act =
+    some functions (innermost r.frames).unit (frame_there functions callees r x rests).inside in
+    let leads : LeadsTo callees x.act =
     image.leads (innermost r.frames).unit found.0 found.1 (innermost r.frames).place x (rests.there found.0 found.1) in
-    subst (λ (a : Act). IfSome (callee a) (λ k. k < length functions)) act leads.within
+    subst (λ (a : Act). IfSome (callee a) (λ k. k < callees)) act leads.within
 
-pub kept_more : (functions : List CodeFunction) (slots : List Running) (threads i : ℕ) (r : Running) → AreKept functions slots threads
-    → Fits functions r → threads < most_threads → AreKept functions (slice_set slots i r) (threads + 1)
-kept_more functions slots threads i r kept fits few =
-    let k = kept_set functions slots threads i r kept fits in
-    record { fit = k.fit; few = k.few; counted = omega (arith, few) }
-
-pub started_in : (image : CodeImage) (old : RunState) (slots : Vec Running Global) (function argument place : ℕ) (r : Running)
-    → slots.items ≡ slice_set old.slots.items place r → slot_of image r ≡ Live (starting old.threads (first_enter image function argument))
+pub started_in : (image : CodeImage) (old : RunState) (slots : Vec Running Global) (version function argument place : ℕ) (r : Running)
+    → slots.items ≡ slice_set old.slots.items place r → slot_of image r ≡ Live (starting old.threads (first_enter image version function argument))
     → ((x : Running) → slice_get old.slots.items place ≡ Some x → x.stand ≡ FreeStand)
     → (word : ℕ) → word ≡ thread_word (record { slot = place; serial = old.threads })
-    → StartedIn image old (record old { slots = slots; threads = old.threads + 1 }) function argument place word
-started_in image old slots function argument place r set seen free word is = record {
+    → StartedIn image old (record old { slots = slots; threads = old.threads + 1 }) version function argument place word
+started_in image old slots version function argument place r set seen free word is = record {
   world =
       ap (λ (ss : List CodeSlot). record {
         shared = old.shared;
@@ -79,7 +74,7 @@ started_in image old slots function argument place r set seen free word is = rec
       (ap (map (slot_of image)) set ∙ map-set (slot_of image) old.slots.items place r ∙ ap (slice_set (world_of image old).slots place) seen)
       ∙ ap (λ (n : ℕ). record {
         shared = old.shared;
-        slots = slice_set (world_of image old).slots place (Live (starting old.threads (first_enter image function argument)));
+        slots = slice_set (world_of image old).slots place (Live (starting old.threads (first_enter image version function argument)));
         threads = n;
         finish = option_map finish_of old.finish;
       }) (add-one old.threads);
@@ -88,6 +83,7 @@ started_in image old slots function argument place r set seen free word is = rec
   free = free;
   finish = refl;
   output = refl;
+  versions = record { versions = refl; in_force = refl; layouts = refl };
 }
 
 -- ---- a join
@@ -95,8 +91,8 @@ started_in image old slots function argument place r set seen free word is = rec
 apart : (r : Running) (left : ℕ) → r.stand ≡ LiveStand → r.stand ≡ OverStand left → ⊥
 apart r left live over = cc
 
-fits_free : (functions : List CodeFunction) (r : Running) → Fits functions r → Fits functions (record r { stand = FreeStand })
-fits_free functions r fits = record { kept = fits.kept; serial = fits.serial; frames = fits.frames; due = fits.due; stood = fits.stood; stacks = fits.stacks }
+pub fits_free : (image : CodeImage) (r : Running) → FitsImage image r → FitsImage image (record r { stand = FreeStand })
+fits_free image r fits = record { kept = fits.kept; serial = fits.serial; frames = fits.frames; due = fits.due; stood = fits.stood; stacks = fits.stacks }
 
 -- a slot is freed, of which the thread ended; the thread that joins it goes on
 module _ (image : CodeImage) (old : RunState) (place slot left : ℕ) (over joins : Running) (there : slice_get old.slots.items place ≡ Some over)
@@ -112,15 +108,9 @@ module _ (image : CodeImage) (old : RunState) (place slot left : ℕ) (over join
   pub still_here : slice_get freed slot ≡ Some joins
   still_here = get_set_other old.slots.items place slot (record over { stand = FreeStand }) differs ∙ here
 
-  pub kept_freed : (functions : List CodeFunction) (after : Running) → AreKept functions old.slots.items old.threads → Fits functions after
-      → AreKept functions (slice_set freed slot after) old.threads
-  kept_freed functions after kept fits =
-      kept_set functions freed old.threads slot after
-      (kept_set functions old.slots.items old.threads place (record over { stand = FreeStand }) kept (fits_free functions over (kept.fit place over there))) fits
-
-  pub took : (text : List BareDef) (x : StopPlace) (after : Running) (slots : Vec Running Global) → slots.items ≡ slice_set freed slot after
-      → SameThread joins after → Answered text image joins after x left → Took text image joins old (record old { slots = slots }) slot x place left
-  took text x after slots set same answered = record {
+  pub took : (texts : List (List BareDef)) (x : StopPlace) (after : Running) (slots : Vec Running Global) → slots.items ≡ slice_set freed slot after
+      → SameThread joins after → Answered texts image joins after x left → Took texts image joins old (record old { slots = slots }) slot x place left
+  took texts x after slots set same answered = record {
     after = after;
     stand = same.stand;
     answered = answered;

@@ -31,14 +31,14 @@ kept_words s v kept long room = record {
 
 module _ (r : Running) (v : Vec ℕ Global) (same : v.items ≡ r.frames.words.items) where
   -- the same words fit
-  pub fits_words : (functions : List CodeFunction) → IsKept (record r.frames { words = v }) → Fits functions r
-      → Fits functions (record r { frames = record r.frames { words = v } })
-  fits_words functions kept fits = record {
+  pub fits_words : (functions : List CodeFunction) (callees : ℕ) → IsKept (record r.frames { words = v }) → Fits functions callees r
+      → Fits functions callees (record r { frames = record r.frames { words = v } })
+  fits_words functions callees kept fits = record {
     kept = kept;
     serial = fits.serial;
     frames = fits.frames;
     due = λ n count e.
-        let d : Due functions r.frames n count = fits.due n count e in
+        let d : Due functions callees r.frames n count = fits.due n count e in
         record { inside = d.inside; there = record { few = d.there.few; inside = d.there.inside }; wait = d.wait };
     stood = λ end e.
         let s : Stood functions r.frames end = fits.stood end e in
@@ -54,7 +54,7 @@ module _ (r : Running) (v : Vec ℕ Global) (same : v.items ≡ r.frames.words.i
 
   same_thread : (image : CodeImage) (n : Next) → thread_by image (record r { frames = record r.frames { words = v } }) n ≡ thread_by image r n
   same_thread image (Enters n count) =
-      ap (λ (ws : List ℕ). entering_with r (record { function = name_at image n; arguments = upward ws (arguments_at r.frames.highest_stack (depth_of r.frames) r.frames.frames.items) count; version = 1 })
+      ap (λ (ws : List ℕ). entering_with r (record { function = name_at image n; arguments = upward ws (arguments_at r.frames.highest_stack (depth_of r.frames) r.frames.frames.items) count; version = r.version })
       (frames_below (words_of image) r.frames.highest_stack ws r.frames.frames.items (depth_of r.frames))) same
   same_thread image (Stands end) = ap (λ (ws : List ℕ). standing_with r (frames_below (words_of image) r.frames.highest_stack ws r.frames.frames.items (depth_of r.frames))) same
 

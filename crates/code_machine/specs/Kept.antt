@@ -1,4 +1,4 @@
--- What is kept of threads, whatever the text and its names are: each step finds what it needs.
+-- What is kept of threads, whatever the texts and their names are: each step finds what it needs.
 use Rattle.std.specs.Prelude.{◌≡◌, ℕ, suc, ◌-◌, ◌<◌, ◌≤◌, ◌^◌, List, ◌∷◌, length, slice_get, Option, Some, None}
 use Rattle.resolved_tree.specs.Nodes.{Table}
 use Rattle.bytecode.specs.Meaning.{Step, Goes, Traps, Rests, Lost, step}
@@ -12,17 +12,18 @@ use Rattle.word_frames.specs.declared.frame.Frame.{Frame}
 use Rattle.word_frames.specs.declared.frames.Frames.{Frames}
 use Rattle.word_frames.specs.Seen.{HasArguments, IsKept, depth_of, frame_at, frames_of, innermost}
 use Rattle.code_image.specs.declared.function.CodeFunction.{CodeFunction}
+use Rattle.code_image.specs.declared.image.CodeImage.{CodeImage}
 use Rattle.code_image.specs.Stacks.{AreNeverHigher}
 use Rattle.code_machine.specs.declared.running.Next.TheVariants.{Enters, Stands}
 use Rattle.code_machine.specs.declared.running.Running.{Running}
+use Rattle.code_machine.specs.declared.state.RunState.{RunState}
 
 -- how many threads a run may start, so that their words have 64 bits
 abbrev pub most_threads : ℕ
 most_threads = 2 ^ 48
 
--- a frame is one of the function with the number of its unit, in the first version
+-- a frame is one of the function with the number of its unit
 pub record IsFrame (functions : List CodeFunction) (f : Frame) : Type 0 where
-  pub version : f.version ≡ 1
   pub inside : f.unit < length functions
   pub function : (g : CodeFunction) → slice_get functions f.unit ≡ Some g → f.function ≡ g.name
 
@@ -51,23 +52,33 @@ pub record Stood (functions : List CodeFunction) (s : Frames) (end : End) : Type
       → frames_of t s ≡ f ∷ below → end_of (step (code_of t g.verified.body.code.items) f.state) ≡ Some end
   pub wait : Wait functions s (depth_of s - 1)
 
--- an enter is due, and all frames wait
-pub record Due (functions : List CodeFunction) (s : Frames) (n count : ℕ) : Type 0 where
-  pub inside : n < length functions
+-- the enter of a function with one of so many names is due, and all frames wait
+pub record Due (functions : List CodeFunction) (callees : ℕ) (s : Frames) (n count : ℕ) : Type 0 where
+  pub inside : n < callees
   pub there : HasArguments s count
   pub wait : Wait functions s (depth_of s)
 
--- the frames of a slot fit its functions, whose stacks they have the words for, and what its thread does next
-pub record Fits (functions : List CodeFunction) (r : Running) : Type 0 where
+-- the frames of a slot fit some functions, with so many names, whose stacks they have the words for, and what its thread does next
+pub record Fits (functions : List CodeFunction) (callees : ℕ) (r : Running) : Type 0 where
   pub kept : IsKept r.frames
   pub serial : r.serial < most_threads
   pub frames : (n : ℕ) → n < depth_of r.frames → IsFrame functions (frame_at r.frames n)
-  pub due : (n count : ℕ) → r.next ≡ Enters n count → Due functions r.frames n count
+  pub due : (n count : ℕ) → r.next ≡ Enters n count → Due functions callees r.frames n count
   pub stood : (end : End) → r.next ≡ Stands end → Stood functions r.frames end
   pub stacks : AreNeverHigher r.frames.highest_stack functions
 
+-- so they fit an image
+abbrev pub FitsImage : CodeImage → Running → Type 0
+FitsImage image r = Fits image.functions.items (length image.callees.items) r
+
 -- all slots do; there aren't many, nor were too many threads started
-pub record AreKept (functions : List CodeFunction) (slots : List Running) (threads : ℕ) : Type 0 where
-  pub fit : (n : ℕ) (r : Running) → slice_get slots n ≡ Some r → Fits functions r
+pub record AreKept (image : CodeImage) (slots : List Running) (threads : ℕ) : Type 0 where
+  pub fit : (n : ℕ) (r : Running) → slice_get slots n ≡ Some r → FitsImage image r
   pub few : length slots ≤ most_slots
   pub counted : threads ≤ most_threads
+
+-- those of a run do, and its versions are few enough to be counted
+pub record IsKeptRun (image : CodeImage) (run : RunState) : Type 0 where
+  pub slots : AreKept image run.slots.items run.threads
+  pub versions : length run.versions.items < 2 ^ 32
+  pub version : suc run.shared.version ≡ length run.versions.items

@@ -5,6 +5,7 @@ use Rattle.c_tree.specs.BareExpr.{Bytes}
 use Rattle.c_tree.specs.BareDef.{BareDef}
 use Rattle.c_semantics.specs.Stops.{Stop, Return, Begin, End, Update}
 use Rattle.local_evaluation.specs.Pieces.{stop_of}
+use Rattle.code_runs.specs.CodeData.{Names}
 use Rattle.code_runs.specs.CodeThreads.{CodeSlot, CodeWorld}
 use Rattle.code_runs.specs.CodeWaits.{in_slot}
 use Rattle.code_image.specs.declared.act.StopPlace.{StopPlace}
@@ -27,11 +28,11 @@ abbrev pub is_called : CodeSlot → Bool
 is_called x = is_some (slice_get (frames_in x) 1)
 
 -- whether what the thread in a slot does next leads to a check-in: an enter does, and so do some stops; a trap doesn't
-pub data LeadsNext (text : List BareDef) (image : CodeImage) (w : CodeWorld) (t : ℕ) : Bool → Type 0 where
-  entering : (name : Bytes) → entering_in (in_slot w t) ≡ Some name → LeadsNext text image w t true
-  stopping : (x : StopPlace) → IsNextStop text image w t x
-      → LeadsNext text image w t (stop_leads (stop_of (words_of image) x.stop) (is_called (in_slot w t)))
-  trapping : HasNoStop text w t → entering_in (in_slot w t) ≡ None → LeadsNext text image w t false
+pub data LeadsNext (texts : List (List BareDef)) (names : Names) (image : CodeImage) (w : CodeWorld) (t : ℕ) : Bool → Type 0 where
+  entering : (name : Bytes) → entering_in (in_slot w t) ≡ Some name → LeadsNext texts names image w t true
+  stopping : (x : StopPlace) → IsNextStop texts names image w t x
+      → LeadsNext texts names image w t (stop_leads (stop_of (words_of image) x.stop) (is_called (in_slot w t)))
+  trapping : HasNoStop texts w t → entering_in (in_slot w t) ≡ None → LeadsNext texts names image w t false
 
 -- whether a step moved the thread
 abbrev pub has_moved : CodeStep → Bool
@@ -39,6 +40,6 @@ has_moved CannotMove = false
 has_moved (Moved leads) = true
 
 -- a step of the thread in a slot says whether its move led to a check-in
-abbrev pub Led : List BareDef → CodeImage → CodeWorld → ℕ → CodeStep → Type 0
-Led text image w t CannotMove = Unit {0}
-Led text image w t (Moved leads) = LeadsNext text image w t leads
+abbrev pub Led : List (List BareDef) → Names → CodeImage → CodeWorld → ℕ → CodeStep → Type 0
+Led texts names image w t CannotMove = Unit {0}
+Led texts names image w t (Moved leads) = LeadsNext texts names image w t leads

@@ -1,7 +1,10 @@
 pub mod Kept
 pub mod Seen
+pub mod Versions
 pub mod Steps
 pub mod Enough
+pub mod Used
+pub mod Keeping
 pub mod Stops
 pub mod ThreadStops
 pub mod Queries

@@ -6,7 +6,6 @@ use Rattle.resolved_tree.specs.Nodes.{Table}
 use Rattle.resolved_tree.specs.Trees.{table}
 use Rattle.code_runs.specs.CodeThreads.{CodeFrame, CodeEnter, CodeThread, CodeSlot, CodeWorld}
 use Rattle.code_runs.specs.CodeThreads as seen
-use Rattle.word_frames.specs.declared.frames.Frames.{Frames}
 use Rattle.word_frames.specs.Seen.{arguments_of, frames_of}
 use Rattle.code_image.specs.declared.image.CodeImage.{CodeImage}
 use Rattle.code_image.specs.Acts.{named}
@@ -20,21 +19,21 @@ use Rattle.code_machine.specs.declared.state.Finish.TheVariants.{Finished, Trapp
 use Rattle.code_machine.specs.declared.state.RunState.{RunState}
 use Rattle.code_machine.specs.declared.machine.CodeMachine.{CodeMachine}
 
--- the names of an image's text
+-- the names of an image's texts
 abbrev pub words_of : CodeImage → Table
 words_of image = table image.trees
 
--- the name of the function with a number
+-- the name with a number among those that functions have
 abbrev pub name_at : CodeImage → ℕ → Bytes
-name_at image n = unwrap_or (named (words_of image) image.functions.items n) []
+name_at image n = unwrap_or (named (words_of image) image.callees.items n) []
 
 -- a frame that isn't there
 abbrev pub no_frame : CodeFrame
 no_frame = record { function = []; version = 0; standing = 0; state = record { place = 0; stack = []; locals = [] } }
 
 -- an enter that is due
-abbrev pub enter_of : CodeImage → Frames → ℕ → ℕ → CodeEnter
-enter_of image s n count = record { function = name_at image n; arguments = arguments_of s count; version = 1 }
+abbrev pub enter_of : CodeImage → Running → ℕ → ℕ → CodeEnter
+enter_of image r n count = record { function = name_at image n; arguments = arguments_of r.frames count; version = r.version }
 
 -- a thread by its frames, by what it does next
 abbrev pub standing_with : Running → List CodeFrame → CodeThread
@@ -45,7 +44,7 @@ abbrev pub entering_with : Running → CodeEnter → List CodeFrame → CodeThre
 entering_with r e frames = record { serial = r.serial; depth = r.depth; next = seen.Enters e; below = frames }
 
 abbrev pub thread_by : CodeImage → Running → Next → CodeThread
-thread_by image r (Enters n count) = entering_with r (enter_of image r.frames n count) (frames_of (words_of image) r.frames)
+thread_by image r (Enters n count) = entering_with r (enter_of image r n count) (frames_of (words_of image) r.frames)
 thread_by image r (Stands end) = standing_with r (frames_of (words_of image) r.frames)
 
 abbrev pub thread_of : CodeImage → Running → CodeThread

@@ -16,7 +16,6 @@ use Rattle.code_image.specs.declared.act.StopPlace.{StopPlace}
 use Rattle.code_image.specs.StopHeights.{act_leaves, act_takes, returns}
 use Rattle.code_image.specs.declared.function.CodeFunction.{CodeFunction}
 use Rattle.code_image.specs.declared.image.CodeImage.{CodeImage}
-use Rattle.code_image.specs.Images.{names_of}
 use Rattle.code_image.specs.Stacks.{AreNeverHigher}
 use Rattle.code_machine.specs.declared.running.Next.{Next}
 use Rattle.code_machine.specs.declared.running.Next.TheVariants.{Enters, Stands}
@@ -45,6 +44,7 @@ pub record IsFresh (r : Running) (main : ℕ) : Type 0 where
   pub next : r.next ≡ Enters main 0
   pub serial : r.serial ≡ 0
   pub depth : r.depth ≡ 0
+  pub version : r.version ≡ 1
   pub none : r.frames.frames.items ≡ []
 
 -- only what it does next and its frames changed
@@ -52,31 +52,32 @@ pub record SameThread (old new : Running) : Type 0 where
   pub stand : new.stand ≡ old.stand
   pub serial : new.serial ≡ old.serial
   pub depth : new.depth ≡ old.depth
+  pub version : new.version ≡ old.version
 
 -- a thread with a frame that rests, over frames that wait
 abbrev pub resting : Running → CodeFrame → List CodeFrame → CodeThread
 resting r f below = record { serial = r.serial; depth = r.depth; next = Rests f; below = below }
 
 -- its innermost frame went on from a place with a stack, having stopped at a point
-pub record WentOn (text : List BareDef) (image : CodeImage) (old new : Running) (point place height : ℕ) : Type 0 where
+pub record WentOn (texts : List (List BareDef)) (image : CodeImage) (old new : Running) (point place height : ℕ) : Type 0 where
   pub frame : CodeFrame
   pub next : CodeFrame
   pub below : List CodeFrame
   pub before : frames_of (words_of image) old.frames ≡ frame ∷ below
   pub after : thread_of image new ≡ resting old next below
-  pub goes : GoesOn (text ∷ []) frame place (stack_of old.frames height) point next
+  pub goes : GoesOn texts frame place (stack_of old.frames height) point next
 
 -- it entered a function
-pub record Entered (text : List BareDef) (image : CodeImage) (old new : Running) (n count : ℕ) : Type 0 where
+pub record Entered (texts : List (List BareDef)) (image : CodeImage) (old new : Running) (n count : ℕ) : Type 0 where
   pub frame : CodeFrame
   pub next : CodeFrame
-  pub entered : IsEntered (text ∷ []) (enter_of image old.frames n count) frame
-  pub goes : GoesOn (text ∷ []) frame 1 [] 0 next
+  pub entered : IsEntered texts (enter_of image old n count) frame
+  pub goes : GoesOn texts frame 1 [] 0 next
   pub after : thread_of image new ≡ resting old next (frames_of (words_of image) old.frames)
 
--- a live thread rests at a stop
-pub record RestsAt (functions : List CodeFunction) (r : Running) (x : StopPlace) : Type 0 where
-  pub fits : Fits functions r
+-- a live thread rests at a stop of these functions, with so many names
+pub record RestsAt (functions : List CodeFunction) (callees : ℕ) (r : Running) (x : StopPlace) : Type 0 where
+  pub fits : Fits functions callees r
   pub live : r.stand ≡ Live
   pub next : r.next ≡ Stands RestsThere
   pub there : (g : CodeFunction) → slice_get functions (innermost r.frames).unit ≡ Some g
@@ -99,16 +100,16 @@ pub record LeavesStack (act : Act) : Type 0 where
   pub returns : returns act ≡ false
 
 -- its innermost frame went on after a stop, with the stack that it had
-pub record Resumed (text : List BareDef) (image : CodeImage) (old new : Running) (x : StopPlace) : Type 0 where
+pub record Resumed (texts : List (List BareDef)) (image : CodeImage) (old new : Running) (x : StopPlace) : Type 0 where
   pub frame : CodeFrame
   pub next : CodeFrame
   pub below : List CodeFrame
   pub before : frames_of (words_of image) old.frames ≡ frame ∷ below
   pub after : thread_of image new ≡ resting old next below
-  pub goes : GoesOn (text ∷ []) frame x.after frame.state.stack x.point next
+  pub goes : GoesOn texts frame x.after frame.state.stack x.point next
 
 -- it answered a stop: a word came in place of the newest one, and it went on
-pub record Answered (text : List BareDef) (image : CodeImage) (old new : Running) (x : StopPlace) (word : ℕ) : Type 0 where
+pub record Answered (texts : List (List BareDef)) (image : CodeImage) (old new : Running) (x : StopPlace) (word : ℕ) : Type 0 where
   pub frame : CodeFrame
   pub next : CodeFrame
   pub below : List CodeFrame
@@ -117,7 +118,7 @@ pub record Answered (text : List BareDef) (image : CodeImage) (old new : Running
   pub before : frames_of (words_of image) old.frames ≡ frame ∷ below
   pub stack : frame.state.stack ≡ newest ∷ under
   pub after : thread_of image new ≡ resting old next below
-  pub goes : GoesOn (text ∷ []) frame x.after (word ∷ under) x.point next
+  pub goes : GoesOn texts frame x.after (word ∷ under) x.point next
 
 -- ---- stops that change no other thread
 
@@ -133,10 +134,10 @@ CannotStop names w a s =
     ((what : Waiting) × (at_stop names w a.slot s a.frame.state.stack ≡ Some what)) ⊎ ((s ≡ AtEnd) × (a.thread.depth ≡ 0))
 
 -- a stop was made, or can't be
-abbrev pub StopCame : List BareDef → At → Stop → CodeWorld → Outcome → CodeWorld → List ℕ → Type 0
-StopCame text a s w Stays new printed = (printed ≡ []) × CannotStop (names_of text) w a s
-StopCame text a s w outcome new printed =
-    (at_stop (names_of text) w a.slot s a.frame.state.stack ≡ None) × StopMade (text ∷ []) (names_of text) a s w new printed
+abbrev pub StopCame : List (List BareDef) → Names → At → Stop → CodeWorld → Outcome → CodeWorld → List ℕ → Type 0
+StopCame texts names a s w Stays new printed = (printed ≡ []) × CannotStop names w a s
+StopCame texts names a s w outcome new printed =
+    (at_stop names w a.slot s a.frame.state.stack ≡ None) × StopMade texts names a s w new printed
 
 -- what is unchanged where it can't be made; only where it goes on has its thread changed
 abbrev pub Unchanged : Outcome → CodeImage → Running → Running → Data → Data → Type 0
@@ -145,7 +146,7 @@ Unchanged Stays image old new before after = (slot_of image new ≡ slot_of imag
 Unchanged (Ends finish) image old new before after = slot_of image new ≡ slot_of image old
 
 -- a stop of the thread in a slot: what it came to, in each world that has what is shared
-pub record Stopped (text : List BareDef) (image : CodeImage) (slot : ℕ) (x : StopPlace) (old new : Running) (before after : Data)
+pub record Stopped (texts : List (List BareDef)) (names : Names) (image : CodeImage) (slot : ℕ) (x : StopPlace) (old new : Running) (before after : Data)
     (output_before output_after : List ℕ) (outcome : Outcome) : Type 0 where
   pub frame : CodeFrame
   pub below : List CodeFrame
@@ -154,13 +155,13 @@ pub record Stopped (text : List BareDef) (image : CodeImage) (slot : ℕ) (x : S
   pub output : output_after ≡ output_before ++ printed
   pub unchanged : Unchanged outcome image old new before after
   pub came : (w : CodeWorld) → w.shared ≡ before
-      → StopCame text (at slot old x frame below) (stop_of (words_of image) x.stop) w outcome
+      → StopCame texts names (at slot old x frame below) (stop_of (words_of image) x.stop) w outcome
       (settled outcome slot (slot_of image new) after w) printed
 
 -- the same of a stop that doesn't use what is shared, nor the slot of its thread
-abbrev pub StoppedAlone : List BareDef → CodeImage → StopPlace → Running → Running → Outcome → Type 0
-StoppedAlone text image x old new outcome =
-    (slot : ℕ) (d : Data) (output : List ℕ) → Stopped text image slot x old new d d output output outcome
+abbrev pub StoppedAlone : List (List BareDef) → Names → CodeImage → StopPlace → Running → Running → Outcome → Type 0
+StoppedAlone texts names image x old new outcome =
+    (slot : ℕ) (d : Data) (output : List ℕ) → Stopped texts names image slot x old new d d output output outcome
 
 -- an act changes no other thread
 abbrev pub IsAlone : Act → Type 0
@@ -179,8 +180,8 @@ pub record Lives (run : RunState) (slot : ℕ) (next : Next) : Type 0 where
   pub going : run.finish ≡ None
 
 -- it rests at a stop
-pub record LivesAt (functions : List CodeFunction) (run : RunState) (slot : ℕ) (x : StopPlace) : Type 0 where
+pub record LivesAt (functions : List CodeFunction) (callees : ℕ) (run : RunState) (slot : ℕ) (x : StopPlace) : Type 0 where
   pub running : Running
   pub there : slice_get run.slots.items slot ≡ Some running
-  pub rests : RestsAt functions running x
+  pub rests : RestsAt functions callees running x
   pub going : run.finish ≡ None

@@ -1,12 +1,15 @@
 //! Runs of compiled code, move by move: threads in slots, each with its frames, over what they share.
 //!
-//! A machine is made of the code of a text; then each step makes one move of one thread, exactly as runs of code are defined: an enter, a
-//! trap or a stop, and the private instructions up to the next one. It says where the thread can't move. All memory is taken when the
-//! machine is made, if what is printed is taken after each step.
+//! A machine is made of the code of all texts that a run may install, and begins with the first one. Each step makes one move of one
+//! thread, exactly as runs of code are defined: an enter, a trap or a stop, and the private instructions up to the next one. It says where
+//! the thread can't move. An install puts another text in force: frames go on in the code of their versions, a call enters the function of
+//! the text in force, and an object is brought to it before a stop uses a field. All memory is taken when the machine is made, but for what
+//! installs bring, if what is printed is taken after each step.
 //!
-//! Read `specs/Seen` (a machine as the definitions have it), `specs/Steps` (what a step comes to), `specs/Leading` (when it leads to a
-//! check-in), `specs/Enough` (when it is never out of memory) and `specs/Kept` (what always holds); then `running` (a slot with its thread), `state` and `machine` (what is kept),
-//! `stops` and `thread_stops` (what is done at stops), `moves` (a move), `calls` (what others call) and `queries`.
+//! Read `specs/Seen` (a machine as the definitions have it), `specs/Versions` (of which texts a run is), `specs/Steps` (what a step comes to),
+//! `specs/Leading` (when it leads to a check-in), `specs/Enough` and `specs/Used` (when it is never out of memory), `specs/Kept` and
+//! `specs/Keeping` (what always holds); then `running` (a slot with its thread), `state` and `machine` (what is kept), `stops` and
+//! `thread_stops` (what is done at stops), `moves` (a move), `calls` (what others call) and `queries`.
 #![tactic(auto)]
 
 mod calls;

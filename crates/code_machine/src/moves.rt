@@ -1,17 +1,20 @@
 //! A move of a thread.
-ghost use Rattle.std.specs.Prelude.{◌≡◌, ◌+◌, ◌≤◌, [], ◌∷◌, IfOk, IsOk, List, MatchOption, OnOk, length, true, vec_capacity, ℕ};
+ghost use Rattle.std.specs.Prelude.{◌≡◌, ◌+◌, ◌≤◌, [], ◌∷◌, IfOk, IsOk, List, MatchOption, OnOk, false, length, true, vec_capacity, ℕ};
 ghost use Rattle.c_tree.specs.BareDef.{BareDef};
 ghost use Rattle.local_evaluation.specs.Pieces.{stop_of};
 ghost use Rattle.resolved_tree.specs.Nodes.{Table};
+ghost use Rattle.code_runs.specs.CodeData.{Names};
 ghost use Rattle.code_runs.specs.CodeThreads.{CodeWorld as World};
 ghost use Rattle.code_runs.specs.CodeWaits.{Stays as CanNot};
 ghost use Rattle.thread_state.specs.declared.steps.End.TheVariants.{Rests as RestsEnd, Traps as TrapsEnd};
 ghost use Rattle.code_image.specs.declared.image.CodeImage.{CodeImage as Image};
-ghost use Rattle.code_image.specs.Images.{IsImage, names_of};
+ghost use Rattle.code_image.specs.Images.{names_in};
 ghost use Rattle.code_machine.specs.declared.running.Next.TheVariants.{Enters as EntersNext, Stands as StandsNext};
 ghost use Rattle.code_machine.specs.declared.running.Stand.TheVariants.{Live as LiveStand};
 ghost use Rattle.code_machine.specs.Enough.{HasEnough};
-ghost use Rattle.code_machine.specs.Kept.{AreKept};
+ghost use Rattle.code_machine.specs.Keeping.{Keeps, UsesNothing};
+ghost use Rattle.code_machine.specs.Kept.{IsKeptRun};
+ghost use Rattle.code_machine.specs.Versions.{IsReady, IsRunOf, texts_of};
 ghost use Rattle.code_machine.specs.Leading.{LeadsNext, Led, has_moved, stop_leads};
 ghost use Rattle.code_machine.specs.Seen.{world_of};
 ghost use Rattle.code_machine.specs.Steps.{StepsTo};
@@ -19,7 +22,7 @@ ghost use Rattle.code_machine.specs.Stops.{IsAlone, Lives, LivesAt};
 
 use crate::running::{Next, Running, Stand, innermost};
 use crate::state::{Finish, RunState};
-use crate::stops::{Outcome, Spot};
+use crate::stops::Outcome;
 use crate::thread_stops::{join, spawn};
 use code_image::{Act, CodeImage, StopPlace};
 use local_evaluation::Stop;
@@ -39,8 +42,8 @@ pub enum CodeStep {
 /// What came of a step, by whether the thread moved, and whether its move leads to a check-in.
 fn stepped(moved: bool, leads: bool) -> CodeStep
     ensures moved { has_moved result ≡ moved }
-    ensures led { (text : List BareDef) (image : Image) (w : World) (slot : ℕ) → LeadsNext text image w slot leads
-        → Led text image w slot result }
+    ensures led { (texts : List (List BareDef)) (names : Names) (image : Image) (w : World) (slot : ℕ) → LeadsNext texts names image w slot leads
+        → Led texts names image w slot result }
 {
     if moved {
         CodeStep::Moved(leads)
@@ -62,6 +65,7 @@ fn stop_leads(stop: Stop, is_called: bool) -> bool
 
 impl Running {
     /// What the thread that lives there does next, if one does.
+    #[inline(always)]
     fn next_if_live(&self) -> Option<Next>
         ensures { MatchOption result (self.now.stand ≡ LiveStand → ⊥) (λ next. (self.now.stand ≡ LiveStand) × (self.now.next ≡ next)) }
     {
@@ -74,9 +78,10 @@ impl Running {
 
 impl RunState {
     /// What the thread in a slot does next; none where none lives there, or where the run has ended.
+    #[inline(always)]
     fn next_in(&self, slot: u8) -> Option<Next>
         ensures { MatchOption result
-            ((text : List BareDef) (image : Image) → CanNot (text ∷ []) (names_of text) (world_of image self.now) slot)
+            ((texts : List (List BareDef)) (names : Names) (image : Image) → CanNot texts names (world_of image self.now) slot)
             (Lives self.now slot) }
     {
         if self.finish.is_some() {
@@ -91,12 +96,15 @@ impl RunState {
 }
 
 /// Makes the move of the thread in a slot, if it can be made.
+#[inline(always)]
 pub(crate) fn step(image: &CodeImage, run: &mut RunState, slot: u8) -> Result<CodeStep, AllocError>
-    requires { AreKept image.now.functions.items run.old.slots.items run.old.threads }
-    ensures kept { AreKept image.now.functions.items run.new.slots.items run.new.threads }
-    ensures came { (text : List BareDef) → IsImage text image.now
-        → IfOk result (λ step. StepsTo text image.now slot run.old run.new (has_moved step)) }
-    ensures led { (text : List BareDef) → IsImage text image.now → IfOk result (Led text image.now (world_of image.now run.old) slot) }
+    requires { IsKeptRun image.now run.old }
+    ensures keeps { Keeps image.now run.old run.new }
+    ensures stays { IfOk result (λ step. has_moved step ≡ false → UsesNothing run.old run.new) }
+    ensures came { (all : List (List BareDef)) → IsReady all image.now run.old slot
+        → IfOk result (λ step. StepsTo all image.now slot run.old run.new (has_moved step)) }
+    ensures led { (all : List (List BareDef)) → IsRunOf all image.now run.old
+        → IfOk result (Led (texts_of all run.old) (names_in all) image.now (world_of image.now run.old) slot) }
     ensures long { OnOk result (length run.new.output.items ≤ length run.old.output.items + image.now.longest_print) }
     ensures capacity { vec_capacity run.old.output ≤ vec_capacity run.new.output }
     ensures enough { HasEnough image.now run.old slot → IsOk result }
@@ -109,28 +117,37 @@ pub(crate) fn step(image: &CodeImage, run: &mut RunState, slot: u8) -> Result<Co
     }
 }
 
-/// A thread enters a function. Where it has as many frames as it may have, that traps.
+/// A thread enters a function, in the version in force. Where it has as many frames as it may have, that traps. It can't enter a function
+/// that the text in force doesn't have.
+#[inline(always)]
 fn enter(image: &CodeImage, run: &mut RunState, slot: u8, n: u32, count: usize) -> bool
-    requires kept { AreKept image.now.functions.items run.old.slots.items run.old.threads }
+    requires kept { IsKeptRun image.now run.old }
     requires lives { Lives run.old slot (EntersNext n count) }
-    ensures kept { AreKept image.now.functions.items run.new.slots.items run.new.threads }
-    ensures came { (text : List BareDef) → IsImage text image.now → StepsTo text image.now slot run.old run.new result }
+    ensures keeps { Keeps image.now run.old run.new }
+    ensures stays { result ≡ false → UsesNothing run.old run.new }
+    ensures came { (all : List (List BareDef)) → IsReady all image.now run.old slot → StepsTo all image.now slot run.old run.new result }
     ensures output { run.new.output ≡ run.old.output }
 {
     if run.slots[slot as usize].frames.is_full() {
         run.finish = Some(Finish::Trapped(TrapKind::Depth, slot));
         return true;
     }
-    run.slots[slot as usize].enter(image, n, count);
+    let Some(function) = image.body(run.in_force, n) else {
+        return false;
+    };
+    let version = run.versions.len() as u32;
+    run.slots[slot as usize].enter(image, version, function, n, count);
     true
 }
 
 /// An operator of a thread traps.
+#[inline(always)]
 fn trap(image: &CodeImage, run: &mut RunState, slot: u8, kind: TrapKind) -> bool
-    requires kept { AreKept image.now.functions.items run.old.slots.items run.old.threads }
+    requires kept { IsKeptRun image.now run.old }
     requires lives { Lives run.old slot (StandsNext (TrapsEnd kind)) }
-    ensures kept { AreKept image.now.functions.items run.new.slots.items run.new.threads }
-    ensures came { (text : List BareDef) → IsImage text image.now → StepsTo text image.now slot run.old run.new result }
+    ensures keeps { Keeps image.now run.old run.new }
+    ensures stays { result ≡ false → UsesNothing run.old run.new }
+    ensures came { (all : List (List BareDef)) → IsReady all image.now run.old slot → StepsTo all image.now slot run.old run.new result }
     ensures output { run.new.output ≡ run.old.output }
 {
     run.finish = Some(Finish::Trapped(kind, slot));
@@ -138,13 +155,16 @@ fn trap(image: &CodeImage, run: &mut RunState, slot: u8, kind: TrapKind) -> bool
 }
 
 /// A thread makes the stop at which its innermost frame rests.
+#[inline(always)]
 fn stop(image: &CodeImage, run: &mut RunState, slot: u8) -> Result<CodeStep, AllocError>
-    requires kept { AreKept image.now.functions.items run.old.slots.items run.old.threads }
+    requires kept { IsKeptRun image.now run.old }
     requires lives { Lives run.old slot (StandsNext RestsEnd) }
-    ensures kept { AreKept image.now.functions.items run.new.slots.items run.new.threads }
-    ensures came { (text : List BareDef) → IsImage text image.now
-        → IfOk result (λ step. StepsTo text image.now slot run.old run.new (has_moved step)) }
-    ensures led { (text : List BareDef) → IsImage text image.now → IfOk result (Led text image.now (world_of image.now run.old) slot) }
+    ensures keeps { Keeps image.now run.old run.new }
+    ensures stays { IfOk result (λ step. has_moved step ≡ false → UsesNothing run.old run.new) }
+    ensures came { (all : List (List BareDef)) → IsReady all image.now run.old slot
+        → IfOk result (λ step. StepsTo all image.now slot run.old run.new (has_moved step)) }
+    ensures led { (all : List (List BareDef)) → IsRunOf all image.now run.old
+        → IfOk result (Led (texts_of all run.old) (names_in all) image.now (world_of image.now run.old) slot) }
     ensures long { OnOk result (length run.new.output.items ≤ length run.old.output.items + image.now.longest_print) }
     ensures capacity { vec_capacity run.old.output ≤ vec_capacity run.new.output }
     ensures enough { HasEnough image.now run.old slot → IsOk result }
@@ -163,43 +183,60 @@ fn stop(image: &CodeImage, run: &mut RunState, slot: u8) -> Result<CodeStep, All
 }
 
 /// A thread makes a stop at which it rests. The answer is whether it can be made.
+#[inline(always)]
 fn make_stop(
     image: &CodeImage,
     run: &mut RunState,
     slot: u8,
-    stop: StopPlace,
+    stop: &StopPlace,
 ) -> Result<bool, AllocError>
-    requires kept { AreKept image.now.functions.items run.old.slots.items run.old.threads }
-    requires lives { LivesAt image.now.functions.items run.old slot stop }
-    ensures kept { AreKept image.now.functions.items run.new.slots.items run.new.threads }
-    ensures came { (text : List BareDef) → IsImage text image.now → IfOk result (StepsTo text image.now slot run.old run.new) }
+    requires kept { IsKeptRun image.now run.old }
+    requires lives { LivesAt image.now.functions.items (length image.now.callees.items) run.old slot stop.now }
+    ensures keeps { Keeps image.now run.old run.new }
+    ensures stays { IfOk result (λ moved. moved ≡ false → UsesNothing run.old run.new) }
+    ensures came { (all : List (List BareDef)) → IsReady all image.now run.old slot → IfOk result (StepsTo all image.now slot run.old run.new) }
     ensures long { OnOk result (length run.new.output.items ≤ length run.old.output.items + image.now.longest_print) }
     ensures capacity { vec_capacity run.old.output ≤ vec_capacity run.new.output }
     ensures enough { HasEnough image.now run.old slot → IsOk result }
 {
     let act = stop.act;
-    let spot = Spot { slot, stop };
     match act {
-        Act::Spawn(n) => spawn(image, run, spot, n),
-        Act::Join => Ok(join(image, run, spot)),
-        _ => alone(image, run, spot, act),
+        Act::Spawn(n) => spawn(image, run, slot, stop, n),
+        Act::Join => Ok(join(image, run, slot, stop)),
+        _ => alone(image, run, slot, stop, act),
     }
 }
 
 /// A thread makes a stop that changes no other thread.
-fn alone(image: &CodeImage, run: &mut RunState, spot: Spot, act: Act) -> Result<bool, AllocError>
-    requires kept { AreKept image.now.functions.items run.old.slots.items run.old.threads }
-    requires lives { LivesAt image.now.functions.items run.old spot.slot spot.stop }
-    requires act { spot.stop.act ≡ act }
+#[inline(always)]
+fn alone(
+    image: &CodeImage,
+    run: &mut RunState,
+    slot: u8,
+    stop: &StopPlace,
+    act: Act,
+) -> Result<bool, AllocError>
+    requires kept { IsKeptRun image.now run.old }
+    requires lives { LivesAt image.now.functions.items (length image.now.callees.items) run.old slot stop.now }
+    requires act { stop.now.act ≡ act }
     requires alone { IsAlone act }
-    ensures kept { AreKept image.now.functions.items run.new.slots.items run.new.threads }
-    ensures came { (text : List BareDef) → IsImage text image.now → IfOk result (StepsTo text image.now spot.slot run.old run.new) }
+    ensures keeps { Keeps image.now run.old run.new }
+    ensures stays { IfOk result (λ moved. moved ≡ false → UsesNothing run.old run.new) }
+    ensures came { (all : List (List BareDef)) → IsReady all image.now run.old slot → IfOk result (StepsTo all image.now slot run.old run.new) }
     ensures long { OnOk result (length run.new.output.items ≤ length run.old.output.items + image.now.longest_print) }
     ensures capacity { vec_capacity run.old.output ≤ vec_capacity run.new.output }
-    ensures enough { HasEnough image.now run.old spot.slot → IsOk result }
+    ensures enough { HasEnough image.now run.old slot → IsOk result }
 {
-    let running = &mut run.slots[spot.slot as usize];
-    match running.make(image, spot, act, &mut run.shared, &mut run.output)? {
+    let running = &mut run.slots[slot as usize];
+    match running.make(
+        image,
+        slot,
+        stop,
+        act,
+        &run.layouts,
+        &mut run.shared,
+        &mut run.output,
+    )? {
         Outcome::Goes => Ok(true),
         Outcome::Stays => Ok(false),
         Outcome::Ends(finish) => {

@@ -1,20 +1,22 @@
 //! What is asked of a run. `is_live` and `in_transaction` hold of each; so do the others, but where a thread has trapped they say where it
 //! was then.
-ghost use Rattle.std.specs.Prelude.{◌≡◌, ◌<◌, [], ◌∷◌, List, MatchOption, false, length, option_map, slice_get, ℕ};
+ghost use Rattle.std.specs.Prelude.{◌≡◌, ◌<◌, [], ◌∷◌, List, MatchOption, None, false, length, option_map, slice_get, ℕ};
 ghost use Rattle.c_tree.specs.BareDef.{BareDef};
 ghost use Rattle.source_model.specs.Waits.{held_by};
 ghost use Rattle.resolved_tree.specs.Nodes.{Table, word};
 ghost use Rattle.local_evaluation.specs.Pieces.{stop_of};
+ghost use Rattle.code_runs.specs.CodeData.{Names};
 ghost use Rattle.code_runs.specs.CodeThreads.{CodeFrame, CodeWorld as World, Live as IsLive};
 ghost use Rattle.code_runs.specs.CodeWaits.{at_stop, in_slot, joined, joined_from};
 ghost use Rattle.word_data.specs.declared.stop.SharedStop.TheVariants.{Lock as LockStop};
 ghost use Rattle.word_frames.specs.Seen.{IsKept, depth_of, frames_below, innermost, stack_of};
 ghost use Rattle.code_image.specs.declared.act.Act.TheVariants.{Shared as SharedAct};
 ghost use Rattle.code_image.specs.Acts.{Acts, named};
-ghost use Rattle.code_image.specs.Images.{IsImage, names_of};
-ghost use Rattle.code_machine.specs.Kept.{Fits};
+ghost use Rattle.code_image.specs.Images.{names_in};
+ghost use Rattle.code_machine.specs.Kept.{FitsImage};
+ghost use Rattle.code_machine.specs.Versions.{IsMachineOf, RunsCode, texts_by, texts_of};
 ghost use Rattle.code_machine.specs.Seen.{code_world, finish_of, image_of, thread_of, words_of};
-ghost use Rattle.code_machine.specs.Queries.{HasNoStop, IsNextStop, LivesIn, RestsIn, WaitsFor, entered_by, entering_in, frames_in, in_transaction, is_live, place_of, place_seen, waiting_of};
+ghost use Rattle.code_machine.specs.Queries.{HasNoStop, IsHeld, IsNextStop, LivesIn, NeverWaits, RestsIn, WaitsFor, entered_by, entering_in, frames_in, in_transaction, is_live, place_of, place_seen, waiting_of};
 
 use crate::machine::CodeMachine;
 use crate::running::{Next, Running, Stand, innermost};
@@ -77,30 +79,49 @@ fn held_by(slot: u8, holder: Option<u8>, name: Word) -> Option<CodeWait>
     }
 }
 
+/// The word with a number.
+fn word_at(words: &[Word], n: u32) -> Option<Word>
+    ensures { result ≡ slice_get words.now n }
+{
+    words.get(n as usize).copied()
+}
+
+/// Whether an act may wait: a lock or a join.
+#[inline(always)]
+fn may_wait(act: Act) -> bool
+    ensures { result ≡ false → NeverWaits act }
+{
+    match act {
+        Act::Shared(SharedStop::Lock(_)) | Act::Join => true,
+        _ => false,
+    }
+}
+
 impl Running {
     /// The function of the enter that is due, if one is.
     fn entering(&self, image: &CodeImage) -> Option<Word>
-        requires { Fits image.now.functions.items self.now }
+        requires { FitsImage image.now self.now }
         ensures { option_map (word (words_of image.now)) result ≡ entered_by (thread_of image.now self.now).next }
     {
         match self.next {
-            Next::Enters(n, _) => Some(image.function(n).name),
+            Next::Enters(n, _) => word_at(image.callees.as_slice(), n),
             Next::Stands(_) => None,
         }
     }
 
     /// The stop at which the innermost frame rests, if it rests at one.
+    #[inline(always)]
     fn next_stop(&self, image: &CodeImage) -> Option<StopPlace>
-        requires { Fits image.now.functions.items self.now }
-        ensures { (text : List BareDef) → IsImage text image.now → (w : World) (slot : ℕ)
+        requires { FitsImage image.now self.now }
+        ensures { (all : List (List BareDef)) (versions : List ℕ) → RunsCode all versions image.now self.now → (w : World) (slot : ℕ)
             → in_slot w slot ≡ IsLive (thread_of image.now self.now)
-            → MatchOption result (HasNoStop text w slot) (IsNextStop text image.now w slot) }
+            → MatchOption result (HasNoStop (texts_by all versions) w slot) (IsNextStop (texts_by all versions) (names_in all) image.now w slot) }
     {
         match self.next {
             Next::Stands(end) => match end {
                 End::Rests => {
                     let frame = innermost(&self.frames);
-                    image.function(frame.unit).stop_at(frame.place)
+                    image.function(frame.unit).stop_at(frame.place).copied()
                 }
                 End::Traps(_) => None,
             },
@@ -141,6 +162,7 @@ impl CodeMachine {
     }
 
     /// Whether a thread lives in a slot.
+    #[inline(always)]
     pub fn is_live(&self, slot: u8) -> bool
         ensures { result ≡ is_live (in_slot (code_world self.now) slot) }
     {
@@ -180,9 +202,11 @@ impl CodeMachine {
     }
 
     /// The stop at which the innermost frame of the thread in a slot rests, if it rests at one.
+    #[inline(always)]
     pub fn next_stop(&self, slot: u8) -> Option<StopPlace>
-        ensures { (text : List BareDef) → IsImage text (image_of self.now) → MatchOption result
-            (HasNoStop text (code_world self.now) slot) (IsNextStop text (image_of self.now) (code_world self.now) slot) }
+        ensures { (all : List (List BareDef)) → IsMachineOf all self.now → MatchOption result
+            (HasNoStop (texts_of all self.now.run) (code_world self.now) slot)
+            (IsNextStop (texts_of all self.now.run) (names_in all) (image_of self.now) (code_world self.now) slot) }
     {
         match self.live(slot) {
             Some(running) => running.next_stop(&self.image),
@@ -190,10 +214,41 @@ impl CodeMachine {
         }
     }
 
+    /// Whether the thread in a slot waits. It takes a few instructions where it rests neither at a lock nor at a join.
+    #[inline(always)]
+    pub fn is_held(&self, slot: u8) -> bool
+        ensures { (all : List (List BareDef)) → IsMachineOf all self.now → IsHeld (texts_of all self.now.run) (names_in all) (code_world self.now) slot result }
+    {
+        if self.may_wait(slot) {
+            self.is_held_there(slot)
+        } else {
+            false
+        }
+    }
+
+    /// The same of a thread that may rest at a lock or a join.
+    fn is_held_there(&self, slot: u8) -> bool
+        ensures { (all : List (List BareDef)) → IsMachineOf all self.now → IsHeld (texts_of all self.now.run) (names_in all) (code_world self.now) slot result }
+    {
+        self.waits(slot).is_some()
+    }
+
+    /// Whether the thread in a slot rests at a stop that may wait: at a lock or a join.
+    #[inline(always)]
+    fn may_wait(&self, slot: u8) -> bool
+        ensures { (all : List (List BareDef)) → IsMachineOf all self.now → result ≡ false
+            → WaitsFor (texts_of all self.now.run) (names_in all) (code_world self.now) slot None }
+    {
+        match self.next_stop(slot) {
+            Some(stop) => may_wait(stop.act),
+            None => false,
+        }
+    }
+
     /// What the thread in a slot waits for, if it waits.
     pub fn waits(&self, slot: u8) -> Option<CodeWait>
-        ensures { (text : List BareDef) → IsImage text (image_of self.now)
-            → WaitsFor text (code_world self.now) slot (option_map (waiting_of (words_of (image_of self.now))) result) }
+        ensures { (all : List (List BareDef)) → IsMachineOf all self.now →
+            WaitsFor (texts_of all self.now.run) (names_in all) (code_world self.now) slot (option_map (waiting_of (words_of (image_of self.now))) result) }
     {
         match self.next_stop(slot) {
             Some(stop) => self.waits_at(slot, stop),
@@ -202,6 +257,7 @@ impl CodeMachine {
     }
 
     /// The thread in a slot, if one lives there.
+    #[inline(always)]
     fn live(&self, slot: u8) -> Option<&Running>
         ensures { MatchOption result (is_live (in_slot (code_world self.now) slot) ≡ false) (λ r. LivesIn self.now slot r.now) }
     {
@@ -216,8 +272,8 @@ impl CodeMachine {
 
     /// What a thread waits for at the stop at which it rests.
     fn waits_at(&self, slot: u8, stop: StopPlace) -> Option<CodeWait>
-        ensures { (text : List BareDef) → IsNextStop text (image_of self.now) (code_world self.now) slot stop
-            → WaitsFor text (code_world self.now) slot (option_map (waiting_of (words_of (image_of self.now))) result) }
+        ensures { (texts : List (List BareDef)) (names : Names) → IsNextStop texts names (image_of self.now) (code_world self.now) slot stop
+            → WaitsFor texts names (code_world self.now) slot (option_map (waiting_of (words_of (image_of self.now))) result) }
     {
         let StopPlace { stop, act, .. } = stop;
         match act {
@@ -229,9 +285,9 @@ impl CodeMachine {
 
     /// What a stop on what threads share waits for.
     fn held_for(&self, slot: u8, stop: Stop, shared: SharedStop) -> Option<CodeWait>
-        ensures { let t = words_of (image_of self.now) in (text : List BareDef) (stack : List ℕ)
-            → Acts t (names_of text) text (named t (image_of self.now).functions.items) (stop_of t stop) (SharedAct shared)
-            → option_map (waiting_of t) result ≡ at_stop (names_of text) (code_world self.now) slot (stop_of t stop) stack }
+        ensures { let t = words_of (image_of self.now) in (names : Names) (text : List BareDef) (stack : List ℕ)
+            → Acts t names text (named t (image_of self.now).callees.items) (stop_of t stop) (SharedAct shared)
+            → option_map (waiting_of t) result ≡ at_stop names (code_world self.now) slot (stop_of t stop) stack }
     {
         match shared {
             SharedStop::Lock(n) => self.locked(slot, stop, n),
@@ -241,9 +297,9 @@ impl CodeMachine {
 
     /// The mutex that a lock of the one with a number waits for: another thread holds it.
     fn locked(&self, slot: u8, stop: Stop, n: u32) -> Option<CodeWait>
-        ensures { let t = words_of (image_of self.now) in (text : List BareDef) (stack : List ℕ)
-            → Acts t (names_of text) text (named t (image_of self.now).functions.items) (stop_of t stop) (SharedAct (LockStop n))
-            → option_map (waiting_of t) result ≡ at_stop (names_of text) (code_world self.now) slot (stop_of t stop) stack }
+        ensures { let t = words_of (image_of self.now) in (names : Names) (text : List BareDef) (stack : List ℕ)
+            → Acts t names text (named t (image_of self.now).callees.items) (stop_of t stop) (SharedAct (LockStop n))
+            → option_map (waiting_of t) result ≡ at_stop names (code_world self.now) slot (stop_of t stop) stack }
     {
         match stop {
             Stop::Lock(name) => held_by(slot, self.run.shared.holder(n), name),

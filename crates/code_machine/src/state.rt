@@ -2,6 +2,7 @@
 use crate::running::Running;
 use run_types::TrapKind;
 use word_data::WordData;
+use word_layouts::WordLayouts;
 
 /// How a run has ended.
 #[derive(Clone, Copy, Debug, PartialEq, Eq)]
@@ -22,4 +23,10 @@ pub(crate) struct RunState {
     pub finish: Option<Finish>,
     /// What was printed and not taken yet.
     pub output: Vec<u8>,
+    /// The numbers of the texts of the versions so far.
+    pub versions: Vec<u32>,
+    /// That of the version in force.
+    pub in_force: u32,
+    /// What brings objects to the layouts of newer versions.
+    pub layouts: WordLayouts,
 }

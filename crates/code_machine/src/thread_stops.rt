@@ -1,5 +1,5 @@
 //! Stops that change other threads: one starts, or is joined.
-ghost use Rattle.std.specs.Prelude.{◌≡◌, ◌<◌, ◌≤◌, IfOk, IfSome, IsOk, IsTrue, List, length, map, option_map, slice_get, Some, ℕ};
+ghost use Rattle.std.specs.Prelude.{◌≡◌, ◌<◌, ◌≤◌, IfOk, IfSome, IsOk, IsTrue, List, false, length, map, option_map, slice_get, Some, ℕ};
 ghost use Rattle.std.specs.List.{position};
 ghost use Rattle.c_tree.specs.BareDef.{BareDef};
 ghost use Rattle.source_model.specs.Waits.{ForThread};
@@ -9,19 +9,19 @@ ghost use Rattle.code_runs.specs.CodeMoves.{is_free, left_from, left_in};
 ghost use Rattle.code_runs.specs.CodeWaits.{joined_from, lives_as};
 ghost use Rattle.code_image.specs.declared.act.Act.TheVariants.{Join as JoinAct, Spawn as SpawnAct};
 ghost use Rattle.code_image.specs.declared.image.CodeImage.{CodeImage as Image};
-ghost use Rattle.code_image.specs.Images.{IsImage};
 ghost use Rattle.code_machine.specs.declared.running.Running.{Running as Slot};
 ghost use Rattle.code_machine.specs.declared.running.Stand.TheVariants.{Free as FreeStand, Over as OverStand};
-ghost use Rattle.code_machine.specs.Kept.{AreKept, most_threads};
+ghost use Rattle.code_machine.specs.Keeping.{Keeps, UsesNothing};
+ghost use Rattle.code_machine.specs.Kept.{IsKeptRun, most_threads};
+ghost use Rattle.code_machine.specs.Versions.{IsReady, IsRunOf, texts_of};
 ghost use Rattle.code_machine.specs.Seen.{slot_of, world_of};
 ghost use Rattle.code_machine.specs.Steps.{StepsTo};
 ghost use Rattle.code_machine.specs.Stops.{LivesAt};
 ghost use Rattle.code_machine.specs.ThreadStops.{Started, StartedIn, Took};
 
-use crate::running::{Running, Stand};
+use crate::running::{Running, Stand, innermost};
 use crate::state::{Finish, RunState};
-use crate::stops::Spot;
-use code_image::CodeImage;
+use code_image::{CodeImage, StopPlace};
 use run_types::TrapKind;
 use std::alloc::AllocError;
 
@@ -130,15 +130,16 @@ fn put(
     image: &CodeImage,
     run: &mut RunState,
     place: usize,
+    version: u32,
     function: u32,
     argument: u64,
 ) -> Result<u64, AllocError>
-    requires kept { AreKept image.now.functions.items run.old.slots.items run.old.threads }
-    requires inside { function < length image.now.functions.items }
+    requires kept { IsKeptRun image.now run.old }
+    requires inside { function < length image.now.callees.items }
     requires there { place < length run.old.slots.items }
     requires free { (r : Slot) → slice_get run.old.slots.items place ≡ Some r → r.stand ≡ FreeStand }
-    ensures kept { AreKept image.now.functions.items run.new.slots.items run.new.threads }
-    ensures started { IfOk result (StartedIn image.now run.old run.new function argument place) }
+    ensures keeps { Keeps image.now run.old run.new }
+    ensures started { IfOk result (StartedIn image.now run.old run.new version function argument place) }
     ensures output { run.new.output ≡ run.old.output }
     ensures enough { run.old.threads < most_threads → IsOk result }
 {
@@ -146,7 +147,7 @@ fn put(
         return Err(AllocError);
     }
     let serial = run.threads;
-    run.slots[place].start(serial, function, argument);
+    run.slots[place].start(serial, version, function, argument);
     run.threads = serial + 1;
     Ok(thread_word(place, serial))
 }
@@ -155,18 +156,19 @@ fn put(
 fn start(
     image: &CodeImage,
     run: &mut RunState,
+    version: u32,
     function: u32,
     argument: u64,
 ) -> Result<u64, AllocError>
-    requires kept { AreKept image.now.functions.items run.old.slots.items run.old.threads }
-    requires inside { function < length image.now.functions.items }
-    ensures kept { AreKept image.now.functions.items run.new.slots.items run.new.threads }
-    ensures started { IfOk result (Started image.now run.old run.new function argument (position is_free (world_of image.now run.old).slots)) }
+    requires kept { IsKeptRun image.now run.old }
+    requires inside { function < length image.now.callees.items }
+    ensures keeps { Keeps image.now run.old run.new }
+    ensures started { IfOk result (Started image.now run.old run.new version function argument (position is_free (world_of image.now run.old).slots)) }
     ensures output { run.new.output ≡ run.old.output }
     ensures enough { run.old.threads < most_threads → IsOk result }
 {
     match free_slot(run.slots.as_slice()) {
-        Some(place) => put(image, run, place, function, argument),
+        Some(place) => put(image, run, place, version, function, argument),
         None => Ok(0),
     }
 }
@@ -176,57 +178,61 @@ fn start(
 pub(crate) fn spawn(
     image: &CodeImage,
     run: &mut RunState,
-    spot: Spot,
+    slot: u8,
+    stop: &StopPlace,
     function: u32,
 ) -> Result<bool, AllocError>
-    requires kept { AreKept image.now.functions.items run.old.slots.items run.old.threads }
-    requires lives { LivesAt image.now.functions.items run.old spot.slot spot.stop }
-    requires act { spot.stop.act ≡ SpawnAct function }
-    ensures kept { AreKept image.now.functions.items run.new.slots.items run.new.threads }
-    ensures came { (text : List BareDef) → IsImage text image.now → IfOk result (StepsTo text image.now spot.slot run.old run.new) }
+    requires kept { IsKeptRun image.now run.old }
+    requires lives { LivesAt image.now.functions.items (length image.now.callees.items) run.old slot stop.now }
+    requires act { stop.now.act ≡ SpawnAct function }
+    ensures keeps { Keeps image.now run.old run.new }
+    ensures stays { IfOk result (λ moved. moved ≡ false → UsesNothing run.old run.new) }
+    ensures came { (all : List (List BareDef)) → IsReady all image.now run.old slot → IfOk result (StepsTo all image.now slot run.old run.new) }
     ensures output { run.new.output ≡ run.old.output }
     ensures enough { run.old.threads < most_threads → IsOk result }
 {
-    let slot = spot.slot as usize;
-    let argument = run.slots[slot].frames.newest();
-    let word = start(image, run, function, argument)?;
-    run.slots[slot].answer(image, spot.stop, word);
+    let frames = &run.slots[slot as usize].frames;
+    let version = innermost(frames).version;
+    let argument = frames.newest();
+    let word = start(image, run, version, function, argument)?;
+    run.slots[slot as usize].answer(image, stop, word);
     Ok(true)
 }
 
 /// Joins the thread of the newest word: the word that it left comes in place of that, and its slot is free. It waits while the
 /// thread lives, and traps where it was joined, or where the word is of none.
-pub(crate) fn join(image: &CodeImage, run: &mut RunState, spot: Spot) -> bool
-    requires kept { AreKept image.now.functions.items run.old.slots.items run.old.threads }
-    requires lives { LivesAt image.now.functions.items run.old spot.slot spot.stop }
-    requires act { spot.stop.act ≡ JoinAct }
-    ensures kept { AreKept image.now.functions.items run.new.slots.items run.new.threads }
-    ensures came { (text : List BareDef) → IsImage text image.now → StepsTo text image.now spot.slot run.old run.new result }
+pub(crate) fn join(image: &CodeImage, run: &mut RunState, slot: u8, stop: &StopPlace) -> bool
+    requires kept { IsKeptRun image.now run.old }
+    requires lives { LivesAt image.now.functions.items (length image.now.callees.items) run.old slot stop.now }
+    requires act { stop.now.act ≡ JoinAct }
+    ensures keeps { Keeps image.now run.old run.new }
+    ensures stays { result ≡ false → UsesNothing run.old run.new }
+    ensures came { (all : List (List BareDef)) → IsReady all image.now run.old slot → StepsTo all image.now slot run.old run.new result }
     ensures output { run.new.output ≡ run.old.output }
 {
-    let word = run.slots[spot.slot as usize].frames.newest();
+    let word = run.slots[slot as usize].frames.newest();
     if live_slot(run.slots.as_slice(), word).is_some() {
         return false;
     }
     match left_slot(run.slots.as_slice(), word) {
-        Some(left) => take(image, run, spot, left.place, left.word),
-        None => run.finish = Some(Finish::Trapped(TrapKind::Join, spot.slot)),
+        Some(left) => take(image, run, slot, stop, left.place, left.word),
+        None => run.finish = Some(Finish::Trapped(TrapKind::Join, slot)),
     }
     true
 }
 
 /// Takes the word that a thread left, which comes in place of the newest one, and makes the thread's slot free.
-fn take(image: &CodeImage, run: &mut RunState, spot: Spot, place: usize, left: u64)
-    requires kept { AreKept image.now.functions.items run.old.slots.items run.old.threads }
-    requires lives { LivesAt image.now.functions.items run.old spot.slot spot.stop }
-    requires act { spot.stop.act ≡ JoinAct }
+fn take(image: &CodeImage, run: &mut RunState, slot: u8, stop: &StopPlace, place: usize, left: u64)
+    requires kept { IsKeptRun image.now run.old }
+    requires lives { LivesAt image.now.functions.items (length image.now.callees.items) run.old slot stop.now }
+    requires act { stop.now.act ≡ JoinAct }
     requires there { place < length run.old.slots.items }
     requires over { (r : Slot) → slice_get run.old.slots.items place ≡ Some r → r.stand ≡ OverStand left }
-    ensures kept { AreKept image.now.functions.items run.new.slots.items run.new.threads }
-    ensures taken { (text : List BareDef) (r : Slot) → IsImage text image.now → slice_get run.old.slots.items spot.slot ≡ Some r
-        → Took text image.now r run.old run.new spot.slot spot.stop place left }
+    ensures keeps { Keeps image.now run.old run.new }
+    ensures taken { (all : List (List BareDef)) (r : Slot) → IsRunOf all image.now run.old → slice_get run.old.slots.items slot ≡ Some r
+        → Took (texts_of all run.old) image.now r run.old run.new slot stop.now place left }
     ensures output { run.new.output ≡ run.old.output }
 {
     run.slots[place].stand = Stand::Free;
-    run.slots[spot.slot as usize].answer(image, spot.stop, left);
+    run.slots[slot as usize].answer(image, stop, left);
 }

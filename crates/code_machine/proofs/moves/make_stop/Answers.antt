@@ -7,5 +7,5 @@ alone-requires c = record {
   kept = c.requires.kept;
   lives = c.requires.lives;
   act = refl;
-  alone = is_alone c.args.stop.act c.in_default.not-Spawn c.in_default.not-Join;
+  alone = is_alone c.args.stop.now.act c.in_default.not-Spawn c.in_default.not-Join;
 }

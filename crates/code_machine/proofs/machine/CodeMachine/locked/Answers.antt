@@ -9,18 +9,17 @@ use Rattle.word_data.specs.declared.stop.SharedStop.TheVariants.{Lock}
 use Rattle.code_runs.specs.CodeWaits.{at_stop}
 use Rattle.code_image.specs.declared.act.Act.TheVariants.{Shared}
 use Rattle.code_image.specs.Acts.{Acts, named}
-use Rattle.code_image.specs.Images.{names_of}
 use Rattle.code_machine.specs.Queries.{waiting_of}
 use Rattle.code_machine.specs.Seen.{code_world, words_of}
 use Rattle.code_machine.proofs.machine.CodeMachine.locked.Goals as goal
 
 pub returns-in-Lock : goal.returns-in-Lock
-returns-in-Lock c = λ text stack.
+returns-in-Lock c = λ names text stack.
     let image = c.args.self.now.image in
     let w = code_world c.args.self.now in
     let t = words_of image in
     let slot = c.args.slot in
     let name = c.in-Lock.name in
-    subst (λ (s : Stop). Acts t (names_of text) text (named t image.functions.items) (stop_of t s) (Shared (Lock c.args.n))
-    → option_map (waiting_of t) c.held_by.result ≡ at_stop (names_of text) w slot (stop_of t s) stack) (sym c.in-Lock.is)
+    subst (λ (s : Stop). Acts t names text (named t image.callees.items) (stop_of t s) (Shared (Lock c.args.n))
+    → option_map (waiting_of t) c.held_by.result ≡ at_stop names w slot (stop_of t s) stack) (sym c.in-Lock.is)
     (λ a. c.held_by.ensures t ∙ ap (held_by (word t name) slot) (c.holder.ensures ∙ ap (holder_of w.shared.holders) a))

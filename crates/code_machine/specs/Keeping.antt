@@ -1,0 +1,20 @@
+-- What a step keeps of a run, whatever its texts are.
+use Rattle.std.specs.Prelude.{◌≡◌, ℕ, ◌+◌, List}
+use Rattle.c_tree.specs.BareDef.{BareDef}
+use Rattle.code_image.specs.declared.image.CodeImage.{CodeImage}
+use Rattle.code_machine.specs.declared.state.RunState.{RunState}
+use Rattle.code_machine.specs.Kept.{IsKeptRun}
+use Rattle.code_machine.specs.Used.{HasUsed}
+use Rattle.code_machine.specs.Versions.{IsRunOf, SameVersions}
+
+-- its slots fit the code, it stays one of the same texts and in the same versions, and one more of its numbers is used at most
+pub record Keeps (image : CodeImage) (old new : RunState) : Type 0 where
+  pub kept : IsKeptRun image new
+  pub run : (all : List (List BareDef)) → IsRunOf all image old → IsRunOf all image new
+  pub same : SameVersions old new
+  pub used : (n : ℕ) → HasUsed n old → HasUsed (1 + n) new
+
+-- a step that can't move prints nothing, and uses none
+pub record UsesNothing (old new : RunState) : Type 0 where
+  pub output : new.output ≡ old.output
+  pub used : (n : ℕ) → HasUsed n old → HasUsed n new
