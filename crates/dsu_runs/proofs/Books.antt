@@ -7,7 +7,7 @@ use Rattle.std.proofs.lemmas.Bool.{true≢false}
 use Rattle.std.proofs.lemmas.Bool.Decides.{nat_tests}
 use Rattle.std.proofs.lemmas.List.{append-nil, append_assoc, length-map, length-replicate, map-set}
 use Rattle.std.proofs.lemmas.List.Folds.{find-append, list_any-append}
-use Rattle.std.proofs.lemmas.Option.{none-some, same_Some, slice_get-map}
+use Rattle.std.proofs.lemmas.Option.{none-some, same_Some, slice_get-map, slice_get_past}
 use Rattle.c_tree.specs.BareExpr.{Bytes}
 use Rattle.source_model.specs.declared.answer.OfferAnswer.{OfferAnswer}
 use Rattle.source_model.specs.declared.answer.OfferAnswer.TheVariants as ids
@@ -131,6 +131,26 @@ not_due setup g names book b other = sym (by (g.closed == g.greatest) (is_reache
     by : (x y : Bool) → (g.closed == g.greatest) ≡ x → (if x && y then Some (suc g.greatest) else None) ≡ None
     by false y is = refl
     by true y is = absurd (other (b.closed ∙ same g.closed g.greatest is ∙ sym b.greatest))
+
+-- past the last offer there is none
+pub none_more : (setup : Setup) (g : Guard) (names : List Bytes) (book : Entries) (written : ℕ) (all : Bool) → IsBook setup g names book
+    → written ≡ lines_written g.world → all ≡ (book.greatest == length book.lines) → all ≡ true → None ≡ due setup g
+none_more setup g names book written all b is tested offered =
+    sym (ap (λ y. if (g.closed == g.greatest) && y then Some (suc g.greatest) else None) never ∙ off (g.closed == g.greatest))
+  where
+    same : (m n k : ℕ) → (m == n) ≡ true → m ≡ k → n ≤ suc k - 1
+    same m n k e f = grind (arith, nat_tests, e, f)
+
+    never : is_reached g (offer_at setup (suc g.greatest)) ≡ false
+    never =
+        sym (reached setup g names book (suc g.greatest) written b is (λ e. omega (arith, e)))
+        ∙ ap (reached_by written)
+        (slice_get_past book.lines (suc g.greatest - 1)
+        (same book.greatest (length book.lines) g.greatest (sym tested ∙ offered) b.greatest))
+
+    off : (x : Bool) → (if x && false then Some (suc g.greatest) else None) ≡ None
+    off true = refl
+    off false = refl
 
 pub due_by : (setup : Setup) (g : Guard) (names : List Bytes) (book : Entries) (next : ℕ) (there : Bool) → IsBook setup g names book
     → book.closed ≡ book.greatest → next ≡ book.greatest + 1 → there ≡ is_reached g (offer_at setup next)

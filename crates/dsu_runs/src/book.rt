@@ -1,5 +1,5 @@
 //! The offers of a run.
-ghost use Rattle.std.specs.Prelude.{◌≡◌, ◌<◌, ◌≤◌, List, length, map, true, IfOk, Some, if◌then◌else◌};
+ghost use Rattle.std.specs.Prelude.{◌≡◌, ◌==◌, ◌<◌, ◌≤◌, List, length, map, true, IfOk, Some, if◌then◌else◌};
 ghost use Rattle.c_tree.specs.BareExpr.{Bytes};
 ghost use Rattle.source_model.specs.Answers.{Answer, answer_seen};
 ghost use Rattle.source_model.specs.Guards.{Guard, Setup, answered, can_open, first_guard, is_open, is_reached, lines_written, offer_at};
@@ -84,6 +84,9 @@ impl Book {
         ensures { (setup : Setup) (g : Guard) (names : List Bytes) → IsBook setup g names self.now
             → written ≡ lines_written g.world → result ≡ due setup g }
     {
+        if self.are_all_offered() {
+            return None;
+        }
         if self.closed != self.greatest {
             return None;
         }
@@ -151,6 +154,14 @@ impl Book {
         ensures { result.items ≡ self.answers }
     {
         self.answers
+    }
+
+    /// Whether the last offer was offered.
+    #[inline(always)]
+    fn are_all_offered(&self) -> bool
+        ensures { result ≡ (self.now.greatest == length self.now.lines) }
+    {
+        self.greatest as usize == self.lines.len()
     }
 
     /// Whether there is an offer of that number for which so many written lines are enough.

@@ -61,6 +61,7 @@ pub fn solo<E: Engine>(alloc: Global, engine: E, moves: u32) -> Ran<E>
 impl<E: Engine> SoloRun<E> {
     /// The next event of a run that hasn't ended. Without a move left a run goes on only where it is stuck: its offers are
     /// still answered.
+    #[inline(always)]
     fn act(&mut self) -> Step
         requires room { length self.old.running.history.items < vec_capacity self.old.running.history }
         ensures turned { (setup : Setup) (g : Guard) → E.is_at setup g self.old.running.engine
@@ -108,6 +109,7 @@ impl<E: Engine> SoloRun<E> {
     }
 
     /// Opens the offer that is due, if one is; else a thread acts, if a move is left and one can.
+    #[inline(always)]
     fn open_or_act(&mut self) -> Step
         requires room { length self.old.running.history.items < vec_capacity self.old.running.history }
         ensures turned { (setup : Setup) (g : Guard) → GoesAt (E.is_at setup) g self.old.running.engine
@@ -127,6 +129,7 @@ impl<E: Engine> SoloRun<E> {
     }
 
     /// The first of the slots in order after the one that acted last acts, if one can.
+    #[inline(always)]
     fn act_in_turn(&mut self) -> Step
         requires left { 0 < self.old.left }
         requires room { length self.old.running.history.items < vec_capacity self.old.running.history }
@@ -142,6 +145,7 @@ impl<E: Engine> SoloRun<E> {
     }
 
     /// Makes what the thread in a slot can do.
+    #[inline(always)]
     fn make_act(&mut self, event: Event) -> Step
         requires left { 0 < self.old.left }
         requires room { length self.old.running.history.items < vec_capacity self.old.running.history }
@@ -149,7 +153,7 @@ impl<E: Engine> SoloRun<E> {
             → act_of g slot ≡ Some event → Turned (E.is_at setup) E.told setup g (Some event) self.old self.new result }
         ensures kept { Keeps E.faults self.old self.new result }
     {
-        let step = self.running.make(event);
+        let step = self.running.make_inlined(event);
         match step {
             Step::Done | Step::SinkFailed => self.follow(event),
             Step::CannotHappen | Step::Memory | Step::Misused | Step::UndefinedName => {}
@@ -158,6 +162,7 @@ impl<E: Engine> SoloRun<E> {
     }
 
     /// Keeps which slot acted, and how many moves are left, after an event that was made.
+    #[inline(always)]
     fn follow(&mut self, event: Event)
         requires { 0 < self.old.left }
         ensures { self.new ≡ followed event self.old }

@@ -20,6 +20,7 @@ use Rattle.source_model.specs.Answers.{Answer, NoPatch, RefusedFor}
 use Rattle.source_model.specs.Guards.{Guard, Offer, Rules, Setup, answered, bodies_of, decide, has_ended, is_open, offer_at, pinned_from}
 use Rattle.source_model.specs.Guards as guard
 use Rattle.source_model.specs.JournalLaws.{texts_of}
+use Rattle.source_model.specs.Journals.{happens}
 use Rattle.source_model.specs.Patches.{last_definitions}
 use Rattle.source_model.specs.Worlds.{World, is_over}
 use Rattle.run_machine.specs.Machines.{Shown}
@@ -44,6 +45,7 @@ use Rattle.plain_engine.specs.Seen.{AreSeen, AreWithin, mark_among}
 use Rattle.plain_engine.specs.Steps.{Happened, IsDecided, Stayed}
 use Rattle.plain_engine.proofs.KnownMarks.{AreNamed, pins_same, seat_among, stored_named, verdict_same}
 use Rattle.plain_engine.proofs.QuietEvents.{closed_at}
+use Rattle.plain_engine.proofs.Reaching.{then_reached}
 use Rattle.plain_engine.proofs.SlotsAfter.{alive_is}
 
 -- ---- when a decision can happen
@@ -223,11 +225,14 @@ module _ (setup : Setup) (g : Guard) (k : ℕ) (s : ShownState) (at : IsStateAt 
       → IsBook setup (answered k a g) s.installed.names book → Happened setup (Decide k) g (record s { book = book }) []
   closes a book decided is = record {
     after = answered k a g;
-    happens = λ rules rows.
-        decides_one (has_ended g) (is_open g k) (decide rules g k (offer_at setup k)) going offered ∙ decided rules rows;
-    there = closed_at setup g k a s book at is;
+    happens = happens_so;
+    there = closed_at setup g k a s book at is (then_reached setup (Decide k) g (answered k a g) at.reached happens_so);
     grew = sym (append-nil g.world.output);
   }
+    where
+      happens_so : (rules : Rules) → AreRows rules.row → happens rules setup (Decide k) g ≡ Some (answered k a g)
+      happens_so rules rows =
+          decides_one (has_ended g) (is_open g k) (decide rules g k (offer_at setup k)) going offered ∙ decided rules rows
 
   -- it is no patch
   pub no_patch : (cause : NotPatch) (book : Entries) → IsDecided s k (decision.NotPatch cause)

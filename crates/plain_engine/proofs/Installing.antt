@@ -36,7 +36,7 @@ use Rattle.code_store.specs.Limits.{are_too_many}
 use Rattle.code_store.specs.Stored.{IsStoreOf, meant_body}
 use Rattle.c_tree.specs.BareExpr.{Bytes}
 use Rattle.patch_build.specs.declared.patch.Patch.{Patch}
-use Rattle.run_machine.specs.Machines.{KeepsTexts, Shown}
+use Rattle.run_machine.specs.Machines.{KeepsTexts, NeedsHold, Shown}
 use Rattle.source_runner.specs.SourceRuns.{world_after}
 use Rattle.source_runner.proofs.AfterMoves.{installed_versions, then_install}
 use Rattle.type_transformers.specs.Changes.{IsChange, changing, name_of}
@@ -54,9 +54,11 @@ use Rattle.plain_engine.specs.declared.seat.Kept.{Kept}
 use Rattle.plain_engine.specs.declared.seat.Kept.TheVariants.{Empty, Started, Passed}
 use Rattle.plain_engine.specs.declared.seat.Seat.{Seat}
 use Rattle.plain_engine.specs.Kept.{ArePinned, IsOfVersion, is_there, mark_of}
+use Rattle.plain_engine.specs.Needs.{IsReached}
 use Rattle.plain_engine.specs.Plain.{AreSeats, IsStateAt, ShownState}
 use Rattle.plain_engine.specs.Steps.{Happened, IsDecided, IsFollowed, Stayed}
 use Rattle.plain_engine.proofs.Moving.{unmoved}
+use Rattle.plain_engine.proofs.Reaching.{needed_there, still_meets, then_reached}
 use Rattle.plain_engine.proofs.SlotsAfter.{alive_is, from_zero}
 use Rattle.plain_engine.proofs.Deciding.{decides_none, decides_one, not_over, offer_is, says, text_is, within_for}
 
@@ -272,10 +274,8 @@ module _ (setup : Setup) (g : Guard) (k : ℕ) (s : ShownState) (at : IsStateAt 
     stays = unmoved setup g s at new keeps r;
   }
 
-  module _ (new : Shown) (i : Versions) (keeps : KeepsTexts s.run new)
-      (r : new.is_run (texts_of setup) setup.limits (at.run.moves ++ source.Install k ∷ [])) (w : World)
-      (ran : world_after (texts_of setup) setup.limits (at.run.moves ++ source.Install k ∷ []) ≡ Some w)
-      (brought : IsInstalled (g.versions ++ text_of is.next ∷ []) i.count i.names i.store) (named : i.names ≡ patch.names) where
+  -- where the source machine takes it, the install is the decision on the offer
+  module _ (w : World) (ran : world_after (texts_of setup) setup.limits (at.run.moves ++ source.Install k ∷ []) ≡ Some w) where
     abbrev pub after : Guard
     after = answered k (Installed (suc (length g.versions))) (record g {
       world = w;
@@ -296,7 +296,7 @@ module _ (setup : Setup) (g : Guard) (k : ℕ) (s : ShownState) (at : IsStateAt 
         pins_are_set rules (bodies_of g) (changed (last_definitions g.versions) (text_of is.next).definitions) g.world 0 g.seats pins
         ((said rules rows).1.pins_are g.world (within_for g is.seats going (is.within setup g at.run)))
 
-    pub happens_so : (rules : Rules) → AreRows rules.row → happens rules setup (Decide k) g ≡ Some after
+    happens_so : (rules : Rules) → AreRows rules.row → happens rules setup (Decide k) g ≡ Some after
     happens_so rules rows =
         decides_one (has_ended g) (is_open g k) (decide rules g k (offer_at setup k)) going offered
         ∙ decided rules rows
@@ -307,15 +307,35 @@ module _ (setup : Setup) (g : Guard) (k : ℕ) (s : ShownState) (at : IsStateAt 
           versions = g.versions ++ text_of is.next ∷ [];
         }))) (pins_set rules rows)
 
+    reached_so : IsReached setup after
+    reached_so = then_reached setup (Decide k) g after at.reached happens_so
+
+    versions_so : versions_by (texts_of setup) (at.run.moves ++ source.Install k ∷ [])
+        ≡ map (λ (x : Text). x.definitions) (g.versions ++ text_of is.next ∷ [])
+    versions_so =
+        installed_versions (texts_of setup) at.run.moves k
+        ∙ ap (λ ts. ts ++ slice_index_or (texts_of setup) k [] ∷ []) at.run.versions
+        ∙ ap (λ t. map (λ (x : Text). x.definitions) g.versions ++ t ∷ []) (sym new_is)
+        ∙ sym (map-append (λ (x : Text). x.definitions) g.versions (text_of is.next ∷ []))
+
     slots_stay : (n : ℕ) → in_slot w n ≡ in_slot g.world n
     slots_stay n = ap (λ w. in_slot w n) (sym world_is)
 
     over_stays : is_over w ≡ is_over g.world
     over_stays = ap is_over (sym world_is)
 
-    seats_are : (later : List Seat) → ArePinned pins s.seats later → AreSeats after new later
+  -- so the machine has what it needs to take it
+  pub install_needs : NeedsHold s.run (texts_of setup) setup.limits (at.run.moves ++ source.Install k ∷ [])
+  install_needs = λ w ran.
+      needed_there setup (after w ran) s.run (at.run.moves ++ source.Install k ∷ []) at.meets (reached_so w ran) ran (versions_so w ran)
+
+  module _ (new : Shown) (i : Versions) (keeps : KeepsTexts s.run new)
+      (r : new.is_run (texts_of setup) setup.limits (at.run.moves ++ source.Install k ∷ [])) (w : World)
+      (ran : world_after (texts_of setup) setup.limits (at.run.moves ++ source.Install k ∷ []) ≡ Some w)
+      (brought : IsInstalled (g.versions ++ text_of is.next ∷ []) i.count i.names i.store) (named : i.names ≡ patch.names) where
+    seats_are : (later : List Seat) → ArePinned pins s.seats later → AreSeats (after w ran) new later
     seats_are later pinned = record {
-      many = ap length (sym (pins_set any_rules any_are_rows))
+      many = ap length (sym (pins_set w ran any_rules any_are_rows))
           ∙ length_pinned any_rules (bodies_of g) (changed (last_definitions g.versions) (text_of is.next).definitions) g.world 0 g.seats
           ∙ at.seats.many;
       each = λ still n kept own at_kept at_own.
@@ -325,12 +345,12 @@ module _ (setup : Setup) (g : Guard) (k : ℕ) (s : ShownState) (at : IsStateAt 
           record {
             at_check_in = old.3 ∙ base.at_check_in ∙ sym was.3;
             pinned = same_Some own.pinned kept.pinned (sym old.4 ∙ was.4);
-            there = ap is_there was.2 ∙ base.there ∙ ap is_live (sym (slots_stay n));
-            lives = λ e. ap is_live (slots_stay n) ∙ base.lives (sym was.3 ∙ e);
+            there = ap is_there was.2 ∙ base.there ∙ ap is_live (sym (slots_stay w ran n));
+            lives = λ e. ap is_live (slots_stay w ran n) ∙ base.lives (sym was.3 ∙ e);
             idle = λ none.
                 let from =
                 pinned_from_at any_rules (bodies_of g) (changed (last_definitions g.versions) (text_of is.next).definitions) g.world 0 g.seats n n own (from_zero n)
-                (ap (λ ss. slice_get ss n) (pins_set any_rules any_are_rows) ∙ at_own) in
+                (ap (λ ss. slice_get ss n) (pins_set w ran any_rules any_are_rows) ∙ at_own) in
                 let there_not = ap is_there (sym was.2) ∙ none in
                 sym (same_Some own.pinned kept.pinned (sym old.4 ∙ was.4))
                 ∙ ap (λ (x : guard.Seat). x.pinned) from.2
@@ -356,18 +376,14 @@ module _ (setup : Setup) (g : Guard) (k : ℕ) (s : ShownState) (at : IsStateAt 
         subst (λ names. IsBook setup g names s.book) (sym (named ∙ patch_for.ids.is ∙ ap (λ ns. ns ++ patch_for.ids.more) is.same.names_are))
         (more_names setup g s.installed.names patch_for.ids.more s.book at.book)
 
-    pub followed : IsFollowed setup g k pins (record s { run = new; installed = i }) after
+    pub followed : IsFollowed setup g k pins (record s { run = new; installed = i }) (after w ran)
     followed = record {
       run = record {
         moves = at.run.moves ++ source.Install k ∷ [];
         run = r;
         world = ran;
         trees = ap (map text_of) keeps.0 ∙ at.run.trees;
-        versions =
-            installed_versions (texts_of setup) at.run.moves k
-            ∙ ap (λ ts. ts ++ slice_index_or (texts_of setup) k [] ∷ []) at.run.versions
-            ∙ ap (λ t. map (λ (x : Text). x.definitions) g.versions ++ t ∷ []) (sym new_is)
-            ∙ sym (map-append (λ (x : Text). x.definitions) g.versions (text_of is.next ∷ []));
+        versions = versions_so w ran;
       };
       installed = brought;
       tree = is.next;
@@ -377,19 +393,21 @@ module _ (setup : Setup) (g : Guard) (k : ℕ) (s : ShownState) (at : IsStateAt 
       offered = offered;
       book = book_is;
       closed = λ book b.
-          same_offers setup (answered k (Installed i.count) g) after i.names book refl refl refl
+          same_offers setup (answered k (Installed i.count) g) (after w ran) i.names book refl refl refl
           (ap (λ n. g.answers ++ record { offer = k; answer = Installed n } ∷ [])
           (sym (length-append g.versions (text_of is.next ∷ []) ∙ one (length g.versions)) ∙ brought.count_is))
           b;
+      reached = reached_so w ran;
+      meets = still_meets setup s.run new keeps.2 at.meets;
     }
       where
         one : (n : ℕ) → n + 1 ≡ suc n
         one n = omega arith
 
-    pub installs_so : (there : ShownState) → IsStateAt setup after there → Happened setup (Decide k) g there []
+    pub installs_so : (there : ShownState) → IsStateAt setup (after w ran) there → Happened setup (Decide k) g there []
     installs_so there is_there = record {
-      after = after;
-      happens = happens_so;
+      after = after w ran;
+      happens = happens_so w ran;
       there = is_there;
-      grew = ap (λ (w : World). w.output) (sym world_is) ∙ sym (append-nil g.world.output);
+      grew = ap (λ (w : World). w.output) (sym (world_is w ran)) ∙ sym (append-nil g.world.output);
     }

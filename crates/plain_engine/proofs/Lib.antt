@@ -1,6 +1,7 @@
 mod Printing
 mod SlotsAfter
 mod Standing
+mod Reaching
 mod Moving
 mod QuietEvents
 mod KnownMarks

@@ -5,23 +5,28 @@ use Rattle.std.specs.declared.alloc.AllocError.{AllocError}
 use Rattle.std.proofs.lemmas.Bool.{false≢true}
 use Rattle.run_types.specs.declared.run.Event.TheVariants.{Move}
 use Rattle.c_tree.specs.BareDef.{BareDef}
-use Rattle.c_semantics.specs.SourceTexts.{text_of}
+use Rattle.c_semantics.specs.SourceTexts.{Text, text_of}
 use Rattle.source_model.specs.Worlds.{World, Limits, in_slot, is_over}
 use Rattle.source_model.specs.Moves.{move}
 use Rattle.source_model.specs.Runs.{SourceMove, source_run}
 use Rattle.source_model.specs.Runs as source
-use Rattle.source_model.specs.Guards.{Guard, Setup, bodies_of, has_ended, move_leads, moved, seat_of}
+use Rattle.source_model.specs.Guards.{Guard, Rules, Setup, bodies_of, has_ended, move_leads, moved, seat_of}
 use Rattle.source_model.specs.JournalLaws.{texts_of}
+use Rattle.source_model.specs.Journals.{happens}
 use Rattle.source_model.proofs.Moved.{Keeps, move_keeps, of_outcome}
 use Rattle.run_machine.specs.declared.machine.Moved.{Moved}
-use Rattle.run_machine.specs.Machines.{KeepsTexts, MovedBy, Shown}
+use Rattle.run_machine.specs.Machines.{KeepsTexts, MovedBy, NeedsHold, Shown}
+use Rattle.effects.specs.Rows.{AreRows}
+use Rattle.version_laws.specs.Histories.{versions_by}
 use Rattle.source_runner.specs.SourceRuns.{world_after}
 use Rattle.source_runner.proofs.AfterMoves.{moved_versions, then_move}
 use Rattle.dsu_runs.proofs.Books.{same_offers}
 use Rattle.plain_engine.specs.declared.seat.Seat.{Seat}
 use Rattle.plain_engine.specs.Kept.{AreAfter, IsSeat, NoneNew}
+use Rattle.plain_engine.specs.Needs.{IsReached}
 use Rattle.plain_engine.specs.Plain.{AreSeats, IsRunAt, IsStateAt, ShownState}
 use Rattle.plain_engine.specs.Steps.{MovesTo, Stayed}
+use Rattle.plain_engine.proofs.Reaching.{needed_there, still_meets, then_reached}
 use Rattle.plain_engine.proofs.SlotsAfter.{goes_on, mover, none_new, slots_after}
 use Rattle.plain_engine.proofs.Standing.{Gives, given, gives}
 
@@ -73,6 +78,8 @@ same_state setup g s new at keeps run = record {
     last_is = at.versions.last_is;
   };
   book = at.book;
+  reached = at.reached;
+  meets = still_meets setup s.run new keeps.2 at.meets;
 }
 
 -- a run that made no move
@@ -105,28 +112,49 @@ module _ (setup : Setup) (g : Guard) (s : ShownState) (at : IsStateAt setup g s)
     stays = unmoved setup g s at new keeps r;
   }
 
-  module _ (new : Shown) (slot : ℕ) (leads : Bool) (keeps_texts : KeepsTexts s.run new)
-      (none_at : has_ended g ≡ false → (seat_of g slot).at_check_in ≡ false)
-      (r : new.is_run (texts_of setup) setup.limits (at.run.moves ++ source.Move slot ∷ [])) (w : World)
-      (ran : world_after (texts_of setup) setup.limits (at.run.moves ++ source.Move slot ∷ []) ≡ Some w)
-      (led : Gives (λ x. is_over x.world) setup at.run.moves false
-      → Gives (λ x. move_leads (in_slot x.world slot)) setup at.run.moves leads) where
+  -- a move of a thread that is at no check-in is an event
+  module _ (slot : ℕ) (none_at : has_ended g ≡ false → (seat_of g slot).at_check_in ≡ false) (w : World)
+      (ran : world_after (texts_of setup) setup.limits (at.run.moves ++ source.Move slot ∷ []) ≡ Some w) where
     to : move g.world slot ≡ Some w
     to = sym (then_move (texts_of setup) setup.limits at.run.moves slot g.world at.run.world) ∙ ran
 
     mine : (is_over g.world ≡ false) × (source.is_live (in_slot g.world slot) ≡ true)
     mine = mover g.world w slot to
 
-    going : has_ended g ≡ false
-    going = goes_on g.world mine.0
+    happens_so : (rules : Rules) → AreRows rules.row → happens rules setup (Move slot) g ≡ Some (moved g slot w)
+    happens_so rules rows =
+        goes (has_ended g) (seat_of g slot).at_check_in g slot (move g.world slot) w (goes_on g.world mine.0)
+        (none_at (goes_on g.world mine.0)) to
+
+    reached_so : IsReached setup (moved g slot w)
+    reached_so = then_reached setup (Move slot) g (moved g slot w) at.reached happens_so
+
+    versions_so : versions_by (texts_of setup) (at.run.moves ++ source.Move slot ∷ []) ≡ map (λ (t : Text). t.definitions) g.versions
+    versions_so = moved_versions (texts_of setup) at.run.moves slot ∙ at.run.versions
+
+  -- so the machine has what it needs to make it
+  pub move_needs : (slot : ℕ) → (has_ended g ≡ false → (seat_of g slot).at_check_in ≡ false)
+      → NeedsHold s.run (texts_of setup) setup.limits (at.run.moves ++ source.Move slot ∷ [])
+  move_needs slot none_at = λ w ran.
+      needed_there setup (moved g slot w) s.run (at.run.moves ++ source.Move slot ∷ []) at.meets (reached_so slot none_at w ran) ran
+      (versions_so slot none_at w ran)
+
+  module _ (new : Shown) (slot : ℕ) (leads : Bool) (keeps_texts : KeepsTexts s.run new)
+      (none_at : has_ended g ≡ false → (seat_of g slot).at_check_in ≡ false)
+      (r : new.is_run (texts_of setup) setup.limits (at.run.moves ++ source.Move slot ∷ [])) (w : World)
+      (ran : world_after (texts_of setup) setup.limits (at.run.moves ++ source.Move slot ∷ []) ≡ Some w)
+      (led : Gives (λ x. is_over x.world) setup at.run.moves false
+      → Gives (λ x. move_leads (in_slot x.world slot)) setup at.run.moves leads) where
+    goes_to : move g.world slot ≡ Some w
+    goes_to = to slot none_at w ran
 
     keeps : Keeps slot g.world w
-    keeps = of_outcome (Keeps slot g.world) (move g.world slot) w to (move_keeps g.world slot)
+    keeps = of_outcome (Keeps slot g.world) (move g.world slot) w goes_to (move_keeps g.world slot)
 
     leads_is : move_leads (in_slot g.world slot) ≡ leads
     leads_is =
         gives (λ x. move_leads (in_slot x.world slot)) setup at.run.moves g.world leads at.run.world
-        (led (ap (λ o. option_map (λ x. is_over x.world) (option_map source.result o)) at.run.world ∙ ap Some mine.0))
+        (led (ap (λ o. option_map (λ x. is_over x.world) (option_map source.result o)) at.run.world ∙ ap Some (mine slot none_at w ran).0))
 
     pub made : (later : List Seat) → AreAfter new.words w slot leads s.seats later
         → MovesTo setup (Move slot) g (record s { run = new; seats = later }) true
@@ -134,16 +162,16 @@ module _ (setup : Setup) (g : Guard) (s : ShownState) (at : IsStateAt setup g s)
       keeps.grows.0,
       record {
         after = moved g slot w;
-        happens = λ rules rows. goes (has_ended g) (seat_of g slot).at_check_in g slot (move g.world slot) w going (none_at going) to;
+        happens = happens_so slot none_at w ran;
         there = record {
           run = record {
             moves = at.run.moves ++ source.Move slot ∷ [];
             run = r;
             world = ran;
             trees = ap (map text_of) keeps_texts.0 ∙ at.run.trees;
-            versions = moved_versions (texts_of setup) at.run.moves slot ∙ at.run.versions;
+            versions = versions_so slot none_at w ran;
           };
-          seats = slots_after g slot w s.run new s.seats later leads at.seats to leads_is keeps_texts.1 after;
+          seats = slots_after g slot w s.run new s.seats later leads at.seats goes_to leads_is keeps_texts.1 after;
           versions = record {
             installed = at.versions.installed;
             before = at.versions.before;
@@ -152,6 +180,8 @@ module _ (setup : Setup) (g : Guard) (s : ShownState) (at : IsStateAt setup g s)
             last_is = at.versions.last_is;
           };
           book = same_offers setup g (moved g slot w) s.installed.names s.book refl refl refl refl at.book;
+          reached = reached_so slot none_at w ran;
+          meets = still_meets setup s.run new keeps_texts.2 at.meets;
         };
         grew = keeps.grows.1;
       },
@@ -165,6 +195,6 @@ module _ (setup : Setup) (g : Guard) (s : ShownState) (at : IsStateAt setup g s)
         → MovesTo setup (Move slot) g (record s { run = new; seats = later }) true
     made_alone many same later follows =
         made later
-        (follows (none_new g slot w s.run s.seats at.seats many to
+        (follows (none_new g slot w s.run s.seats at.seats many goes_to
         (gives (λ x. x.world.threads) setup (at.run.moves ++ source.Move slot ∷ []) w g.world.threads ran
         (same ∙ given setup g s.run at.run (λ x. x.world.threads) g.world.threads refl))))

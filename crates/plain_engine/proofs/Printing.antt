@@ -1,7 +1,8 @@
 -- What a sink shows after the rest of an output was handed to it.
-use Rattle.std.proofs.Common.{◌≡◌, ℕ, ◌+◌, ◌<◌, ◌≤◌, List, ◌++◌, take, Option, Some, None, sym, ◌∙◌, ap, subst, arith, append_assoc, length-append, length-drop}
+use Rattle.std.proofs.Common.{◌≡◌, ℕ, suc, ◌+◌, ◌<◌, ◌≤◌, Bool, true, List, [], ◌∷◌, ◌++◌, take, Option, Some, None, refl, sym, ◌∙◌, ap, subst, arith, append_assoc, length-append, length-drop}
 use Rattle.std.specs.Prelude.{◌==◌, ◌^◌, cond, length, drop}
 use Rattle.std.proofs.lemmas.List.Sums.{count_by-le-length, sum_by-append}
+use Rattle.std.proofs.lemmas.Bool.Decides.{nat_tests}
 use Rattle.std.specs.Io.KnownBytes.{Appends}
 use Rattle.std.proofs.Transfers.{drop-appended}
 use Rattle.std.proofs.Math.Seq.{take-append-add}
@@ -71,6 +72,36 @@ all_printed piece output printed new is within sums small = sums (subst (λ n. n
 pub wrote_all : (told now : Option (List ℕ)) (piece output : List ℕ) (printed new : ℕ) → piece ≡ drop printed output → new ≡ length output
     → Appends told now piece → Wrote output printed told now new Done
 wrote_all told now piece output printed new is all grew = (all, subst (Appends told now) is grew)
+
+not_zero : (n : ℕ) → (suc n == 0) ≡ true → ⊥
+not_zero n h = grind (arith, nat_tests)
+
+-- where nothing is left
+pub none_there : (piece : List ℕ) (none : Bool) → none ≡ (length piece == 0) → none ≡ true → piece ≡ []
+none_there [] none is e = refl
+none_there (b ∷ bs) none is e = absurd (not_zero (length bs) (sym is ∙ e))
+
+pub none_left : (piece output : List ℕ) (printed : ℕ) → piece ≡ drop printed output → piece ≡ [] → printed ≤ length output
+    → printed ≡ length output
+none_left piece output printed is none within =
+    let left = ap length (sym is ∙ none) in
+    let few = length-drop printed output in
+    omega (arith, left, few, within)
+
+nothing_more : (xs : List ℕ) → xs ≡ xs ++ []
+nothing_more [] = refl
+nothing_more (x ∷ xs) = ap (λ ys. x ∷ ys) (nothing_more xs)
+
+appends_none : (told : Option (List ℕ)) → Appends told told []
+appends_none None = tt
+appends_none (Some xs) = nothing_more xs
+
+pub wrote_none : (told : Option (List ℕ)) (piece output : List ℕ) (printed : ℕ) → piece ≡ drop printed output → piece ≡ []
+    → printed ≤ length output → Wrote output printed told told printed Done
+wrote_none told piece output printed is none within = (
+  none_left piece output printed is none within,
+  subst (Appends told told) (sym none ∙ is) (appends_none told),
+)
 
 pub wrote_partly : (told now : Option (List ℕ)) (piece output : List ℕ) (printed new : ℕ) → piece ≡ drop printed output
     → AppendsFront told now piece → Wrote output printed told now new SinkFailed

@@ -16,21 +16,24 @@ use Rattle.source_model.specs.JournalLaws.{texts_of}
 use Rattle.source_model.specs.Runs.{SourceMove, run, start}
 use Rattle.source_model.specs.Versions.{current}
 use Rattle.source_model.specs.Worlds.{World, Slot, Free, Live, Over, alive_in, in_slot, is_over}
-use Rattle.source_model.specs.Guards.{Answered, Guard, Setup, answered, bodies_of, can_open, checked_in, has_ended, is_open, mark_of_frames, seat_of}
+use Rattle.source_model.specs.Guards.{Answered, Guard, Rules, Setup, answered, bodies_of, can_open, checked_in, has_ended, is_open, mark_of_frames, seat_of}
 use Rattle.source_model.specs.Guards as guard
-use Rattle.source_model.specs.Journals.{guard_if}
+use Rattle.source_model.specs.Journals.{guard_if, happens}
 use Rattle.source_runner.specs.declared.queries.FrameAt.{FrameAt}
 use Rattle.run_machine.specs.Machines.{Shown}
 use Rattle.source_runner.specs.Queries.{Place, innermost, innermost_in, place_at, place_of}
 use Rattle.resolved_tree.specs.Nodes.{Table}
 use Rattle.rows_in_force.specs.Origins.{MarksAreOfFrames, mark_at}
+use Rattle.effects.specs.Rows.{AreRows}
 use Rattle.dsu_runs.specs.Books.{Entries, IsBook}
 use Rattle.dsu_runs.proofs.Books.{same_offers}
 use Rattle.plain_engine.specs.declared.seat.Kept.TheVariants.{Passed}
 use Rattle.plain_engine.specs.declared.seat.Seat.{Seat}
 use Rattle.plain_engine.specs.Kept.{IsOfVersion, IsSeat, mark_in_frame}
+use Rattle.plain_engine.specs.Needs.{IsReached}
 use Rattle.plain_engine.specs.Plain.{AreSeats, IsRunAt, IsStateAt, ShownState}
 use Rattle.plain_engine.specs.Steps.{Happened, Stayed}
+use Rattle.plain_engine.proofs.Reaching.{then_reached}
 use Rattle.plain_engine.proofs.SlotsAfter.{alive_is}
 use Rattle.plain_engine.proofs.Standing.{seat_at}
 
@@ -57,8 +60,9 @@ offers_none setup g k s at none = record {
 pub with_offers : (setup : Setup) (g : Guard) (s : ShownState) (book : Entries) (opened : Option ℕ) (greatest closed : ℕ)
     (given : List Answered) → IsStateAt setup g s
     → IsBook setup (record g { open_offer = opened; greatest = greatest; closed = closed; answers = given }) s.installed.names book
+    → IsReached setup (record g { open_offer = opened; greatest = greatest; closed = closed; answers = given })
     → IsStateAt setup (record g { open_offer = opened; greatest = greatest; closed = closed; answers = given }) (record s { book = book })
-with_offers setup g s book opened greatest closed given at is = record {
+with_offers setup g s book opened greatest closed given at is reached = record {
   run = record { moves = at.run.moves; run = at.run.run; world = at.run.world; trees = at.run.trees; versions = at.run.versions };
   seats = record { many = at.seats.many; each = at.seats.each };
   versions = record {
@@ -69,6 +73,8 @@ with_offers setup g s book opened greatest closed given at is = record {
     last_is = at.versions.last_is;
   };
   book = is;
+  reached = reached;
+  meets = at.meets;
 }
 
 pub offers_one : (setup : Setup) (g : Guard) (k : ℕ) (s : ShownState) (book : Entries) → IsStateAt setup g s → has_ended g ≡ false
@@ -76,10 +82,14 @@ pub offers_one : (setup : Setup) (g : Guard) (k : ℕ) (s : ShownState) (book : 
     → Happened setup (Offer k) g (record s { book = book }) []
 offers_one setup g k s book at going can is = record {
   after = record g { open_offer = Some k; greatest = k };
-  happens = λ rules rows. a_guard (has_ended g) (can_open setup g k) (record g { open_offer = Some k; greatest = k }) going can;
-  there = with_offers setup g s book (Some k) k g.closed g.answers at is;
+  happens = opens;
+  there = with_offers setup g s book (Some k) k g.closed g.answers at is
+      (then_reached setup (Offer k) g (record g { open_offer = Some k; greatest = k }) at.reached opens);
   grew = sym (append-nil g.world.output);
 }
+  where
+    opens : (rules : Rules) → AreRows rules.row → happens rules setup (Offer k) g ≡ Some (record g { open_offer = Some k; greatest = k })
+    opens rules rows = a_guard (has_ended g) (can_open setup g k) (record g { open_offer = Some k; greatest = k }) going can
 
 pub withdraws_none : (setup : Setup) (g : Guard) (k : ℕ) (s : ShownState) → IsStateAt setup g s → (has_ended g ≡ false → is_open g k ≡ false)
     → Stayed setup (Withdraw k) g s
@@ -90,19 +100,24 @@ withdraws_none setup g k s at none = record {
 
 -- an offer that is closed without an install
 pub closed_at : (setup : Setup) (g : Guard) (k : ℕ) (a : Answer) (s : ShownState) (book : Entries) → IsStateAt setup g s
-    → IsBook setup (answered k a g) s.installed.names book → IsStateAt setup (answered k a g) (record s { book = book })
-closed_at setup g k a s book at is =
-    with_offers setup g s book None g.greatest (suc g.closed) (g.answers ++ record { offer = k; answer = a } ∷ []) at is
+    → IsBook setup (answered k a g) s.installed.names book → IsReached setup (answered k a g)
+    → IsStateAt setup (answered k a g) (record s { book = book })
+closed_at setup g k a s book at is reached =
+    with_offers setup g s book None g.greatest (suc g.closed) (g.answers ++ record { offer = k; answer = a } ∷ []) at is reached
 
 pub withdraws_one : (setup : Setup) (g : Guard) (k : ℕ) (s : ShownState) (book : Entries) → IsStateAt setup g s → has_ended g ≡ false
     → is_open g k ≡ true → IsBook setup (answered k Withdrawn g) s.installed.names book
     → Happened setup (Withdraw k) g (record s { book = book }) []
 withdraws_one setup g k s book at going offered is = record {
   after = answered k Withdrawn g;
-  happens = λ rules rows. a_guard (has_ended g) (is_open g k) (answered k Withdrawn g) going offered;
-  there = closed_at setup g k Withdrawn s book at is;
+  happens = closes;
+  there = closed_at setup g k Withdrawn s book at is
+      (then_reached setup (Withdraw k) g (answered k Withdrawn g) at.reached closes);
   grew = sym (append-nil g.world.output);
 }
+  where
+    closes : (rules : Rules) → AreRows rules.row → happens rules setup (Withdraw k) g ≡ Some (answered k Withdrawn g)
+    closes rules rows = a_guard (has_ended g) (is_open g k) (answered k Withdrawn g) going offered
 
 -- ---- check-ins
 
@@ -249,11 +264,15 @@ module _ (setup : Setup) (g : Guard) (slot : ℕ) (s : ShownState) (at : IsState
           at.seats.each going n kept own (set_there s.seats slot n new kept other at_kept)
           (set_there g.seats slot n own_new own other at_own)
 
+  checks_in : is_none g.open_offer ≡ true → (rules : Rules) → AreRows rules.row
+      → happens rules setup (CheckIn slot) g ≡ Some (checked_in (bodies_of g) g slot)
+  checks_in none rules rows =
+      a_check_in (has_ended g) (seat_of g slot).at_check_in (is_none g.open_offer) (checked_in (bodies_of g) g slot) going at_one none
+
   pub passes : is_none g.open_offer ≡ true → Happened setup (CheckIn slot) g (record s { seats = slice_set s.seats slot new }) []
   passes none = record {
     after = checked_in (bodies_of g) g slot;
-    happens = λ rules rows.
-        a_check_in (has_ended g) (seat_of g slot).at_check_in (is_none g.open_offer) (checked_in (bodies_of g) g slot) going at_one none;
+    happens = checks_in none;
     there = record {
       run = record { moves = at.run.moves; run = at.run.run; world = at.run.world; trees = at.run.trees; versions = at.run.versions };
       seats = seats_are;
@@ -265,6 +284,8 @@ module _ (setup : Setup) (g : Guard) (slot : ℕ) (s : ShownState) (at : IsState
         last_is = at.versions.last_is;
       };
       book = same_offers setup g (checked_in (bodies_of g) g slot) s.installed.names s.book refl refl refl refl at.book;
+      reached = then_reached setup (CheckIn slot) g (checked_in (bodies_of g) g slot) at.reached (checks_in none);
+      meets = at.meets;
     };
     grew = sym (append-nil g.world.output);
   }

@@ -20,7 +20,9 @@ use Rattle.dsu_runs.specs.Books.{IsBook}
 use Rattle.dsu_runs.specs.Setups.{limits_of, offers_of, setup_of}
 use Rattle.plain_engine.specs.declared.seat.Seat.{Seat}
 use Rattle.plain_engine.specs.Kept.{IsSeat, empty, started}
+use Rattle.plain_engine.specs.Needs.{MeetsNeeds}
 use Rattle.plain_engine.specs.Plain.{AreSeats, IsRunAt, IsStateAt, ShownState}
+use Rattle.plain_engine.proofs.Reaching.{first_reached}
 use Rattle.plain_engine.proofs.SlotsAfter.{entered}
 
 -- the texts of a setup
@@ -70,8 +72,9 @@ pub first_state : (text : Program) (programs : List Program) (lines : List ℕ) 
     → IsInstalled (text_of text ∷ []) s.installed.count s.installed.names s.installed.store → s.last ≡ 0
     → s.run.trees ≡ text ∷ programs
     → IsBook (setup_of text programs lines objects) (first_guard (setup_of text programs lines objects)) s.installed.names s.book
+    → MeetsNeeds s.run.needs (setup_of text programs lines objects)
     → IsStateAt (setup_of text programs lines objects) (first_guard (setup_of text programs lines objects)) s
-first_state text programs lines objects s run seats installed last trees book = record {
+first_state text programs lines objects s run seats installed last trees book meets = record {
   run = run;
   seats = seats;
   versions = record {
@@ -82,6 +85,8 @@ first_state text programs lines objects s run seats installed last trees book = 
     last_is = refl;
   };
   book = book;
+  reached = first_reached (setup_of text programs lines objects);
+  meets = meets;
 }
 
 -- ---- the slots at the start

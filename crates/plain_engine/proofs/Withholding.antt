@@ -1,5 +1,5 @@
 -- Why nothing is decided on an offer.
-use Rattle.std.proofs.Common.{◌≡◌, ℕ, map, Some, refl, subst}
+use Rattle.std.proofs.Common.{◌≡◌, ℕ, map, Some, refl, subst, sym}
 use Rattle.std.specs.Prelude.{slice_get}
 use Rattle.c_tree.specs.Bare.{bare_def}
 use Rattle.c_tree.specs.declared.def.Program.{Program}
@@ -28,9 +28,7 @@ module _ (s : ShownState) (k : ℕ) where
   withheld next there Memory undefined = tt
 
   pub for_memory : (w : Undecided) → w ≡ why.Memory → MayWithhold s k w
-  for_memory why.Memory is = tt
-  for_memory why.Misused is = cc
-  for_memory why.UndefinedName is = cc
+  for_memory w is = subst (MayWithhold s k) (sym is) tt
 
   pub not_misused : (w : Undecided) → MayWithhold s k w → w ≡ why.Misused → ⊥
   not_misused w may is = subst (MayWithhold s k) is may

@@ -1,5 +1,6 @@
 pub mod Kept
 pub mod Seen
+pub mod Needs
 pub mod Plain
 pub mod Steps
 pub mod Asked

@@ -19,6 +19,7 @@ use Rattle.dsu_runs.specs.declared.engine.Made.TheVariants.{Done, CannotHappen, 
 use Rattle.plain_engine.specs.declared.seat.Seat.{Seat}
 use Rattle.plain_engine.specs.declared.state.State.{State}
 use Rattle.plain_engine.specs.Kept.{IsSeat}
+use Rattle.plain_engine.specs.Needs.{IsReached, MeetsNeeds}
 
 -- a run has the texts of a setup, and is that of the moves that come to the guard's world
 pub record IsRunAt (setup : Setup) (g : Guard) (r : Shown) : Type 0 where
@@ -54,12 +55,14 @@ pub record ShownState : Type 1 where
 abbrev pub state_shown : {M : Type 0} → (M → Shown) → State M → ShownState
 state_shown shown s = record { run = shown s.run; seats = s.seats; installed = s.installed; last = s.last; book = s.book }
 
--- the state is at a guard
+-- the state is at a guard that a legal journal comes to, and the runs of the setup have what its machine needs
 pub record IsStateAt (setup : Setup) (g : Guard) (s : ShownState) : Type 0 where
   pub run : IsRunAt setup g s.run
   pub seats : AreSeats g s.run s.seats
   pub versions : AreInstalled g s.run s.installed s.last
   pub book : IsBook setup g s.installed.names s.book
+  pub reached : IsReached setup g
+  pub meets : MeetsNeeds s.run.needs setup
 
 -- and so many bytes and lines were printed as the sink has; the machine has the text of what the sink hasn't
 pub record IsEngineAt (setup : Setup) (g : Guard) (s : ShownState) (sent lines : ℕ) : Type 0 where

@@ -19,6 +19,7 @@ use Rattle.dsu_runs.specs.declared.engine.Undecided.{Undecided}
 use Rattle.dsu_runs.specs.declared.engine.Undecided.TheVariants as why
 use Rattle.plain_engine.specs.declared.seat.Seat.{Seat}
 use Rattle.plain_engine.specs.Kept.{ArePinned}
+use Rattle.plain_engine.specs.Needs.{IsReached, MeetsNeeds}
 use Rattle.plain_engine.specs.Plain.{AreSeats, IsRunAt, IsStateAt, ShownState}
 use Rattle.plain_engine.specs.Seen.{AreSeen, AreWithin}
 
@@ -78,3 +79,5 @@ pub record IsFollowed (setup : Setup) (g : Guard) (k : ℕ) (pins : List Bool) (
   pub book : IsBook setup g s.installed.names s.book
   pub closed : (book : Entries) → IsBook setup (answered k (Installed s.installed.count) g) s.installed.names book
       → IsBook setup after s.installed.names book
+  pub reached : IsReached setup after
+  pub meets : MeetsNeeds s.run.needs setup

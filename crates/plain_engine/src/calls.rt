@@ -44,6 +44,7 @@ fn lines_in(bytes: &[u8]) -> usize
 impl<M: Machine, S: Sink> PlainEngine<M, S> {
     /// Makes the move of the thread in a slot. Out of memory: nothing was printed, and nothing else is known of the engine. Over a
     /// machine that lasts so many moves, as many are made and none of them wants memory.
+    #[inline(always)]
     pub fn act(&mut self, slot: u8) -> Result<Made, AllocError>
         ensures made { (setup : Setup) (g : Guard) → IsAt M.shown setup g self.old.state self.old.printed self.old.written → IfOk result
             (MakesAt (λ x. IsAt M.shown setup x self.new.state self.new.printed self.new.written) setup (Move slot) g
@@ -63,6 +64,7 @@ impl<M: Machine, S: Sink> PlainEngine<M, S> {
     }
 
     /// Lets the thread in a slot pass the check-in that it is at. Nothing is printed.
+    #[inline(always)]
     pub fn check_in(&mut self, slot: u8) -> Made
         ensures made { (setup : Setup) (g : Guard) → IsAt M.shown setup g self.old.state self.old.printed self.old.written
             → MakesAt (λ x. IsAt M.shown setup x self.new.state self.new.printed self.new.written) setup (CheckIn slot) g
@@ -122,6 +124,7 @@ impl<M: Machine, S: Sink> PlainEngine<M, S> {
     }
 
     /// Hands the sink what was printed since the last time, and counts its lines. The machine may let go of its text then.
+    #[inline(always)]
     fn write(&mut self) -> Made
         ensures wrote { (setup : Setup) (g : Guard) → IsRunAt setup g (M.shown self.old.state.run)
             → (M.shown self.old.state.run).kept ≤ self.old.printed → self.old.printed ≤ length g.world.output
@@ -142,6 +145,11 @@ impl<M: Machine, S: Sink> PlainEngine<M, S> {
         ensures cause { result ≡ Made.SinkFailed → Rose (S.faults self.old.sink) (S.faults self.new.sink) }
     {
         let piece = self.state.run.output_from(self.printed);
+        // Most moves print nothing.
+        if piece.is_empty() {
+            self.state.run.forget();
+            return Made::Done;
+        }
         match put(&mut self.sink, piece) {
             Ok(()) => {
                 self.written = sum(self.written, lines_in(piece));

@@ -9,6 +9,7 @@ ghost use Rattle.patch_build.specs.Versions.{IsTableOf};
 ghost use Rattle.source_programs.specs.Programs.{text_in};
 ghost use Rattle.dsu_runs.specs.Setups.{limits_of, setup_of};
 ghost use Rattle.installed_versions.specs.Firsts.{IsFirstFault};
+ghost use Rattle.plain_engine.specs.Needs.{MeetsNeeds};
 ghost use Rattle.plain_engine.specs.Plain.{IsAt};
 
 use crate::state::State;
@@ -40,7 +41,8 @@ pub struct NotStarted<S> {
 
 impl<M: Machine, S: Sink> PlainEngine<M, S> {
     /// The start of a run over a machine at its start. Its texts are the first one and those of the offers, each with how many
-    /// lines the program must have written before. Where it isn't made, the sink comes back.
+    /// lines the program must have written before, and each legal run of them has what the machine needs. Where it isn't made,
+    /// the sink comes back.
     pub fn over(
         alloc: Global,
         run: M,
@@ -51,8 +53,8 @@ impl<M: Machine, S: Sink> PlainEngine<M, S> {
         requires few { length lines.items ≤ 63 }
         ensures start { (text : Program) (offers : List Program) (objects : ℕ) → length offers ≡ length lines.items
             → (M.shown run).trees ≡ text ∷ offers → (M.shown run).is_run (map text_in (text ∷ offers)) (limits_of objects) []
-            → (M.shown run).kept ≡ 0 → let setup = setup_of text offers lines.items objects in
-            IfOk result (λ e. IsAt M.shown setup (first_guard setup) e.state e.printed e.written) }
+            → (M.shown run).kept ≡ 0 → let setup = setup_of text offers lines.items objects in MeetsNeeds (M.shown run).needs setup
+            → IfOk result (λ e. IsAt M.shown setup (first_guard setup) e.state e.printed e.written) }
         ensures run { IfOk result (λ e. e.state.run ≡ run) }
         ensures told { IfOk result (λ e. e.sink ≡ sink) }
         ensures back { IfErr result (λ e. e.sink ≡ sink) }

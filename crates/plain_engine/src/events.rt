@@ -44,6 +44,7 @@ impl<M: Machine, S: Sink> Engine for PlainEngine<M, S> {
         self.state.run.ending()
     }
 
+    #[inline(always)]
     fn next_act(&self, last: Option<u8>) -> Option<Event> {
         self.state.next_act(last)
     }
@@ -55,10 +56,12 @@ impl<M: Machine, S: Sink> Engine for PlainEngine<M, S> {
         waiting(self.state.run.waits(slot))
     }
 
+    #[inline(always)]
     fn act(&mut self, slot: u8) -> Result<Made, AllocError> {
         self.act(slot)
     }
 
+    #[inline(always)]
     fn check_in(&mut self, slot: u8) -> Made {
         self.check_in(slot)
     }

@@ -85,6 +85,7 @@ pub(crate) fn follow_move<M: Machine>(run: &M, seats: &mut Seats, mover: u8, lea
 }
 
 /// The same of a move that started no thread: the other slots stay.
+#[inline(always)]
 pub(crate) fn follow_mover<M: Machine>(run: &M, seats: &mut Seats, mover: u8, leads: bool)
     ensures { (texts : List (List BareDef)) (limits : Limits) (moves : List Made) (w : World)
         → (M.shown run.now).is_run texts limits moves → world_after texts limits moves ≡ Some w → NoneNew w mover seats.old
@@ -93,5 +94,9 @@ pub(crate) fn follow_mover<M: Machine>(run: &M, seats: &mut Seats, mover: u8, le
     let Some(seat) = seats.get(mover) else {
         return;
     };
-    seats.set(mover, moved(run, seat, mover, leads));
+    if run.is_live(mover) {
+        seats.go_on(mover, leads, stays_pinned(run, mover, seat.pinned));
+    } else {
+        seats.set(mover, Seat::empty());
+    }
 }

@@ -47,6 +47,7 @@ impl Seats {
     }
 
     /// What is kept of a slot, if it is there.
+    #[inline(always)]
     pub(crate) fn get(&self, slot: u8) -> Option<Seat>
         ensures at { result ≡ slice_get self.now slot }
         ensures many { length self.now ≡ 16 }
@@ -63,7 +64,20 @@ impl Seats {
         self.seats[slot as usize] = seat;
     }
 
+    /// The thread in a slot goes on after a move: it is at a check-in or not, and pinned or not.
+    #[inline(always)]
+    pub(crate) fn go_on(&mut self, slot: u8, at_check_in: bool, pinned: bool)
+        requires { slot < 16 }
+        ensures { (seat : Seat) → slice_get self.old slot ≡ Some seat
+            → self.new ≡ slice_set self.old slot (record seat { at_check_in = at_check_in; pinned = pinned }) }
+    {
+        let seat = &mut self.seats[slot as usize];
+        seat.at_check_in = at_check_in;
+        seat.pinned = pinned;
+    }
+
     /// The first slot from one on in which a thread lives.
+    #[inline(always)]
     pub(crate) fn first_thread(&self, slot: u8) -> Option<u8>
         ensures first { MatchOption result (HasNoThreadFrom self.now slot) (IsFirstThreadFrom self.now slot) }
         ensures many { length self.now ≡ 16 }

@@ -11,6 +11,7 @@ ghost use Rattle.dsu_runs.specs.Engines.{first_after};
 ghost use Rattle.dsu_runs.specs.Setups.{limits_of, setup_of};
 ghost use Rattle.installed_versions.specs.Firsts.{IsFirstFault};
 ghost use Rattle.plain_engine.specs.declared.seat.Kept.TheVariants.{Passed};
+ghost use Rattle.plain_engine.specs.Needs.{MeetsNeeds};
 ghost use Rattle.plain_engine.specs.Plain.{AreSeats, IsRunAt, IsStateAt, state_shown};
 ghost use Rattle.plain_engine.specs.Steps.{ComesTo, MovesTo};
 
@@ -54,8 +55,8 @@ impl<M: Machine> State<M> {
         requires few { length lines.items ≤ 63 }
         ensures start { (text : Program) (offers : List Program) (objects : ℕ) → length offers ≡ length lines.items
             → (M.shown run).trees ≡ text ∷ offers → (M.shown run).is_run (map text_in (text ∷ offers)) (limits_of objects) []
-            → let setup = setup_of text offers lines.items objects in
-            IfOk result (λ s. IsStateAt setup (first_guard setup) (state_shown M.shown s)) }
+            → let setup = setup_of text offers lines.items objects in MeetsNeeds (M.shown run).needs setup
+            → IfOk result (λ s. IsStateAt setup (first_guard setup) (state_shown M.shown s)) }
         ensures kept { IfOk result (λ s. (M.shown s.run).kept ≡ (M.shown run).kept) }
         ensures same { IfOk result (λ s. s.run ≡ run) }
         ensures fault { IfErr result (λ fault. (text : Program) (offers : List Program) → (M.shown run).trees ≡ text ∷ offers
@@ -100,6 +101,7 @@ impl<M: Machine> State<M> {
     }
 
     /// Whether the thread in a slot is at a check-in.
+    #[inline(always)]
     pub(crate) fn is_at_check_in(&self, slot: u8) -> bool
         ensures value { (g : Guard) → AreSeats g (M.shown self.now.run) self.now.seats → has_ended g ≡ false
             → result ≡ (seat_of g slot).at_check_in }
@@ -114,6 +116,7 @@ impl<M: Machine> State<M> {
 
     /// What the threads do next: of the slots in cyclic order after the one that acted last, the first one whose thread can act
     /// passes its check-in, or makes its move.
+    #[inline(always)]
     pub(crate) fn next_act(&self, last: Option<u8>) -> Option<Event>
         ensures { (setup : Setup) (g : Guard) → IsStateAt setup g (state_shown M.shown self.now) → has_ended g ≡ false
             → length g.seats ≡ length g.world.slots → result ≡ first_act g (slots_after (length g.seats) last) }
@@ -126,6 +129,7 @@ impl<M: Machine> State<M> {
     }
 
     /// What the first of the slots from one up to another does whose thread can act. Slots without a thread cost nothing.
+    #[inline(always)]
     fn act_within(&self, from: u8, to: u8) -> Option<Event>
         requires { to ≤ 16 }
         ensures { (setup : Setup) (g : Guard) → IsStateAt setup g (state_shown M.shown self.now) → has_ended g ≡ false
@@ -145,6 +149,7 @@ impl<M: Machine> State<M> {
     }
 
     /// What the thread in a slot can do: it passes the check-in that it is at, or it moves.
+    #[inline(always)]
     fn act_of(&self, slot: u8) -> Option<Event>
         ensures { (setup : Setup) (g : Guard) → IsStateAt setup g (state_shown M.shown self.now) → has_ended g ≡ false
             → result ≡ act_of g slot }
@@ -160,6 +165,7 @@ impl<M: Machine> State<M> {
     }
 
     /// Makes the move of the thread in a slot, if it can be made. Nothing is asked of the machine before.
+    #[inline(always)]
     pub(crate) fn make(&mut self, slot: u8) -> Result<bool, AllocError>
         ensures made { (setup : Setup) (g : Guard) → IsStateAt setup g (state_shown M.shown self.old)
             → IfOk result (MovesTo setup (Move slot) g (state_shown M.shown self.new)) }
@@ -185,6 +191,7 @@ impl<M: Machine> State<M> {
     }
 
     /// Lets the thread in a slot pass its check-in, if it can.
+    #[inline(always)]
     pub(crate) fn pass(&mut self, slot: u8) -> bool
         ensures made { (setup : Setup) (g : Guard) → IsStateAt setup g (state_shown M.shown self.old)
             → ComesTo setup (CheckIn slot) g (state_shown M.shown self.new) result }

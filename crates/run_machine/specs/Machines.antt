@@ -19,6 +19,8 @@ use Rattle.run_machine.specs.declared.machine.Moved.TheVariants as moved
 -- table of its words don't change while it runs. Of so many bytes of its output it has no text any more
 pub record Shown : Type 1 where
   pub is_run : List (List BareDef) → Limits → List SourceMove → Type 0
+  -- what must hold of the run over these moves, so that a machine that makes the last of them is that run
+  pub needs : List (List BareDef) → Limits → List SourceMove → Type 0
   pub trees : List Program
   pub words : Table
   pub kept : ℕ
@@ -28,6 +30,10 @@ pub record Shown : Type 1 where
   -- whose current version is the last one that was installed
   pub counted : (texts : List (List BareDef)) (limits : Limits) (moves : List SourceMove) (w : World) → is_run texts limits moves
       → world_after texts limits moves ≡ Some w → current w.table ≡ length (versions_by texts moves)
+
+-- what a machine needs of the run over these moves holds, if they can be made
+abbrev pub NeedsHold : Shown → List (List BareDef) → Limits → List SourceMove → Type 0
+NeedsHold s texts limits moves = (w : World) → world_after texts limits moves ≡ Some w → s.needs texts limits moves
 
 -- what an install came to: it was made, or it can't be made and the run is what it was
 abbrev pub CameBy : List (List BareDef) → Limits → List SourceMove → SourceMove → Shown → Stepped → Type 0
@@ -50,6 +56,12 @@ MovedBy texts limits moves slot new (moved.Done made) = HasMoved texts limits mo
 MovedBy texts limits moves slot new moved.CannotMove =
     new.is_run texts limits moves × (world_after texts limits (moves ++ Move slot ∷ []) ≡ None)
 
--- nothing changed of the texts and of the words
+-- what was enough for a machine still is
+abbrev pub NeedsNoMore : Shown → Shown → Type 0
+NeedsNoMore old new =
+    (texts : List (List BareDef)) (limits : Limits) (moves : List SourceMove) → old.needs texts limits moves
+    → new.needs texts limits moves
+
+-- nothing changed of the texts and of the words, and nothing more is needed
 abbrev pub KeepsTexts : Shown → Shown → Type 0
-KeepsTexts old new = (new.trees ≡ old.trees) × (new.words ≡ old.words)
+KeepsTexts old new = (new.trees ≡ old.trees) × (new.words ≡ old.words) × NeedsNoMore old new

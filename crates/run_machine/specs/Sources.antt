@@ -1,4 +1,4 @@
--- What is said of the source machine: it keeps all that was printed.
+-- What is said of the source machine: it keeps all that was printed, and needs nothing of a run.
 use Rattle.std.specs.Prelude.{◌≡◌, List, length, Some}
 use Rattle.std.proofs.Common.{ap, sym, ◌∙◌}
 use Rattle.std.proofs.lemmas.Option.{same_Some}
@@ -22,6 +22,7 @@ counted texts limits moves r w is reached =
 abbrev pub source_shown : SourceRun → Shown
 source_shown r = record {
   is_run = λ texts limits moves. IsRun texts limits moves r;
+  needs = λ texts limits moves. Unit {0};
   trees = trees_of r;
   words = words_of r;
   kept = 0;

@@ -1,9 +1,9 @@
 //! What an engine asks of a machine.
-ghost use Rattle.std.specs.Prelude.{◌≡◌, ◌+◌, ◌≤◌, ◌<◌, ◌^◌, ℕ, [], List, All, IsOk, false, map, length, drop, option_map, option_copied, slice_get, slice_index_or, Ok, Some, IfOk, OnErr};
+ghost use Rattle.std.specs.Prelude.{◌≡◌, ◌+◌, ◌≤◌, ◌<◌, ◌^◌, ◌∷◌, ◌++◌, ℕ, [], List, All, IsOk, false, map, length, drop, option_map, option_copied, slice_get, slice_index_or, Ok, Some, IfOk, OnErr};
 ghost use Rattle.c_tree.specs.BareDef.{BareDef};
 ghost use Rattle.source_model.specs.Waits.{waits_for};
 ghost use Rattle.source_model.specs.Worlds.{Limits, World, in_slot, is_over};
-ghost use Rattle.source_model.specs.Runs.{SourceMove as Made, Install, can_move, is_live, source_run};
+ghost use Rattle.source_model.specs.Runs.{SourceMove as Made, Install, Move, can_move, is_live, source_run};
 ghost use Rattle.source_model.specs.Guards.{in_transaction};
 ghost use Rattle.version_laws.specs.Histories.{last_text, versions_by};
 ghost use Rattle.resolved_tree.specs.Nodes.{word as word_text};
@@ -12,7 +12,7 @@ ghost use Rattle.source_runner.specs.States.{ending_of};
 ghost use Rattle.source_runner.specs.Waits.{waiting_of};
 ghost use Rattle.source_runner.specs.Queries.{entering_in, innermost_in, next_point_in, place_at, place_up_in};
 ghost use Rattle.source_runner.specs.SourceRuns.{world_after};
-ghost use Rattle.run_machine.specs.Machines.{CameBy, KeepsTexts, MovedBy, Shown};
+ghost use Rattle.run_machine.specs.Machines.{CameBy, KeepsTexts, MovedBy, NeedsHold, Shown};
 
 use c_types::Typed;
 use resolved_tree::Word;
@@ -40,8 +40,8 @@ pub enum Moved {
     CannotMove,
 }
 
-/// A machine that runs texts. Its clauses say that it is the run of the definitions over the moves that were made; once a step
-/// ran out of memory nothing is said of it any more.
+/// A machine that runs texts. Its clauses say that it is the run of the definitions over the moves that were made, as long as
+/// these runs have what the machine needs; once a step ran out of memory nothing is said of it any more.
 pub trait Machine: Drop {
     /// What is said of a machine: the runs that it is, its texts and words, and of how much of its output it has no text any
     /// more.
@@ -56,6 +56,7 @@ pub trait Machine: Drop {
     /// Makes the move of the thread in a slot, if it can be made. All that an engine needs to know of the move is answered with it.
     fn step(&mut self, slot: u8) -> Result<Moved, AllocError>
         ensures moved { (texts : List (List BareDef)) (limits : Limits) (moves : List Made) → (shown self.old).is_run texts limits moves
+            → NeedsHold (shown self.old) texts limits (moves ++ Move slot ∷ [])
             → IfOk result (MovedBy texts limits moves slot (shown self.new)) }
         ensures same { KeepsTexts (shown self.old) (shown self.new) }
         ensures kept { (shown self.new).kept ≡ (shown self.old).kept }
@@ -67,6 +68,7 @@ pub trait Machine: Drop {
     fn install(&mut self, number: usize, changes: &[Change]) -> Result<Stepped, AllocError>
         requires { 0 < number }
         ensures made { (texts : List (List BareDef)) (limits : Limits) (moves : List Made) → (shown self.old).is_run texts limits moves
+            → NeedsHold (shown self.old) texts limits (moves ++ Install number ∷ [])
             → let p = last_text (versions_by texts moves) in let q = slice_index_or texts number [] in
             map name_of changes.now ≡ changing p q → All (IsChange p q) changes.now
             → IfOk result (CameBy texts limits moves (Install number) (shown self.new)) }

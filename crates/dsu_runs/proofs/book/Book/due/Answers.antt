@@ -1,7 +1,12 @@
 use Rattle.std.proofs.Common.{◌∙◌, ◌+◌, None, Some, ap, sym}
 use Rattle.std.specs.Prelude.{if◌then◌else◌}
-use Rattle.dsu_runs.proofs.Books.{due_by, not_due}
+use Rattle.dsu_runs.proofs.Books.{due_by, none_more, not_due}
 use Rattle.dsu_runs.proofs.book.Book.due.Goals as goal
+
+pub returns-then-are_all_offered : goal.returns-then-are_all_offered
+returns-then-are_all_offered c = λ setup g names book is.
+    none_more setup g names c.args.self.now c.args.written c.are_all_offered.result book is c.are_all_offered.ensures
+    c.if-are_all_offered.true
 
 pub returns-then-self : goal.returns-then-self
 returns-then-self c = λ setup g names book is.

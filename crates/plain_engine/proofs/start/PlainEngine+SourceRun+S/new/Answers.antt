@@ -9,6 +9,7 @@ over-requires-clause-some g c = some_texts c.args.text c.args.offers.items _ c.i
 pub returns-in-Ok-clause-start : goal.returns-in-Ok-clause-start
 returns-in-Ok-clause-start g c =
     c.over.ensures.start c.args.text c.args.offers.items c.args.objects c.requires.equal c.in-Ok.ensures.trees c.in-Ok.ensures.run refl
+    (λ rules events x moves rows legal world versions. tt)
 
 pub returns-in-Ok-clause-fault : goal.returns-in-Ok-clause-fault
 returns-in-Ok-clause-fault g c =

@@ -9,7 +9,7 @@ use Rattle.plain_engine.proofs.Starting.{first_run_at, first_state, lines_are}
 use Rattle.plain_engine.proofs.state.State.first.Goals as goal
 
 pub returns-clause-start : goal.returns-clause-start
-returns-clause-start g c = λ text programs objects equal trees run.
+returns-clause-start g c = λ text programs objects equal trees run meets.
     let lines = c.args.lines.items in
     let setup = setup_of text programs lines objects in
     let run_at = first_run_at text programs lines objects (g.M.Machine.shown c.args.run) equal run trees in
@@ -17,7 +17,7 @@ returns-clause-start g c = λ text programs objects equal trees run.
     let first = same_Some c.first_text.result.now text (c.first_text.ensures ∙ ap (λ ts. slice_get ts 0) trees) in
     first_state text programs lines objects _ run_at (c.first_seats-seats.ensures setup refl run_at)
     (subst (λ p. IsInstalled (text_of p ∷ []) i.count i.names i.store) first c.in_ok-installed.ensures.installed) refl trees
-    (c.in_ok-book.ensures setup i.names (lines_are programs lines equal))
+    (c.in_ok-book.ensures setup i.names (lines_are programs lines equal)) meets
 
 pub returns-in_err-installed-clause-fault : goal.returns-in_err-installed-clause-fault
 returns-in_err-installed-clause-fault g c =

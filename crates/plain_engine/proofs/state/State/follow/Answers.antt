@@ -21,4 +21,6 @@ returns-clause-followed g c = λ setup x after is.
       book = is.closed c.close.new.self
           (subst (λ n. IsBook setup (answered c.args.k (Installed n) x) s.installed.names c.close.new.self) c.count.ensures
           (c.close.ensures setup x s.installed.names (Installed c.count.result) is.book is.offered (λ more. refl)));
+      reached = is.reached;
+      meets = is.meets;
     }

@@ -9,7 +9,7 @@ use Rattle.plain_engine.specs.Plain.{IsStateAt, state_shown}
 use Rattle.plain_engine.specs.Steps.{Stayed}
 use Rattle.code_store.specs.Limits.{are_too_many}
 use Rattle.code_store.specs.Stored.{meant_body}
-use Rattle.plain_engine.proofs.Installing.{after, cannot, changing_is, few, followed, installs_so, names_are, roomy, store_is, transforms_are}
+use Rattle.plain_engine.proofs.Installing.{after, cannot, changing_is, few, followed, install_needs, installs_so, names_are, roomy, store_is, transforms_are}
 use Rattle.plain_engine.proofs.Moving.{unmoved}
 use Rattle.version_laws.specs.Histories.{last_text, versions_by}
 use Rattle.std.specs.Prelude.{slice_index_or, ◌∷◌, []}
@@ -40,14 +40,13 @@ returns-in-Ok-Done-clause-made g c = λ setup x at going right offered some is.
     (names_are setup x k s at going right offered some patch pins is) (store_is setup x k s at going right offered some patch pins is) in
     let named = c.in_ok-replaced.ensures.names in
     let came = subst (CameBy (texts_of setup) setup.limits at.run.moves (Install k) new) c.in-Ok-Done.field-0-is
-    (c.in-Ok-Done.ensures.made (texts_of setup) setup.limits at.run.moves at.run.run
+    (c.in-Ok-Done.ensures.made (texts_of setup) setup.limits at.run.moves at.run.run (install_needs setup x k s at going right offered some patch pins is)
     (subst (λ cs. map name_of cs ≡ changing p q) (sym c.deref-2.ensures.value) (changing_is setup x k s at going right offered some patch pins is))
     (subst (All (IsChange p q)) (sym c.deref-2.ensures.value) (transforms_are setup x k s at going right offered some patch pins is))) in
     let there = new.reached (texts_of setup) setup.limits (at.run.moves ++ Install k ∷ []) came in
     installs_so setup x k s at going right offered some patch pins is new i c.install-2.ensures.same came there.0 there.1 brought named
     (state_shown g.M.Machine.shown c.follow.new.self)
-    (c.follow.ensures.followed setup x
-    (after setup x k s at going right offered some patch pins is new i c.install-2.ensures.same came there.0 there.1 brought named)
+    (c.follow.ensures.followed setup x (after setup x k s at going right offered some patch pins is there.0 there.1)
     (followed setup x k s at going right offered some patch pins is new i c.install-2.ensures.same came there.0 there.1 brought named))
 
 pub returns-in-Ok-CannotMove-clause-made : goal.returns-in-Ok-CannotMove-clause-made
@@ -60,7 +59,7 @@ returns-in-Ok-CannotMove-clause-made g c = λ setup x at going right offered som
     let p = last_text (versions_by (texts_of setup) at.run.moves) in
     let q = slice_index_or (texts_of setup) k [] in
     let came = subst (CameBy (texts_of setup) setup.limits at.run.moves (Install k) new) c.in-Ok-CannotMove.field-0-is
-    (c.in-Ok-CannotMove.ensures.made (texts_of setup) setup.limits at.run.moves at.run.run
+    (c.in-Ok-CannotMove.ensures.made (texts_of setup) setup.limits at.run.moves at.run.run (install_needs setup x k s at going right offered some patch pins is)
     (subst (λ cs. map name_of cs ≡ changing p q) (sym c.deref-2.ensures.value) (changing_is setup x k s at going right offered some patch pins is))
     (subst (All (IsChange p q)) (sym c.deref-2.ensures.value) (transforms_are setup x k s at going right offered some patch pins is))) in
     subst (λ i. Stayed setup (Decide k) x (record s { run = new; installed = i }))

@@ -16,7 +16,7 @@ by : (setup : Setup) (g : Guard) (k : _) (s : ShownState) (book : Entries) (done
 by setup g k s book true at going can is = offers_one setup g k s book at going (sym can) is
 by setup g k s book false at going can is =
     let none = offers_none setup g k (record s { book = book })
-    (record { run = at.run; seats = at.seats; versions = at.versions; book = is }) (λ on. sym can) in none
+    (record { run = at.run; seats = at.seats; versions = at.versions; book = is; reached = at.reached; meets = at.meets }) (λ on. sym can) in none
 
 pub returns-then-has_ended-clause-made : goal.returns-then-has_ended-clause-made
 returns-then-has_ended-clause-made g c = λ setup x at lines.
