@@ -1,12 +1,13 @@
 pub mod NumberedNames
-pub mod OneTextRuns
-pub mod UsedByMoves
 pub mod Starting
-pub mod Moving
 pub mod Resting
+pub mod LostThreads
+pub mod ReadyMoves
+pub mod RunsAfter
+pub mod Moving
+pub mod Installing
 pub mod SlotsAlike
 pub mod NextStops
-pub mod Stepping
 pub mod Asking
 pub mod Lasting
 pub mod MovesMade

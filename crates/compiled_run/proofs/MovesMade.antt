@@ -10,9 +10,7 @@ use Rattle.run_machine.specs.declared.machine.MoveMade.{MoveMade}
 use Rattle.run_machine.specs.declared.machine.Moved.{Moved}
 use Rattle.run_machine.specs.declared.machine.Moved.TheVariants.{Done, CannotMove}
 use Rattle.run_machine.specs.Machines.{HasMoved}
-use Rattle.code_runs.specs.CodeThreads.{CodeWorld}
-use Rattle.code_machine.specs.Seen.{code_world, image_of, output_of}
-use Rattle.code_machine.specs.Steps.{Comes}
+use Rattle.code_machine.specs.Seen.{code_world}
 use Rattle.compiled_run.specs.declared.run.CompiledRun.{CompiledRun}
 use Rattle.compiled_run.specs.Compiled.{IsCompiledRun, IsMade, compiled_shown}
 use Rattle.compiled_run.proofs.Asking.{threads_are}
@@ -40,12 +38,7 @@ has_moved texts limits ms t old new h now made leads led leads_is same = record 
   run = now;
   leads = λ going. led going ∙ ap Some (sym leads_is);
   starts = λ none.
-      threads_are texts limits (ms ++ Move t ∷ []) (image_of new.machine) (code_world new.machine) (output_of new.machine) new.kept now
+      threads_are texts limits (ms ++ Move t ∷ []) new.machine new.tables.items new.kept now
       ∙ ap Some (same none)
-      ∙ sym (threads_are texts limits ms (image_of old.machine) (code_world old.machine) (output_of old.machine) old.kept h);
+      ∙ sym (threads_are texts limits ms old.machine old.tables.items old.kept h);
 }
-
--- what was printed where none was made
-pub still_printed : (text : List BareDef) (t : ℕ) (old new : CodeWorld) (before after : List ℕ) (answer : Bool) → answer ≡ false
-    → Comes text t old new before after answer → after ≡ before
-still_printed text t old new before after answer isnt came = (subst (Comes text t old new before after) isnt came).output

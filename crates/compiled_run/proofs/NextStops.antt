@@ -39,10 +39,7 @@ module _ (code : Code) (look : Definitions) (result : BareType) (tags : List Byt
   no_stop (Trapped kind) h none = (refl, λ below. refl)
   no_stop Nothing h none = absurd h
 
-module _ (text : List BareDef) (tags : List Bytes) (naming : Naming) where
-  abbrev texts : List (List BareDef)
-  texts = text ∷ []
-
+module _ (texts : List (List BareDef)) (tags : List Bytes) (naming : Naming) where
   -- a frame waits under one where one of code does
   leads_alike : (s : Stop) (type : BareType) (fs : List Frame) (owns : List CodeFrame) → BelowMatch texts tags naming type fs owns
       → leads s fs ≡ stop_leads s (is_some (slice_get owns 0))
@@ -84,7 +81,7 @@ module _ (text : List BareDef) (tags : List Bytes) (naming : Naming) where
 
   -- ---- a slot whose thread, if one lives there, rests at none
 
-  module _ (w : CodeWorld) (t : ℕ) (none : HasNoStop text w t) where
+  module _ (w : CodeWorld) (t : ℕ) (none : HasNoStop texts w t) where
     module _ (th : Thread) (own : CodeThread) (there : in_slot w t ≡ Live own) (m : ThreadMatches texts tags naming th own) where
       halted : (f : CodeFrame) → own.next ≡ Rests f → (r : RestsAlike texts tags naming th f own.below)
           → (point_of_halt (next_of r.frame) ≡ None) × ((below : List Frame) → halt_leads (next_of r.frame) below ≡ false)

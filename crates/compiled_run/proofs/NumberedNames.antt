@@ -1,7 +1,10 @@
--- The names by which a run of a text numbers things have each global, array, mutex and struct of the text.
-use Rattle.std.proofs.Common.{◌≡◌, suc, ◌<◌, Bool, true, false, List, [], ◌∷◌, map, length, Contains, Option, Some, None, drop, refl, ap, subst, arith, bytes_eq, if◌then◌else◌}
-use Rattle.std.specs.Prelude.{filter_map}
-use Rattle.std.specs.List.{cons_option}
+-- The names by which a run numbers things have each global, array, mutex and struct of each of its texts.
+use Rattle.std.proofs.Common.{◌≡◌, ℕ, zero, suc, ◌<◌, ◌||◌, Bool, true, false, List, [], ◌∷◌, ◌++◌, map, length, All, Contains, Option, Some, None, drop, slice_get, slice_index_or, refl, sym, ap, subst, arith, bytes_eq, if◌then◌else◌}
+use Rattle.std.specs.Prelude.{filter_map, flat_map}
+use Rattle.std.specs.List.{cons_option, list_any}
+use Rattle.std.proofs.lemmas.List.Elements.{All-map, All-weaker, Contains-append_left, Contains-append_right, Contains-push}
+use Rattle.std.proofs.lemmas.Option.{none-some, same_Some, slice_get-get_or}
+use Rattle.name_sets.specs.NameLists.{is_among}
 use Rattle.c_tree.specs.BareExpr.{Bytes}
 use Rattle.c_tree.specs.BareDef.{BareDef, Global, Array, Mutex, Struct}
 use Rattle.c_semantics.specs.Names.{struct_name}
@@ -11,7 +14,8 @@ use Rattle.world_laws.proofs.Found.{same_bytes}
 use Rattle.typed_transformers.specs.TransformerTypes.{HasCells}
 use Rattle.typed_trees.specs.ExpressionTypes.{IsMutex, IsStruct}
 use Rattle.code_run_laws.specs.WorldMatches.{Numbers}
-use Rattle.code_image.specs.Images.{mutex_name, names_of, tag_of}
+use Rattle.code_image.specs.Images.{mutex_name, names_in, names_of, tag_of, with_more, with_new}
+use Rattle.code_machine.specs.Versions.{texts_by}
 
 here : (x : Bytes) (xs : List Bytes) → Contains (x ∷ xs) x
 here x xs = let within : 0 < length (x ∷ xs) = omega arith in (0, within, refl)
@@ -27,25 +31,25 @@ first_is name own rest e = subst (λ m. Contains (m ∷ rest) name) (same_bytes 
 
 -- ---- globals and arrays
 
-abbrev names_in : List Cells → List Bytes
-names_in gs = map (λ g. g.name) gs
+abbrev names_with : List Cells → List Bytes
+names_with gs = map (λ g. g.name) gs
 
-after_cells : (o : Option Cells) (gs : List Cells) (name : Bytes) → Contains (names_in gs) name → Contains (names_in (cons_option o gs)) name
+after_cells : (o : Option Cells) (gs : List Cells) (name : Bytes) → Contains (names_with gs) name → Contains (names_with (cons_option o gs)) name
 after_cells None gs name h = h
-after_cells (Some g) gs name h = later g.name (names_in gs) name h
+after_cells (Some g) gs name h = later g.name (names_with gs) name h
 
 own_cells : (x : BareDef) (gs : List Cells) (name : Bytes) → defines name x ≡ true → HasCells (Some x)
-    → Contains (names_in (cons_option (cells_at_first x) gs)) name
-own_cells (Global d) gs name is h = first_is name d.name (names_in gs) is
-own_cells (Array type own n values) gs name is h = first_is name own (names_in gs) is
+    → Contains (names_with (cons_option (cells_at_first x) gs)) name
+own_cells (Global d) gs name is h = first_is name d.name (names_with gs) is
+own_cells (Array type own n values) gs name is h = first_is name own (names_with gs) is
 own_cells _ gs name is h = absurd h
 
-cells_have : (text : List BareDef) (name : Bytes) → HasCells (definition text name) → Contains (names_in (filter_map cells_at_first text)) name
+cells_have : (text : List BareDef) (name : Bytes) → HasCells (definition text name) → Contains (names_with (filter_map cells_at_first text)) name
 cells_have [] name h = absurd h
 cells_have (x ∷ text) name h = by (cells_have text name) (defines name x) refl h
   where
-    by : (HasCells (definition text name) → Contains (names_in (filter_map cells_at_first text)) name) → (b : Bool) → defines name x ≡ b
-        → HasCells (if b then Some x else definition text name) → Contains (names_in (filter_map cells_at_first (x ∷ text))) name
+    by : (HasCells (definition text name) → Contains (names_with (filter_map cells_at_first text)) name) → (b : Bool) → defines name x ≡ b
+        → HasCells (if b then Some x else definition text name) → Contains (names_with (filter_map cells_at_first (x ∷ text))) name
     by rest true is h = own_cells x (filter_map cells_at_first text) name is h
     by rest false is h = after_cells (cells_at_first x) (filter_map cells_at_first text) name (rest h)
 
@@ -98,3 +102,74 @@ tags_have (x ∷ text) tag h = by (tags_have text tag) (defines (struct_name tag
 
 pub numbers_of_text : (text : List BareDef) → Numbers (names_of text) text
 numbers_of_text text = record { cells = cells_have text; mutexes = mutexes_have text; tags = tags_have text }
+
+-- ---- names of several texts
+
+-- what is among names is one of them
+among_is : (names : List Bytes) (name : Bytes) → is_among names name ≡ true → Contains names name
+among_is [] name e = cc
+among_is (x ∷ xs) name e = by (among_is xs name) (bytes_eq name x) refl e
+  where
+    by : (is_among xs name ≡ true → Contains xs name) → (b : Bool) → bytes_eq name x ≡ b → (b || list_any (bytes_eq name) xs) ≡ true
+        → Contains (x ∷ xs) name
+    by rest true is e = first_is name x xs is
+    by rest false is e = later x xs name (rest e)
+
+with_new_keeps : (names : List Bytes) (name x : Bytes) → Contains names x → Contains (with_new names name) x
+with_new_keeps names name x h = by (is_among names name)
+  where
+    by : (b : Bool) → Contains (if b then names else names ++ name ∷ []) x
+    by true = h
+    by false = Contains-append_left names (name ∷ []) x h
+
+with_new_has : (names : List Bytes) (name : Bytes) → Contains (with_new names name) name
+with_new_has names name = by (is_among names name) refl
+  where
+    by : (b : Bool) → is_among names name ≡ b → Contains (if b then names else names ++ name ∷ []) name
+    by true is = among_is names name is
+    by false is = Contains-push names name
+
+with_more_keeps : (names more : List Bytes) (x : Bytes) → Contains names x → Contains (with_more names more) x
+with_more_keeps names [] x h = h
+with_more_keeps names (m ∷ more) x h = with_more_keeps (with_new names m) more x (with_new_keeps names m x h)
+
+with_more_has : (names more : List Bytes) (x : Bytes) → Contains more x → Contains (with_more names more) x
+with_more_has names [] x h = let no = h.1 in absurd (omega (arith, no))
+with_more_has names (m ∷ more) x h = by h.0 (with_more_has (with_new names m) more x) h.1 h.2
+  where
+    by : (k : ℕ) → (Contains more x → Contains (with_more (with_new names m) more) x) → k < length (m ∷ more)
+        → slice_index_or (m ∷ more) k x ≡ x → Contains (with_more names (m ∷ more)) x
+    by zero rest lt is =
+        subst (Contains (with_more (with_new names m) more)) is (with_more_keeps (with_new names m) more m (with_new_has names m))
+    by (suc k) rest lt is = let inside : k < length more = omega (arith, lt) in rest (k, inside, is)
+
+in_flat : (f : List BareDef → List Bytes) (texts : List (List BareDef)) (n : ℕ) (text : List BareDef) (x : Bytes)
+    → slice_get texts n ≡ Some text → Contains (f text) x → Contains (flat_map f texts) x
+in_flat f [] n text x e h = absurd (none-some text e)
+in_flat f (t ∷ texts) zero text x e h =
+    Contains-append_left (f t) (flat_map f texts) x (subst (λ y. Contains (f y) x) (sym (same_Some t text e)) h)
+in_flat f (t ∷ texts) (suc n) text x e h = Contains-append_right (f t) (flat_map f texts) x (in_flat f texts n text x e h)
+
+-- each of the texts
+pub numbers_in : (texts : List (List BareDef)) (n : ℕ) (text : List BareDef) → slice_get texts n ≡ Some text → Numbers (names_in texts) text
+numbers_in texts n text e =
+    let own = numbers_of_text text in
+    record {
+      cells = λ name h.
+          with_more_has [] (flat_map (λ t. (names_of t).cells) texts) name
+          (in_flat (λ t. (names_of t).cells) texts n text name e (own.cells name h));
+      mutexes = λ name h.
+          with_more_has [] (flat_map (λ t. (names_of t).mutexes) texts) name
+          (in_flat (λ t. (names_of t).mutexes) texts n text name e (own.mutexes name h));
+      tags = λ tag h.
+          with_more_has [] (flat_map (λ t. (names_of t).tags) texts) tag
+          (in_flat (λ t. (names_of t).tags) texts n text tag e (own.tags tag h));
+    }
+
+-- and each version
+pub numbers_of_versions : (texts : List (List BareDef)) (versions : List ℕ) → All (λ n. n < length texts) versions
+    → All (Numbers (names_in texts)) (texts_by texts versions)
+numbers_of_versions texts versions known =
+    All-map (Numbers (names_in texts)) (λ n. slice_index_or texts n []) versions
+    (All-weaker (λ n. n < length texts) (λ n. Numbers (names_in texts) (slice_index_or texts n []))
+    (λ n lt. numbers_in texts n (slice_index_or texts n []) (slice_get-get_or texts n [] lt)) versions known)

@@ -1,5 +1,5 @@
--- What is said of a run of one text by its code.
-use Rattle.std.specs.Prelude.{◌≡◌, ℕ, ◌+◌, ◌≤◌, Bool, false, List, [], ◌∷◌, length, slice_index_or, Some}
+-- What is said of a run of some texts by their code.
+use Rattle.std.specs.Prelude.{◌≡◌, ℕ, ◌+◌, ◌*◌, ◌≤◌, Bool, false, List, [], length, Some}
 use Rattle.std.proofs.Common.{ap, sym, ◌∙◌}
 use Rattle.std.proofs.lemmas.Option.{same_Some}
 use Rattle.c_tree.specs.BareDef.{BareDef}
@@ -13,26 +13,30 @@ use Rattle.source_runner.specs.SourceRuns.{world_after}
 use Rattle.run_machine.specs.declared.machine.Moved.{Moved}
 use Rattle.run_machine.specs.declared.machine.Moved.TheVariants.{Done, CannotMove}
 use Rattle.run_machine.specs.Machines.{Shown}
+use Rattle.word_data.specs.Lengths.{most_printed}
 use Rattle.code_machine.specs.Queries as asked
-use Rattle.code_machine.specs.Seen.{code_world, image_of, output_of, words_of}
+use Rattle.code_machine.specs.Seen.{image_of, output_of, words_of}
+use Rattle.code_machine.specs.Used.{HasUsed}
 use Rattle.compiled_run.specs.declared.run.CompiledRun.{CompiledRun}
 use Rattle.compiled_run.specs.CodeOfRuns.{IsRunOf}
+use Rattle.compiled_run.specs.Needs.{NeedsOf}
 
 abbrev pub IsCompiledRun : List (List BareDef) → Limits → List SourceMove → CompiledRun → Type 0
-IsCompiledRun texts limits moves r = IsRunOf texts limits moves (image_of r.machine) (code_world r.machine) (output_of r.machine) r.kept
+IsCompiledRun texts limits moves r = IsRunOf texts limits moves r.machine r.tables.items r.kept
 
--- there is one version
+-- its current version is the last one that was installed
 pub counted : (texts : List (List BareDef)) (limits : Limits) (moves : List SourceMove) (r : CompiledRun) (w : World)
     → IsCompiledRun texts limits moves r → world_after texts limits moves ≡ Some w → current w.table ≡ length (versions_by texts moves)
 counted texts limits moves r w is reached =
     ap (λ (w : World). current w.table) (same_Some w is.world (sym reached ∙ is.ran))
     ∙ is.stands.of.history.count
-    ∙ sym (ap (λ (ts : List (List BareDef)). length (slice_index_or texts 0 [] ∷ ts)) is.none_installed)
+    ∙ sym (ap length is.are)
 
 abbrev pub compiled_shown : CompiledRun → Shown
 compiled_shown r = record {
   is_run = λ texts limits moves. IsCompiledRun texts limits moves r;
-  trees = r.text ∷ [];
+  needs = NeedsOf;
+  trees = r.texts.items;
   words = words_of (image_of r.machine);
   kept = r.kept;
   reached = λ texts limits moves is. (is.world, is.ran);
@@ -41,13 +45,13 @@ compiled_shown r = record {
 
 -- ---- moves that want no memory
 
--- it works, and it has numbers for so many moves more: all its moves together are 2^32 - 1 at most
+-- it works, and it has numbers for so many moves more: all its moves together are 2^32 - 1 at most. Each printed as much as one print may
+-- at most
 pub record Spent (n : ℕ) (r : CompiledRun) : Type 0 where
-  pub texts : List (List BareDef)
-  pub limits : Limits
-  pub moves : List SourceMove
-  pub run : IsCompiledRun texts limits moves r
-  pub within : length moves + n ≤ creation_limit
+  pub moves : ℕ
+  pub used : HasUsed moves r.machine.run
+  pub within : moves + n ≤ creation_limit
+  pub short : r.kept + length (output_of r.machine) ≤ moves * most_printed
   pub works : r.failed ≡ false
 
 -- and its output is forgotten

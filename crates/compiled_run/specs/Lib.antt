@@ -1,3 +1,3 @@
-pub mod NumbersUsed
+pub mod Needs
 pub mod CodeOfRuns
 pub mod Compiled

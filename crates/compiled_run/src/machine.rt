@@ -13,7 +13,6 @@ use c_types::Typed;
 use code_image::CodeImage;
 use code_machine::{CodeWait, Finish, FramePlace};
 use code_run_laws::code_moves_as_the_source_machine;
-use progress_laws::threads_of_runs_go_on;
 use resolved_tree::Word;
 use run_machine::{Machine, Moved};
 use run_types::Ending;
@@ -35,7 +34,7 @@ fn frame_at(place: Option<FramePlace>) -> Option<FrameAt>
     }
 }
 
-/// What a thread waits for, with the names of a text.
+/// What a thread waits for, with the names of the texts.
 fn awaited(image: &CodeImage, wait: Option<CodeWait>) -> Option<SourceWait<'_>>
     ensures { option_map waiting_of result ≡ option_map (code_waiting_of (words_of image.now)) wait }
 {
@@ -68,6 +67,7 @@ impl Machine for CompiledRun {
 
     ghost spent = { Spent };
 
+    #[inline(always)]
     fn step(&mut self, slot: u8) -> Result<Moved, AllocError> {
         if self.failed {
             return Err(AllocError);
@@ -81,9 +81,8 @@ impl Machine for CompiledRun {
         }
     }
 
-    // There is one text, which has the number 0.
-    fn install(&mut self, _: usize, _: &[Change]) -> Result<Stepped, AllocError> {
-        Ok(Stepped::CannotMove)
+    fn install(&mut self, number: usize, changes: &[Change]) -> Result<Stepped, AllocError> {
+        self.install_text(number, changes)
     }
 
     fn output_from(&self, from: usize) -> &[u8] {
@@ -99,6 +98,7 @@ impl Machine for CompiledRun {
         &output[start..]
     }
 
+    #[inline(always)]
     fn forget(&mut self) {
         if let Some(kept) = self.kept.checked_add(self.machine.output().len()) {
             self.kept = kept;
@@ -110,24 +110,26 @@ impl Machine for CompiledRun {
         false
     }
 
+    #[inline(always)]
     fn ending(&self) -> Option<Ending> {
         ending(self.machine.finish())
     }
 
+    #[inline(always)]
     fn is_live(&self, slot: u8) -> bool {
         self.machine.is_live(slot)
     }
 
+    #[inline(always)]
     fn can_move(&self, slot: u8) -> bool {
         code_moves_as_the_source_machine();
-        threads_of_runs_go_on();
         if self.machine.finish().is_some() {
             return false;
         }
         if !self.machine.is_live(slot) {
             return false;
         }
-        self.machine.waits(slot).is_none()
+        !self.machine.is_held(slot)
     }
 
     fn waits(&self, slot: u8) -> Option<SourceWait<'_>> {
@@ -136,7 +138,7 @@ impl Machine for CompiledRun {
     }
 
     fn text(&self, number: usize) -> Option<&Typed> {
-        if number == 0 { Some(&self.text) } else { None }
+        self.texts.get(number)
     }
 
     fn word(&self, word: Word) -> &str {

@@ -1,4 +1,6 @@
-//! Both machines of one text, and whether they answer alike.
+//! Both machines of some texts, and whether they answer alike.
+ghost use Rattle.std.specs.Prelude.{◌<◌, IfOk, length};
+
 use c_front::read_text;
 use c_types::Typed;
 use compiled_run::CompiledRun;
@@ -20,22 +22,32 @@ fn read(alloc: Global, text: &str) -> Result<Typed, Fail> {
     }
 }
 
-/// The source machine at the start of a text.
-pub(crate) fn plain_of(alloc: Global, text: &str) -> Result<SourceRun, Fail> {
-    let typed = read(alloc, text)?;
-    let texts = vec![in alloc; typed]?;
-    if texts.is_empty() {
+/// The trees of some texts. There is at least one.
+fn read_all(alloc: Global, texts: &[&str]) -> Result<Vec<Typed>, Fail>
+    ensures { IfOk result (λ all. 0 < length all.items) }
+{
+    let mut all = Vec::new(alloc);
+    for text in texts {
+        all.push(read(alloc, text)?)?;
+    }
+    if all.is_empty() {
         return Err(Fail::new("there is no text"));
     }
-    Ok(SourceRun::new(alloc, texts, OBJECTS, SLOTS)?)
+    Ok(all)
 }
 
-/// Its code at the start.
-pub(crate) fn compiled_of(alloc: Global, text: &str) -> Result<CompiledRun, Fail> {
-    let typed = read(alloc, text)?;
-    match CompiledRun::new(alloc, typed, OBJECTS, SLOTS) {
+/// The source machine at the start of the first of some texts.
+pub(crate) fn plain_of(alloc: Global, texts: &[&str]) -> Result<SourceRun, Fail> {
+    let all = read_all(alloc, texts)?;
+    Ok(SourceRun::new(alloc, all, OBJECTS, SLOTS)?)
+}
+
+/// Their code at the start.
+pub(crate) fn compiled_of(alloc: Global, texts: &[&str]) -> Result<CompiledRun, Fail> {
+    let all = read_all(alloc, texts)?;
+    match CompiledRun::new(alloc, all, OBJECTS, SLOTS) {
         Ok(run) => Ok(run),
-        Err(_) => Err(Fail::new("a text isn't loaded")),
+        Err(_) => Err(Fail::new("texts aren't loaded")),
     }
 }
 
@@ -110,7 +122,7 @@ pub(crate) fn are_alike(plain: &SourceRun, compiled: &CompiledRun) -> bool {
             return false;
         }
     }
-    !compiled.misused()
+    !plain.misused() && !compiled.misused()
 }
 
 /// The move of the thread in a slot of the source machine, with whether it led to a check-in and whether it started a thread.

@@ -11,7 +11,7 @@ use std::test::Fail;
 const MOVES: usize = 600;
 
 /// The next number of a linear generator.
-fn next(x: u32) -> u32 {
+pub(crate) fn next(x: u32) -> u32 {
     x.wrapping_mul(1_664_525).wrapping_add(1_013_904_223)
 }
 
@@ -40,8 +40,8 @@ fn go_alike(
 
 /// Whether both runs of a text go alike.
 fn runs_alike(alloc: Global, text: &str, seed: u32) -> Result<bool, Fail> {
-    let mut plain = plain_of(alloc, text)?;
-    let mut compiled = compiled_of(alloc, text)?;
+    let mut plain = plain_of(alloc, &[text])?;
+    let mut compiled = compiled_of(alloc, &[text])?;
     let alike = are_alike(&plain, &compiled) && go_alike(&mut plain, &mut compiled, seed)?;
     drop(compiled);
     drop(plain);

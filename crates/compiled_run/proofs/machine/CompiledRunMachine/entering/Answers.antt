@@ -7,4 +7,4 @@ use Rattle.compiled_run.proofs.machine.CompiledRunMachine.entering.Goals as goal
 pub returns : goal.returns
 returns c = λ texts limits moves h going.
     given (λ x. entering_in (in_slot x.world c.args.slot)) texts limits moves h.world h.ran
-    ∙ ap Some (entering_is texts limits moves _ _ _ _ h (not_over texts limits moves h.world h.ran going) c.args.slot ∙ sym c.entering.ensures)
+    ∙ ap Some (entering_is texts limits moves _ _ _ h (not_over texts limits moves h.world h.ran going) c.args.slot ∙ sym c.entering.ensures)

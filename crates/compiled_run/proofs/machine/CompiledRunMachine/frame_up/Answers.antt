@@ -11,5 +11,5 @@ use Rattle.compiled_run.proofs.machine.CompiledRunMachine.frame_up.Goals as goal
 pub returns : goal.returns
 returns c = λ texts limits moves h going.
     given (λ x. place_up_in c.args.up (in_slot x.world c.args.slot)) texts limits moves h.world h.ran
-    ∙ ap Some (place_is texts limits moves _ _ _ _ h (not_over texts limits moves h.world h.ran going) c.args.up c.args.slot
+    ∙ ap Some (place_is texts limits moves _ _ _ h (not_over texts limits moves h.world h.ran going) c.args.up c.args.slot
     ∙ twice _ ∙ sym (c.frame_at.ensures (words_of (image_of c.args.self.now.machine)) ∙ ap (option_map seen_place) c.frame_up.ensures))

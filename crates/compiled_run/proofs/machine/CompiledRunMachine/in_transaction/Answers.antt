@@ -7,4 +7,4 @@ use Rattle.compiled_run.proofs.machine.CompiledRunMachine.in_transaction.Goals a
 pub returns : goal.returns
 returns c = λ texts limits moves h.
     given (λ x. in_transaction (in_slot x.world c.args.slot)) texts limits moves h.world h.ran
-    ∙ ap Some (transaction_is texts limits moves _ _ _ _ h c.args.slot ∙ sym c.in_transaction.ensures)
+    ∙ ap Some (transaction_is texts limits moves _ _ _ h c.args.slot ∙ sym c.in_transaction.ensures)

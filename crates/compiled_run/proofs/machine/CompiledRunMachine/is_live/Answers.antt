@@ -7,4 +7,4 @@ use Rattle.compiled_run.proofs.machine.CompiledRunMachine.is_live.Goals as goal
 pub returns : goal.returns
 returns c = λ texts limits moves h.
     given (λ x. is_live (in_slot x.world c.args.slot)) texts limits moves h.world h.ran
-    ∙ ap Some (live_is texts limits moves _ _ _ _ h c.args.slot ∙ sym c.is_live.ensures)
+    ∙ ap Some (live_is texts limits moves _ _ _ h c.args.slot ∙ sym c.is_live.ensures)

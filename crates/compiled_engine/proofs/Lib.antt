@@ -1,0 +1,2 @@
+mod MetNeeds
+mod TextsOfPrograms
