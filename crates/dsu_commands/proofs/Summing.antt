@@ -27,11 +27,13 @@ use Rattle.dsu_commands.specs.Answers.{Answers, IsDone, IsExcused, did, short}
 use Rattle.dsu_commands.specs.Calls.{Call, Shows, Stopped}
 use Rattle.dsu_commands.specs.Generated.{Printed, SummaryFailed, Summed, Unprinted, generated_plan, generated_setup, generated_summary, lines_in, summary_text}
 use Rattle.dsu_commands.specs.Jobs.{Contents, IsKnownProgram}
+use Rattle.dsu_commands.specs.Offers.{IsOnlyOffer}
 use Rattle.dsu_commands.specs.Plans.{Ends}
 use Rattle.dsu_commands.specs.Remaining.{OutOfMemory}
 use Rattle.dsu_commands.specs.Reports.{run_text}
 use Rattle.dsu_commands.specs.Runs.{HandsBack, Made, report_of}
 use Rattle.dsu_commands.specs.Schedules.{EndedBy, RanBy}
+use Rattle.dsu_commands.specs.declared.offers.Offers.{Offers}
 use Rattle.dsu_commands.proofs.Accepting.{texts_are_accepted}
 use Rattle.dsu_commands.proofs.FailedReads.{none_yet}
 use Rattle.dsu_commands.proofs.Outcomes.{done_by}
@@ -148,3 +150,21 @@ pub only_offer_is_accepted : TextsOfProgramsAreAccepted → (program next : Prog
 only_offer_is_accepted law program next first text lines objects known =
     texts_are_accepted law (λ file. Some known.text) program first (record { file = []; lines = lines } ∷ []) (known.text ∷ []) (next ∷ [])
     (lines ∷ []) objects (record { read = refl; fits = known.fits; accepted = known.accepted }, tt)
+
+-- so they are where that offer was read
+pub read_offer_is_accepted : TextsOfProgramsAreAccepted → (program : Program) → ((text : List ℕ) × Accepted text program)
+    → (text : List ℕ) (lines objects : ℕ) (offers : Offers) → IsOnlyOffer text lines offers
+    → TextsAreAccepted (setup_of program offers.programs.items offers.lines.items objects)
+read_offer_is_accepted law program first text lines objects offers o =
+    subst {A = List Program} (λ ps. TextsAreAccepted (setup_of program ps offers.lines.items objects)) (sym o.programs)
+    (subst {A = List ℕ} (λ ns. TextsAreAccepted (setup_of program (o.next ∷ []) ns objects)) (sym o.counts)
+    (only_offer_is_accepted law program o.next first text lines objects o.known))
+
+-- and the command came to the same with the offer that is known
+pub comes_with_offer : (seed size : ℕ) (program next : Program) (text : List ℕ) (lines objects : ℕ) (offers : Offers) (call : Call)
+    → IsOnlyOffer text lines offers → offers.programs.items ≡ next ∷ []
+    → Comes seed size (setup_of program offers.programs.items offers.lines.items objects) call
+    → Comes seed size (setup_of program (next ∷ []) (lines ∷ []) objects) call
+comes_with_offer seed size program next text lines objects offers call o is came =
+    subst {A = List ℕ} (λ ns. Comes seed size (setup_of program (next ∷ []) ns objects) call) o.counts
+    (subst {A = List Program} (λ ps. Comes seed size (setup_of program ps offers.lines.items objects) call) is came)

@@ -1,14 +1,15 @@
-ghost use Rattle.std.specs.Prelude.{◌⊎◌, ◌≡◌, ◌<◌, ◌≤◌, ◌/◌, ℕ, List as ListOf, [], ◌∷◌, false, length};
+ghost use Rattle.std.specs.Prelude.{◌⊎◌, ◌≡◌, ◌<◌, ◌≤◌, ◌/◌, ℕ, List as ListOf, [], ◌∷◌, false, length, map};
 ghost use Rattle.dsu_io.specs.Causes.{FailedReads};
 ghost use Rattle.c_front.specs.Accepted.{Accepted};
 ghost use Rattle.c_tree.specs.declared.def.Program.{Program};
 ghost use Rattle.source_model.specs.Guards.{Guard, Setup, first_guard};
 ghost use Rattle.source_model.specs.Journals.{answers};
+ghost use Rattle.source_programs.specs.Programs.{text_in};
 ghost use Rattle.accepted_runs.specs.AcceptedRuns.{TextsAreAccepted};
-ghost use Rattle.dsu_cli.specs.declared.job.EngineKind.{EngineKind};
 ghost use Rattle.dsu_cli.specs.declared.job.Job.TheVariants.{Gen};
 ghost use Rattle.dsu_report.specs.declared.fault.FaultLine.{FaultLine as Line};
-ghost use Rattle.run_machine.specs.Sources.{source_shown};
+ghost use Rattle.dsu_runs.specs.Setups.{setup_of};
+ghost use Rattle.image_load.specs.Loaded.{HasFewNames};
 ghost use Rattle.plain_engine.specs.Plain.{IsAt};
 ghost use Rattle.program_gen.specs.Generated.{offer_text};
 ghost use Rattle.dsu_commands.specs.Answers.{Answers, IsDone, IsExcused};
@@ -18,6 +19,7 @@ ghost use Rattle.dsu_commands.specs.Jobs.{Contents, IsKnownFault, IsReady};
 ghost use Rattle.dsu_commands.specs.Offers.{IsOnlyOffer};
 ghost use Rattle.dsu_commands.specs.Reports.{run_text};
 
+use crate::engines::engine_for;
 use crate::finish::Finish;
 use crate::generated::generated;
 use crate::offers::Offers;
@@ -26,14 +28,16 @@ use crate::stopped::{stop, stop_after, stop_before};
 use crate::summary::summary_of;
 use accepted_runs::accepted_runs_are_version_consistent;
 use c_types::Typed;
+use compiled_engine::compiled_engine;
+use dsu_cli::EngineKind;
 use dsu_io::{List, NullSink, Sink, put};
 use dsu_report::{FaultLine, LineWord, ending_status};
 use dsu_runs::{Ran, StopCause, rules_exist, solo};
 use frame_bodies::texts_of_programs_are_accepted;
 use plain_engine::PlainEngine;
+use run_machine::Machine;
 use run_types::Ending;
 use source_model::{journal_is_a_run, seats_fit_their_slots, solo_schedule_is_prompt};
-use source_runner::SourceRun;
 use std::alloc::Global;
 use typed_journals::{deadlocked_threads_wait, mains_result_is_an_int};
 
@@ -49,11 +53,12 @@ pub fn run_generated<O: Sink, E: Sink>(
     alloc: Global,
     seed: u64,
     size: u32,
+    asked: EngineKind,
     out: O,
     err: &mut E,
 ) -> Outcome<O>
     requires some { 0 < size }
-    // No file is read. The run has an offer, so the plain engine makes it, whichever is asked for.
+    // No file is read, and which engine makes the run shows in nothing.
     ensures answers { (engine : EngineKind) (content : Contents) (faults : FailedReads)
         → Answers (Gen seed size engine) content faults faults
         (call_of result (output_of O.told O.faults out result.out) (output_of E.told E.faults err.old err.new)) }
@@ -65,7 +70,7 @@ pub fn run_generated<O: Sink, E: Sink>(
         (call_of result (output_of O.told O.faults out result.out) (output_of E.told E.faults err.old err.new)) }
 {
     match generated(alloc, seed, size) {
-        Ok((program, offers)) => run_offered(alloc, seed, size, program, offers, out, err),
+        Ok((program, offers)) => run_offered(alloc, seed, size, asked, program, offers, out, err),
         Err((line, file)) => stop(alloc, line, file, out, err),
     }
 }
@@ -75,6 +80,7 @@ fn run_offered<O: Sink, E: Sink>(
     alloc: Global,
     seed: u64,
     size: u32,
+    asked: EngineKind,
     program: Typed,
     offers: Offers,
     out: O,
@@ -91,6 +97,65 @@ fn run_offered<O: Sink, E: Sink>(
         ⊎ Stopped FaultLine.Memory [] (call_of result (output_of O.told O.faults out result.out) (output_of E.told E.faults err.old err.new)) }
 {
     texts_of_programs_are_accepted();
+    match engine_for(alloc, asked, &program, &offers) {
+        Ok(EngineKind::Compiled) => run_compiled(alloc, seed, size, program, offers, out, err),
+        Ok(EngineKind::Plain) => run_plain(alloc, seed, size, program, offers, out, err),
+        Err(_) => stop(alloc, FaultLine::Memory, "", out, err),
+    }
+}
+
+/// Runs a generated program with its offer on the compiled engine, and prints the summary.
+fn run_compiled<O: Sink, E: Sink>(
+    alloc: Global,
+    seed: u64,
+    size: u32,
+    program: Typed,
+    offers: Offers,
+    out: O,
+    err: &mut E,
+) -> Outcome<O>
+    requires equal { length offers.programs.items ≡ length offers.lines.items }
+    requires few { length offers.lines.items ≤ 63 }
+    requires accepted { TextsAreAccepted (setup_of program offers.programs.items offers.lines.items 4096) }
+    requires offer { offers.texts.items ≡ offer_text seed size ∷ [] }
+    requires named { HasFewNames (map text_in (program ∷ offers.programs.items)) }
+    ensures { Summed seed size (setup_of program offers.programs.items offers.lines.items 4096)
+        (call_of result (output_of O.told O.faults out result.out) (output_of E.told E.faults err.old err.new))
+        ⊎ SummaryFailed seed size (setup_of program offers.programs.items offers.lines.items 4096)
+        (call_of result (output_of O.told O.faults out result.out) (output_of E.told E.faults err.old err.new))
+        ⊎ Stopped FaultLine.Memory [] (call_of result (output_of O.told O.faults out result.out) (output_of E.told E.faults err.old err.new)) }
+{
+    let Offers {
+        texts,
+        programs,
+        lines,
+    } = offers;
+    match compiled_engine(alloc, program, programs, lines, OBJECTS, NullSink::new()) {
+        Ok(engine) => run_engine(alloc, seed, size, engine, &texts, out, err),
+        Err(failed) => stop_before(alloc, failed.why, out, err),
+    }
+}
+
+/// Runs a generated program with its offer on the plain engine, and prints the summary.
+fn run_plain<O: Sink, E: Sink>(
+    alloc: Global,
+    seed: u64,
+    size: u32,
+    program: Typed,
+    offers: Offers,
+    out: O,
+    err: &mut E,
+) -> Outcome<O>
+    requires equal { length offers.programs.items ≡ length offers.lines.items }
+    requires few { length offers.lines.items ≤ 63 }
+    requires accepted { TextsAreAccepted (setup_of program offers.programs.items offers.lines.items 4096) }
+    requires offer { offers.texts.items ≡ offer_text seed size ∷ [] }
+    ensures { Summed seed size (setup_of program offers.programs.items offers.lines.items 4096)
+        (call_of result (output_of O.told O.faults out result.out) (output_of E.told E.faults err.old err.new))
+        ⊎ SummaryFailed seed size (setup_of program offers.programs.items offers.lines.items 4096)
+        (call_of result (output_of O.told O.faults out result.out) (output_of E.told E.faults err.old err.new))
+        ⊎ Stopped FaultLine.Memory [] (call_of result (output_of O.told O.faults out result.out) (output_of E.told E.faults err.old err.new)) }
+{
     let Offers {
         texts,
         programs,
@@ -103,16 +168,16 @@ fn run_offered<O: Sink, E: Sink>(
 }
 
 /// Runs an engine by the solo schedule, and prints the summary. `texts` has the one that is offered.
-fn run_engine<O: Sink, E: Sink>(
+fn run_engine<M: Machine, O: Sink, E: Sink>(
     alloc: Global,
     seed: u64,
     size: u32,
-    engine: PlainEngine<SourceRun, NullSink>,
+    engine: PlainEngine<M, NullSink>,
     texts: &[List<u8>],
     out: O,
     err: &mut E,
 ) -> Outcome<O>
-    ensures { (setup : Setup) → TextsAreAccepted setup → IsAt source_shown setup (first_guard setup) engine.state engine.printed engine.written
+    ensures { (setup : Setup) → TextsAreAccepted setup → IsAt M.shown setup (first_guard setup) engine.state engine.printed engine.written
         → texts.now ≡ offer_text seed size ∷ [] → Summed seed size setup
         (call_of result (output_of O.told O.faults out result.out) (output_of E.told E.faults err.old err.new))
         ⊎ SummaryFailed seed size setup
@@ -142,20 +207,20 @@ fn run_engine<O: Sink, E: Sink>(
 }
 
 /// Prints the summary of a run that ended.
-fn summarize<O: Sink, E: Sink>(
+fn summarize<M: Machine, O: Sink, E: Sink>(
     alloc: Global,
     seed: u64,
     size: u32,
-    ran: Ran<PlainEngine<SourceRun, NullSink>>,
+    ran: Ran<PlainEngine<M, NullSink>>,
     ending: Ending,
     texts: &[List<u8>],
     out: O,
     err: &mut E,
 ) -> Outcome<O>
-    ensures { (setup : Setup) (g : Guard) → IsAt source_shown setup g ran.engine.state ran.engine.printed ran.engine.written
+    ensures { (setup : Setup) (g : Guard) → IsAt M.shown setup g ran.engine.state ran.engine.printed ran.engine.written
         → length g.seats ≡ length g.world.slots
         → let summary = summary_text seed size (lines_in g.world.output) (run_text false [] (answers setup g) texts.now ending g.world) in
-        Printed setup (λ x. IsAt source_shown setup x ran.engine.state ran.engine.printed ran.engine.written) ran.history.items ending summary
+        Printed setup (λ x. IsAt M.shown setup x ran.engine.state ran.engine.printed ran.engine.written) ran.history.items ending summary
         (call_of result (output_of O.told O.faults out result.out) (output_of E.told E.faults err.old err.new))
         ⊎ Unprinted summary
         (call_of result (output_of O.told O.faults out result.out) (output_of E.told E.faults err.old err.new))
@@ -169,16 +234,16 @@ fn summarize<O: Sink, E: Sink>(
 }
 
 /// Prints a summary, and hands back the run.
-fn print_summary<O: Sink, E: Sink>(
+fn print_summary<M: Machine, O: Sink, E: Sink>(
     alloc: Global,
-    ran: Ran<PlainEngine<SourceRun, NullSink>>,
+    ran: Ran<PlainEngine<M, NullSink>>,
     ending: Ending,
     summary: &[u8],
     out: O,
     err: &mut E,
 ) -> Outcome<O>
     ensures { (setup : Setup)
-        → Printed setup (λ x. IsAt source_shown setup x ran.engine.state ran.engine.printed ran.engine.written) ran.history.items ending summary.now
+        → Printed setup (λ x. IsAt M.shown setup x ran.engine.state ran.engine.printed ran.engine.written) ran.history.items ending summary.now
         (call_of result (output_of O.told O.faults out result.out) (output_of E.told E.faults err.old err.new))
         ⊎ Unprinted summary.now
         (call_of result (output_of O.told O.faults out result.out) (output_of E.told E.faults err.old err.new)) }

@@ -1,16 +1,18 @@
-ghost use Rattle.std.specs.Prelude.{◌⊎◌, ◌≡◌, ◌≤◌, ℕ, List as ListOf, [], Option, false, length};
+ghost use Rattle.std.specs.Prelude.{◌⊎◌, ◌≡◌, ◌≤◌, ◌∷◌, ℕ, List as ListOf, [], Option, false, length, map};
 ghost use Rattle.run_types.specs.declared.run.Event.{Event as Made};
 ghost use Rattle.c_tree.specs.declared.def.Program.{Program};
 ghost use Rattle.c_front.specs.Accepted.{Accepted};
 ghost use Rattle.source_model.specs.declared.answer.OfferAnswer.{OfferAnswer};
 ghost use Rattle.source_model.specs.Guards.{Rules, Setup, first_guard};
 ghost use Rattle.source_model.specs.Journals.{IsLegal};
+ghost use Rattle.source_programs.specs.Programs.{text_in};
 ghost use Rattle.accepted_runs.specs.AcceptedRuns.{TextsAreAccepted};
 ghost use Rattle.dsu_cli.specs.declared.job.Job.TheVariants.{Replay};
 ghost use Rattle.dsu_report.specs.declared.fault.FaultLine.{FaultLine as Line};
 ghost use Rattle.effects.specs.Rows.{AreRows};
 ghost use Rattle.dsu_runs.specs.Replays.{events_of};
 ghost use Rattle.dsu_runs.specs.Setups.{setup_of};
+ghost use Rattle.image_load.specs.Loaded.{HasFewNames};
 ghost use Rattle.plain_engine.specs.Plain.{IsAt};
 ghost use Rattle.dsu_commands.specs.Answers.{Answers, IsDone, IsExcused};
 ghost use Rattle.dsu_commands.specs.Calls.{Stopped, call_of, output_of, run_call};
@@ -141,31 +143,39 @@ fn replay_events<O: Sink, E: Sink>(
         (call_of result (output_of O.told O.faults out result.out) (output_of E.told E.faults err.old err.new))
         ⊎ Stopped FaultLine.Memory [] (call_of result (output_of O.told O.faults out result.out) (output_of E.told E.faults err.old err.new)) }
 {
-    match engine_for(job.engine, &offers) {
-        EngineKind::Compiled => {
-            replay_compiled(alloc, program, &offers.texts, lines, job, out, err)
-        }
-        EngineKind::Plain => replay_plain(alloc, program, offers, lines, job, out, err),
+    match engine_for(alloc, job.engine, &program, &offers) {
+        Ok(EngineKind::Compiled) => replay_compiled(alloc, program, offers, lines, job, out, err),
+        Ok(EngineKind::Plain) => replay_plain(alloc, program, offers, lines, job, out, err),
+        Err(_) => stop(alloc, FaultLine::Memory, "", out, err),
     }
 }
 
-/// Makes the events of a journal on a program without offers, on the compiled engine.
+/// Makes the events of a journal on a program, on the compiled engine.
 fn replay_compiled<O: Sink, E: Sink>(
     alloc: Global,
     program: Typed,
-    texts: &[List<u8>],
+    offers: Offers,
     lines: &[(u32, Event)],
     job: &ReplayJob,
     out: O,
     err: &mut E,
 ) -> Outcome<O>
-    requires accepted { TextsAreAccepted (setup_of program [] [] job.now.objects) }
-    ensures { Came (ByJournal lines.now) (setup_of program [] [] job.now.objects) texts.now false job.now.journal
+    requires equal { length offers.programs.items ≡ length offers.lines.items }
+    requires few { length offers.lines.items ≤ 63 }
+    requires accepted { TextsAreAccepted (setup_of program offers.programs.items offers.lines.items job.now.objects) }
+    requires named { HasFewNames (map text_in (program ∷ offers.programs.items)) }
+    ensures { Came (ByJournal lines.now) (setup_of program offers.programs.items offers.lines.items job.now.objects)
+        offers.texts.items false job.now.journal
         (call_of result (output_of O.told O.faults out result.out) (output_of E.told E.faults err.old err.new))
         ⊎ Stopped FaultLine.Memory [] (call_of result (output_of O.told O.faults out result.out) (output_of E.told E.faults err.old err.new)) }
 {
-    match compiled_engine(alloc, program, job.objects, out) {
-        Ok(engine) => replay_over(alloc, engine, texts, lines, job.journal.as_str(), err),
+    let Offers {
+        texts,
+        programs,
+        lines: printed,
+    } = offers;
+    match compiled_engine(alloc, program, programs, printed, job.objects, out) {
+        Ok(engine) => replay_over(alloc, engine, &texts, lines, job.journal.as_str(), err),
         Err(failed) => stop_before(alloc, failed.why, failed.sink, err),
     }
 }

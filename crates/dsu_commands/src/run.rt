@@ -1,12 +1,14 @@
-ghost use Rattle.std.specs.Prelude.{◌⊎◌, ◌≡◌, ◌≤◌, ℕ, List as ListOf, [], Option, length};
+ghost use Rattle.std.specs.Prelude.{◌⊎◌, ◌≡◌, ◌≤◌, ◌∷◌, ℕ, List as ListOf, [], Option, length, map};
 ghost use Rattle.c_tree.specs.declared.def.Program.{Program};
 ghost use Rattle.c_front.specs.Accepted.{Accepted};
 ghost use Rattle.source_model.specs.declared.answer.OfferAnswer.{OfferAnswer};
 ghost use Rattle.source_model.specs.Guards.{Setup, first_guard};
+ghost use Rattle.source_programs.specs.Programs.{text_in};
 ghost use Rattle.accepted_runs.specs.AcceptedRuns.{TextsAreAccepted};
 ghost use Rattle.dsu_cli.specs.declared.job.Job.TheVariants.{Run};
 ghost use Rattle.dsu_report.specs.declared.fault.FaultLine.{FaultLine as Line};
 ghost use Rattle.dsu_runs.specs.Setups.{setup_of};
+ghost use Rattle.image_load.specs.Loaded.{HasFewNames};
 ghost use Rattle.plain_engine.specs.Plain.{IsAt};
 ghost use Rattle.dsu_commands.specs.Answers.{Answers, IsDone, IsExcused};
 ghost use Rattle.dsu_commands.specs.Calls.{Stopped, call_of, output_of, run_call};
@@ -103,28 +105,38 @@ fn run_program<O: Sink, E: Sink>(
         (call_of result (output_of O.told O.faults out result.out) (output_of E.told E.faults err.old err.new))
         ⊎ Stopped FaultLine.Memory [] (call_of result (output_of O.told O.faults out result.out) (output_of E.told E.faults err.old err.new)) }
 {
-    match engine_for(job.engine, &offers) {
-        EngineKind::Compiled => run_compiled(alloc, program, &offers.texts, job, out, err),
-        EngineKind::Plain => run_plain(alloc, program, offers, job, out, err),
+    match engine_for(alloc, job.engine, &program, &offers) {
+        Ok(EngineKind::Compiled) => run_compiled(alloc, program, offers, job, out, err),
+        Ok(EngineKind::Plain) => run_plain(alloc, program, offers, job, out, err),
+        Err(_) => stop(alloc, FaultLine::Memory, "", out, err),
     }
 }
 
-/// Runs a program without offers by the solo schedule on the compiled engine.
+/// Runs a program by the solo schedule on the compiled engine.
 fn run_compiled<O: Sink, E: Sink>(
     alloc: Global,
     program: Typed,
-    texts: &[List<u8>],
+    offers: Offers,
     job: &RunJob,
     out: O,
     err: &mut E,
 ) -> Outcome<O>
-    requires accepted { TextsAreAccepted (setup_of program [] [] job.now.objects) }
-    ensures { Came (BySchedule job.now.moves) (setup_of program [] [] job.now.objects) texts.now job.now.journal []
+    requires equal { length offers.programs.items ≡ length offers.lines.items }
+    requires few { length offers.lines.items ≤ 63 }
+    requires accepted { TextsAreAccepted (setup_of program offers.programs.items offers.lines.items job.now.objects) }
+    requires named { HasFewNames (map text_in (program ∷ offers.programs.items)) }
+    ensures { Came (BySchedule job.now.moves) (setup_of program offers.programs.items offers.lines.items job.now.objects)
+        offers.texts.items job.now.journal []
         (call_of result (output_of O.told O.faults out result.out) (output_of E.told E.faults err.old err.new))
         ⊎ Stopped FaultLine.Memory [] (call_of result (output_of O.told O.faults out result.out) (output_of E.told E.faults err.old err.new)) }
 {
-    match compiled_engine(alloc, program, job.objects, out) {
-        Ok(engine) => run_over(alloc, engine, texts, job, err),
+    let Offers {
+        texts,
+        programs,
+        lines,
+    } = offers;
+    match compiled_engine(alloc, program, programs, lines, job.objects, out) {
+        Ok(engine) => run_over(alloc, engine, &texts, job, err),
         Err(failed) => stop_before(alloc, failed.why, failed.sink, err),
     }
 }

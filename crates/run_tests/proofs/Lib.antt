@@ -1,1 +1,2 @@
 mod OneSlot
+mod ReadTexts

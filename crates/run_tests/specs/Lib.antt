@@ -1,1 +1,2 @@
 pub mod SmallRun
+pub mod ReadTexts

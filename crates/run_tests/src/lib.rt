@@ -6,22 +6,22 @@
 //! - `runs`: what a run that has ended is compared with
 //! - `schedules`: the schedules, over `tiny`
 //! - `offers`: the order of events, over `scripted`
-//! - `plain`: the plain engine of a text with offers
-//! - `compiled`: the compiled engine of a text
+//! - `texts`: texts that have no fault, and offers of them
+//! - `plain` and `compiled`: both engines of a text with offers
 //! - `program_runs`: what small texts print, how they end and which events are made, what the threads of a deadlock wait for, and
 //!   a sink that fails, by both engines
 //! - `turns`: the order in which sixteen threads act
-//! - `plain_offers`: what becomes of offers of newer texts
+//! - `offered_runs`: what becomes of offers of newer texts, by both engines
 #![tactic(auto)]
 
 #[cfg(test)]
 mod compiled;
 #[cfg(test)]
+mod offered_runs;
+#[cfg(test)]
 mod offers;
 #[cfg(test)]
 mod plain;
-#[cfg(test)]
-mod plain_offers;
 #[cfg(test)]
 mod program_runs;
 #[cfg(test)]
@@ -30,6 +30,8 @@ mod runs;
 mod schedules;
 #[cfg(test)]
 mod scripted;
+#[cfg(test)]
+mod texts;
 pub mod tiny;
 #[cfg(test)]
 mod turns;

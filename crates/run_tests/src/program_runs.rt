@@ -46,7 +46,7 @@ fn ends_over<M: Machine>(
 /// Whether a solo run ends so, over a sink whose calls with these numbers fail.
 fn ends(alloc: Global, text: &str, failing: &[u64], want: &Printed) -> Option<bool> {
     let plain = ends_over(alloc, engine_of(alloc, text, &[], failing)?, want);
-    let compiled = ends_over(alloc, compiled_of(alloc, text, failing)?, want);
+    let compiled = ends_over(alloc, compiled_of(alloc, text, &[], failing)?, want);
     Some(plain && compiled)
 }
 
@@ -128,7 +128,7 @@ fn replays_over<M: Machine>(
 /// Whether the replay of a journal ends so.
 fn replays(alloc: Global, text: &str, journal: &[(u32, Event)], want: &Printed) -> Option<bool> {
     let plain = replays_over(alloc, engine_of(alloc, text, &[], &[])?, journal, want);
-    let compiled = replays_over(alloc, compiled_of(alloc, text, &[])?, journal, want);
+    let compiled = replays_over(alloc, compiled_of(alloc, text, &[], &[])?, journal, want);
     Some(plain && compiled)
 }
 
@@ -174,7 +174,7 @@ fn deadlocks_over<M: Machine>(
 /// Whether a solo run ends so.
 fn deadlocks(alloc: Global, text: &str, want: &Printed) -> Option<bool> {
     let plain = deadlocks_over(alloc, engine_of(alloc, text, &[], &[])?, want);
-    let compiled = deadlocks_over(alloc, compiled_of(alloc, text, &[])?, want);
+    let compiled = deadlocks_over(alloc, compiled_of(alloc, text, &[], &[])?, want);
     Some(plain && compiled)
 }
 

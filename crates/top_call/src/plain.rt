@@ -44,6 +44,6 @@ pub(crate) fn done<F: Files, O: Sink, E: Sink>(
         Job::Admits(old, new) => {
             admits_files(alloc, old.as_str(), new.as_str(), files, out, err)
         }
-        Job::Gen(seed, size, _) => run_generated(alloc, *seed, *size, out, err),
+        Job::Gen(seed, size, engine) => run_generated(alloc, *seed, *size, *engine, out, err),
     }
 }

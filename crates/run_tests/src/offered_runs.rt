@@ -1,8 +1,14 @@
-//! Offers of newer texts while the first one runs.
-use crate::plain::{Offer, engine_of};
+//! Offers of newer texts while the first one runs. Each run is made by both engines, and its journal replayed by both.
+use crate::compiled::compiled_of;
+use crate::plain::engine_of;
+use crate::texts::Offer;
 use con_freeness::Effect;
-use dsu_runs::solo;
+use dsu_io::MemorySink;
+use dsu_runs::{Ran, replay, solo};
 use name_sets::Names;
+use plain_engine::PlainEngine;
+use run_machine::Machine;
+use run_types::Event;
 use source_model::{NotPatch, OfferAnswer};
 use std::alloc::Global;
 
@@ -52,6 +58,19 @@ const E3: &str = "struct conn { int in; int out; int total; int twice; }; struct
     dsu_update(); printf(\"a\\n\"); dsu_update(); printf(\"b\\n\"); dsu_update(); show(); return 0; } \
     dsu_transform struct conn { twice = old.total * 2; }";
 
+/// A global, an array and a mutex that are used before the update point and after it.
+const D: &str = "mtx_t m; int g; int seen[3]; int f(int n) { return n + 1; } \
+    int use(void) { mtx_lock(&m); g = f(g); seen[1] = g; mtx_unlock(&m); return 0; } \
+    int show(void) { printf(\"%d %d\\n\", g, seen[1]); return 0; } \
+    int main(void) { use(); printf(\"a\\n\"); dsu_update(); use(); show(); return 0; }";
+
+/// `g` is a long that its transformer makes, `f` takes one and calls a new function, and there is another mutex.
+const D2: &str = "mtx_t n; int seen[3]; long g; dsu_transform g = old * 1000000000; \
+    int twice(int n) { return n * 2; } long f(long n) { return n + twice(5); } \
+    int use(void) { mtx_lock(&n); g = f(g); mtx_unlock(&n); return 0; } \
+    int show(void) { printf(\"%ld %d\\n\", g, seen[1]); return 0; } \
+    int main(void) { use(); printf(\"a\\n\"); dsu_update(); use(); show(); return 0; }";
+
 /// An answer, for comparison.
 #[derive(Clone, Copy, PartialEq)]
 enum Answer {
@@ -100,12 +119,45 @@ struct Case {
     answers: &'static [Answer],
 }
 
-/// Whether a solo run prints this and answers so.
-fn runs(alloc: Global, case: &Case) -> Option<bool> {
-    let engine = engine_of(alloc, case.first, case.offers, &[])?;
-    let ran = solo(alloc, engine, 1000);
+/// The events of a run that has printed this and answered so.
+fn events_of<M: Machine>(ran: Ran<PlainEngine<M, MemorySink>>, case: &Case) -> Option<Vec<Event>> {
     let (sink, answers, names) = ran.engine.into_parts();
-    Some(sink.bytes() == case.out.as_bytes() && are_seen(&names, &answers, case.answers))
+    let is_right = sink.bytes() == case.out.as_bytes() && are_seen(&names, &answers, case.answers);
+    if is_right { Some(ran.history) } else { None }
+}
+
+/// The lines of a journal with these events.
+fn journal_of(alloc: Global, events: &[Event]) -> Option<Vec<(u32, Event)>> {
+    let mut lines = Vec::new(alloc);
+    for event in events {
+        lines.push((1, *event)).ok()?;
+    }
+    Some(lines)
+}
+
+/// Whether an engine's replay makes the events of a journal again, prints this and answers so.
+fn replays<M: Machine>(
+    alloc: Global,
+    engine: PlainEngine<M, MemorySink>,
+    events: &[Event],
+    case: &Case,
+) -> Option<bool> {
+    let lines = journal_of(alloc, events)?;
+    let again = events_of(replay(alloc, engine, &lines), case)?;
+    Some(again.as_slice() == events)
+}
+
+/// Whether a solo run prints this and answers so by both engines, with the same events, which both make again.
+fn runs(alloc: Global, case: &Case) -> Option<bool> {
+    let plain = engine_of(alloc, case.first, case.offers, &[])?;
+    let events = events_of(solo(alloc, plain, 1000), case)?;
+    let compiled = compiled_of(alloc, case.first, case.offers, &[])?;
+    let others = events_of(solo(alloc, compiled, 1000), case)?;
+    let plain = engine_of(alloc, case.first, case.offers, &[])?;
+    let by_plain = replays(alloc, plain, &events, case)?;
+    let compiled = compiled_of(alloc, case.first, case.offers, &[])?;
+    let by_compiled = replays(alloc, compiled, &events, case)?;
+    Some(events.as_slice() == others.as_slice() && by_plain && by_compiled)
 }
 
 static INSTALLED: Case = Case {
@@ -172,4 +224,16 @@ static CONVERTED: Case = Case {
 #[test]
 fn objects_come_to_each_new_layout(rt: HostRuntime) {
     assert!(rt; runs(rt.alloc(), &CONVERTED) == Some(true));
+}
+
+static OTHER_TYPES: Case = Case {
+    first: D,
+    offers: &[Offer { text: D2, lines: 1 }],
+    out: "a\n1000000010 1\n",
+    answers: &[Answer::Installed(2)],
+};
+
+#[test]
+fn globals_come_to_their_new_types(rt: HostRuntime) {
+    assert!(rt; runs(rt.alloc(), &OTHER_TYPES) == Some(true));
 }
