@@ -21,10 +21,10 @@ use Rattle.code_runs.specs.CodeMoves.{Ends, rests, traps}
 use Rattle.word_frames.specs.declared.frame.Frame.{Frame}
 use Rattle.word_frames.specs.declared.frames.Frames.{Frames}
 use Rattle.word_frames.specs.Blocks.{base_of, block, low_of, room}
-use Rattle.word_frames.specs.Seen.{HasArguments, IsKept, arguments_at, arguments_of, depth_of, frame_at, frame_of, frames_below, frames_of, innermost, no_frame, stack_base, stack_of}
+use Rattle.word_frames.specs.Seen.{HasArguments, IsKept, arguments_at, arguments_of, depth_of, frame_at, frame_of, frames_below, frames_of, innermost, innermost_state, no_frame, stack_base, stack_of}
 use Rattle.word_frames.specs.Laws.{StackChangesAlone, with_stack}
-use Rattle.word_frames.specs.Changes.{Enters, Leaves, Waits, WentOn, new_frame, waiting, with_innermost, with_word}
-use Rattle.word_frames.proofs.WordRows.{drop_newest, newest_in_order, upward_append}
+use Rattle.word_frames.specs.Changes.{Enters, Leaves, PutOff, StateSet, Waits, WentOn, new_frame, put_at, waiting, with_innermost, with_word}
+use Rattle.word_frames.proofs.WordRows.{copied_state, drop_newest, newest_in_order, upward_append}
 use Rattle.word_frames.proofs.FrameLists.{Replaces, changed_last, innermost_first, later, popped, pushed, replaced, room_is}
 
 -- how a burst ends is how a frame's private instructions do
@@ -63,6 +63,10 @@ pub block_fits : (s : Frames) → IsKept s → depth_of s < frame_count
     → base_of s.highest_stack (depth_of s) + block s.highest_stack + most_words < vec_capacity s.words
 block_fits s kept few = omega (arith, kept.words_fit, later s.highest_stack (depth_of s) frame_count few)
 
+-- a frame that stopped at a point, in a state
+abbrev stopped_in : CodeFrame → ℕ → State → CodeFrame
+stopped_in f point s = record f { standing = point; state = s }
+
 -- a burst of the innermost frame
 pub went_on : (t : Table) (code : List Instr) (old new : Frames) (point place height p h : ℕ) (end : End) (base many : ℕ) (ws after : List ℕ)
     → IsKept old → 0 < depth_of old → new.highest_stack ≡ old.highest_stack
@@ -98,7 +102,76 @@ went_on t code old new point place height p h end base many ws after kept some h
         runs = subst (λ (c : List Instruction). Runs c (state_at old.words.items from room place height) (state_at new.words.items from room p h)) (sym code_is) burst.runs;
         ends = subst (λ (c : List Instruction). Ends c (state_at new.words.items from room p h)) (sym code_is) (ends_so (code_of t code) (state_at new.words.items from room p h) end burst.ends);
       };
-      ends = burst.ends;
+      bursts = burst;
+      function = refl;
+      version = refl;
+      standing = refl;
+    }
+
+-- the innermost frame is to go on elsewhere
+pub put_off : (t : Table) (old new : Frames) (point place height : ℕ) → IsKept old → 0 < depth_of old
+    → new.highest_stack ≡ old.highest_stack → new.words ≡ old.words
+    → new.frames.items ≡ with_innermost old (record (innermost old) { point = point; place = place; height = height })
+    → PutOff t old new point place height
+put_off t old new point place height kept some high same frames =
+    let n = depth_of old - 1 in
+    let k = old.highest_stack in
+    let g : Frame = record (innermost old) { point = point; place = place; height = height } in
+    let ws = old.words.items in
+    let row : new.words.items ≡ old.words.items = ap (λ v. v.items) same in
+    let made : Replaces old.frames.items new.frames.items (depth_of old - 1) g = changed_innermost old new g some frames in
+    record {
+      frame = frame_of t k ws n (innermost old);
+      below = frames_below t k ws old.frames.items n;
+      before = innermost_first t k ws old.frames.items (depth_of old) some;
+      after =
+          same_highest t old new high
+          ∙ replaced t k new.words.items ws made (λ i p. kept.low i (omega arith)) (λ i p. ap (λ (xs : List ℕ). slice_index xs i) row)
+          ∙ ap (λ (xs : List ℕ). frame_of t k xs n g ∷ frames_below t k ws old.frames.items n) row;
+    }
+
+-- a row has the words of the innermost frame
+pub copied_out : (s : Frames) (row ws : List ℕ) (base many height : ℕ) → ws ≡ s.words.items → base ≡ base_of s.highest_stack (depth_of s - 1) → many ≡ room
+    → height ≡ (innermost s).height → ((i : ℕ) → i < many + height → slice_index row (0 + i) ≡ slice_index ws (base + i))
+    → (place : ℕ) → state_at row 0 room place (innermost s).height ≡ innermost_state s place (innermost s).height
+copied_out s row ws base many height words there as_many high copied place =
+    subst (λ (h : ℕ). state_at row 0 room place h ≡ innermost_state s place h) high
+    (subst (λ (m : ℕ). state_at row 0 m place height ≡ state_at s.words.items (base_of s.highest_stack (depth_of s - 1)) m place height) as_many
+    (subst (λ (b : ℕ). state_at row 0 many place height ≡ state_at s.words.items b many place height) there
+    (subst (λ (xs : List ℕ). state_at row 0 many place height ≡ state_at xs base many place height) words
+    (copied_state ws row base 0 many height copied place))))
+
+-- the innermost frame has the words of a row
+pub state_set : (t : Table) (old new : Frames) (point place height base many : ℕ) (ws after copy : List ℕ) → IsKept old → 0 < depth_of old
+    → new.highest_stack ≡ old.highest_stack → ws ≡ old.words.items → after ≡ new.words.items
+    → base ≡ base_of old.highest_stack (depth_of old - 1) → many ≡ room → point ≡ (innermost old).point
+    → ((i : ℕ) → i < many + height → slice_index after (base + i) ≡ slice_index copy (0 + i))
+    → IsSameOutside base (base + (many + height)) ws after
+    → new.frames.items ≡ with_innermost old (record (innermost old) { point = point; place = place; height = height })
+    → StateSet t old new (state_at copy 0 room place height)
+state_set t old new point place height base many ws after copy kept some high row changed there as_many stopped copied elsewhere frames =
+    let n = depth_of old - 1 in
+    let k = old.highest_stack in
+    let from = base_of old.highest_stack (depth_of old - 1) in
+    let g : Frame = record (innermost old) { point = point; place = place; height = height } in
+    let made : Replaces old.frames.items new.frames.items (depth_of old - 1) g = changed_innermost old new g some frames in
+    let state : state_at new.words.items from room place height ≡ state_at copy 0 room place height =
+    subst (λ (ys : List ℕ). state_at ys from room place height ≡ state_at copy 0 room place height) changed
+    (subst (λ (m : ℕ). state_at after from m place height ≡ state_at copy 0 m place height) as_many
+    (subst (λ (b : ℕ). state_at after b many place height ≡ state_at copy 0 many place height) there
+    (copied_state copy after 0 base many height copied place))) in
+    let here : frame_of t k new.words.items n g ≡ record (frame_of t k old.words.items n (innermost old)) { state = state_at copy 0 room place height } =
+    ap (λ (s : State). stopped_in (frame_of t k old.words.items n (innermost old)) point s) state
+    ∙ ap (λ (p : ℕ). stopped_in (frame_of t k old.words.items n (innermost old)) p (state_at copy 0 room place height)) stopped in
+    record {
+      frame = frame_of t k old.words.items n (innermost old);
+      below = frames_below t k old.words.items old.frames.items n;
+      before = innermost_first t k old.words.items old.frames.items (depth_of old) some;
+      after =
+          same_highest t old new high
+          ∙ replaced t k new.words.items old.words.items made (λ i p. kept.low i (omega arith))
+          (λ i p. ap (λ (xs : List ℕ). slice_index xs i) (sym changed) ∙ elsewhere i (inl (omega arith)) ∙ ap (λ (xs : List ℕ). slice_index xs i) row)
+          ∙ ap (λ (x : CodeFrame). x ∷ frames_below t k old.words.items old.frames.items n) here;
     }
 
 -- a frame with other words of its variables

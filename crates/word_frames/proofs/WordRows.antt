@@ -2,7 +2,8 @@
 use Rattle.std.proofs.Common.{◌≡◌, ℕ, zero, suc, ◌+◌, ◌<◌, ◌≤◌, List, [], ◌∷◌, ◌++◌, reverse, take, drop, refl, sym, ap, ◌∙◌, arith}
 use Rattle.std.specs.Prelude.{slice_index}
 use Rattle.std.proofs.lemmas.List.{reverse-append, reverse-reverse}
-use Rattle.thread_state.specs.Frames.{downward, upward}
+use Rattle.bytecode.specs.Meaning.{State}
+use Rattle.thread_state.specs.Frames.{downward, state_at, upward}
 
 -- a row that is as long as two
 pub upward_append : (ws : List ℕ) (from m n k : ℕ) → k ≡ m + n → upward ws from k ≡ upward ws from m ++ upward ws (from + m) n
@@ -56,3 +57,38 @@ turned_row a b to from (suc n) h =
 
 pub reversed_row : (a b : List ℕ) (to from n : ℕ) → ((i j : ℕ) → to ≤ i → i < to + n → i + j + 1 ≡ to + from + n → slice_index a i ≡ slice_index b j) → upward a to n ≡ reverse (upward b from n)
 reversed_row a b to from n h = turned_row a b to from n h ∙ downward_reverse b from n
+
+-- rows with the same words at different places
+same_up : (a b : List ℕ) (from to n : ℕ) → ((i : ℕ) → i < n → slice_index b (to + i) ≡ slice_index a (from + i)) → upward b to n ≡ upward a from n
+same_up a b from to zero h = refl
+same_up a b from to (suc n) h =
+    let at : to + 0 ≡ to = omega arith in
+    let there : from + 0 ≡ from = omega arith in
+    let here : slice_index b to ≡ slice_index a from =
+    ap (slice_index b) (sym at) ∙ h 0 (omega arith) ∙ ap (slice_index a) there in
+    let next : (i : ℕ) → i < n → slice_index b (suc to + i) ≡ slice_index a (suc from + i) =
+    λ i p.
+    let one : suc to + i ≡ to + suc i = omega arith in
+    let two : from + suc i ≡ suc from + i = omega arith in
+    ap (slice_index b) one ∙ h (suc i) (omega arith) ∙ ap (slice_index a) two in
+    let rest : upward b (suc to) n ≡ upward a (suc from) n = same_up a b (suc from) (suc to) n next in
+    cc
+
+same_down : (a b : List ℕ) (from to n : ℕ) → ((i : ℕ) → i < n → slice_index b (to + i) ≡ slice_index a (from + i)) → downward b to n ≡ downward a from n
+same_down a b from to zero h = refl
+same_down a b from to (suc n) h =
+    let here : slice_index b (to + n) ≡ slice_index a (from + n) = h n (omega arith) in
+    let rest : downward b to n ≡ downward a from n = same_down a b from to n (λ i p. h i (omega arith)) in
+    cc
+
+-- a frame whose words are at another place
+pub copied_state : (a b : List ℕ) (from to many height : ℕ) → ((i : ℕ) → i < many + height → slice_index b (to + i) ≡ slice_index a (from + i))
+    → (place : ℕ) → state_at b to many place height ≡ state_at a from many place height
+copied_state a b from to many height h place =
+    let locals : upward b to many ≡ upward a from many = same_up a b from to many (λ i p. h i (omega arith)) in
+    let stack : downward b (to + many) height ≡ downward a (from + many) height =
+    same_down a b (from + many) (to + many) height (λ i p.
+    let one : to + many + i ≡ to + (many + i) = omega arith in
+    let two : from + (many + i) ≡ from + many + i = omega arith in
+    ap (slice_index b) one ∙ h (many + i) (omega arith) ∙ ap (slice_index a) two) in
+    rw (locals, stack) refl

@@ -5,10 +5,10 @@ use Rattle.resolved_tree.specs.declared.words.Word.{Word}
 use Rattle.resolved_tree.specs.Nodes.{Table}
 use Rattle.resolved_tree.specs.Words.{text_of}
 use Rattle.bytecode.specs.declared.instr.Instr.{Instr}
-use Rattle.bytecode.specs.Meaning.{step}
+use Rattle.bytecode.specs.Meaning.{State}
 use Rattle.bytecode.specs.Seen.{code_of}
 use Rattle.thread_state.specs.declared.steps.End.{End}
-use Rattle.thread_state.specs.Turns.{ended}
+use Rattle.thread_state.specs.Bursts.{Bursts}
 use Rattle.code_runs.specs.CodeThreads.{CodeEnter, CodeFrame}
 use Rattle.code_runs.specs.CodeMoves.{GoesOn, IsEntered, frame_code}
 use Rattle.word_frames.specs.declared.frame.Frame.{Frame}
@@ -43,7 +43,28 @@ pub record WentOn (t : Table) (code : List Instr) (old new : Frames) (point plac
   pub after : frames_of t new ≡ next ∷ below
   pub goes : (texts : List (List BareDef)) → frame_code texts frame ≡ code_of t code
       → GoesOn texts frame place (stack_of old height) point next
-  pub ends : step (code_of t code) next.state ≡ ended end
+  pub bursts : Bursts (code_of t code) (record { place = place; stack = stack_of old height; locals = frame.state.locals }) end next.state
+  pub function : next.function ≡ frame.function
+  pub version : next.version ≡ frame.version
+  pub standing : next.standing ≡ point
+
+-- a frame at a place with a stack, after its stop at a point
+abbrev pub put_at : (point place : ℕ) → List ℕ → CodeFrame → CodeFrame
+put_at point place stack f = record f { standing = point; state = record f.state { place = place; stack = stack } }
+
+-- the innermost frame is at a place with so many words on its stack, having stopped at a point; it has executed nothing
+pub record PutOff (t : Table) (old new : Frames) (point place height : ℕ) : Type 0 where
+  pub frame : CodeFrame
+  pub below : List CodeFrame
+  pub before : frames_of t old ≡ frame ∷ below
+  pub after : frames_of t new ≡ put_at point place (stack_of old height) frame ∷ below
+
+-- the innermost frame has another state, and nothing else has changed
+pub record StateSet (t : Table) (old new : Frames) (state : State) : Type 0 where
+  pub frame : CodeFrame
+  pub below : List CodeFrame
+  pub before : frames_of t old ≡ frame ∷ below
+  pub after : frames_of t new ≡ record frame { state = state } ∷ below
 
 -- a frame that waits at a place after its stop at a point, without the newest words of its stack
 abbrev pub waiting : (count point place : ℕ) → CodeFrame → CodeFrame

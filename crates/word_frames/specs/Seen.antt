@@ -4,6 +4,7 @@ use Rattle.resolved_tree.specs.Nodes.{Table}
 use Rattle.resolved_tree.specs.Words.{text_of}
 use Rattle.code_kinds.specs.WellFormed.{most_variables}
 use Rattle.source_model.specs.Moves.{frame_count}
+use Rattle.bytecode.specs.Meaning.{State}
 use Rattle.thread_state.specs.Frames.{downward, most_words, state_at, upward}
 use Rattle.code_runs.specs.CodeThreads.{CodeFrame}
 use Rattle.word_frames.specs.declared.frame.Frame.{Frame}
@@ -50,6 +51,10 @@ stack_base s = low_of s.highest_stack (depth_of s - 1)
 
 abbrev pub stack_of : Frames → ℕ → List ℕ
 stack_of s height = downward s.words.items (stack_base s) height
+
+-- its state, if it is at a place with that height
+abbrev pub innermost_state : Frames → (place height : ℕ) → State
+innermost_state s place height = state_at s.words.items (base_of s.highest_stack (depth_of s - 1)) room place height
 
 -- where arguments for a function that is to be entered are: above the stack of the innermost of so many frames, or in the
 -- first word where there is none

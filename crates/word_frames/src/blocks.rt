@@ -1,5 +1,5 @@
 //! Where the words of frames are in a row of words, and how they come there.
-ghost use Rattle.std.specs.Prelude.{◌≡◌, ℕ, ◌+◌, ◌<◌, ◌≤◌, length, reverse, slice_index, vec_capacity};
+ghost use Rattle.std.specs.Prelude.{◌≡◌, ℕ, ◌+◌, ◌<◌, ◌≤◌, IsTrue, length, reverse, slice_index, vec_capacity};
 ghost use Rattle.source_model.specs.Moves.{frame_count};
 ghost use Rattle.thread_state.specs.Frames.{IsSameOutside, most_words, upward};
 ghost use Rattle.word_frames.specs.Blocks.{base_of, room};
@@ -48,4 +48,30 @@ pub(crate) fn copy_reversed(words: &mut [u64], from: usize, to: usize, count: us
     for i in 0..count {
         words[to + i] = words[from + (count - 1 - i)];
     }
+}
+
+/// Copies so many words of one row, from a place on, to places of another.
+pub(crate) fn copy(from: &[u64], at: usize, to: &mut [u64], start: usize, count: usize)
+    requires there { at + count ≤ length from.now }
+    requires space { start + count ≤ length to.old }
+    ensures copied { (i : ℕ) → i < count → slice_index to.new (start + i) ≡ slice_index from.now (at + i) }
+    ensures elsewhere { IsSameOutside start (start + count) to.old to.new }
+{
+    for i in 0..count {
+        to[start + i] = from[at + i];
+    }
+}
+
+/// Whether so many words of one row, from a place on, are those of another.
+pub(crate) fn is_copy(from: &[u64], at: usize, to: &[u64], start: usize, count: usize) -> bool
+    requires there { at + count ≤ length from.now }
+    requires space { start + count ≤ length to.now }
+    ensures { IsTrue result → (i : ℕ) → i < count → slice_index to.now (start + i) ≡ slice_index from.now (at + i) }
+{
+    for i in 0..count {
+        if to[start + i] != from[at + i] {
+            return false;
+        }
+    }
+    true
 }

@@ -7,13 +7,14 @@ ghost use Rattle.source_model.specs.Moves.{frame_count};
 ghost use Rattle.thread_state.specs.Heights.{HasHeight, Sound};
 ghost use Rattle.fused_code.specs.Fused.{AreFused};
 ghost use Rattle.word_frames.specs.Seen.{HasArguments, IsKept, arguments_of, depth_of, frame_at, innermost};
-ghost use Rattle.word_frames.specs.Changes.{Enters, Leaves, Waits, WentOn, new_frame, with_innermost};
+ghost use Rattle.word_frames.specs.Changes.{Enters, Leaves, PutOff, Waits, WentOn, new_frame, with_innermost};
 
 use crate::blocks::{SPARE, base, copy_reversed, fill, variables};
 use crate::frame::Frame;
 use crate::frames::Frames;
 use bytecode::Instr;
-use fused_code::{Op, burst};
+use fused_code::burst;
+use fused_operations::Op;
 use resolved_tree::Word;
 use thread_state::End;
 
@@ -103,6 +104,20 @@ impl Frames {
         reached.end
     }
 
+    /// The innermost frame, which stopped at a point, is to go on at a place with so many words on its stack. It executes nothing:
+    /// [`Frames::go_on`] does, from there.
+    pub fn put_off(&mut self, point: u32, place: usize, height: usize)
+        requires kept { IsKept self.old }
+        requires frame { 0 < depth_of self.old }
+        requires low { height ≤ self.old.highest_stack }
+        ensures kept { IsKept self.new }
+        ensures high { self.new.highest_stack ≡ self.old.highest_stack }
+        ensures frames { self.new.frames.items ≡ with_innermost self.old (record (innermost self.old) { point = point; place = place; height = height }) }
+        ensures puts { (t : Table) → PutOff t self.old self.new point place height }
+    {
+        self.stand(point, place, height);
+    }
+
     /// The innermost frame waits after a call with so many arguments: they are no longer on its stack, and stay above it for
     /// [`Frames::enter`]. The call was its stop with the number `point`, and it goes on at `place`.
     pub fn wait(&mut self, count: usize, point: u32, place: usize)
@@ -144,7 +159,7 @@ impl Frames {
     }
 
     /// The innermost frame is at a place, with so many words on its stack, after its stop at a point.
-    fn stand(&mut self, point: u32, place: usize, height: usize)
+    pub(crate) fn stand(&mut self, point: u32, place: usize, height: usize)
         requires kept { IsKept self.old }
         requires frame { 0 < depth_of self.old }
         requires low { height ≤ self.old.highest_stack }

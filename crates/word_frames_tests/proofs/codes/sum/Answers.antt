@@ -1,6 +1,6 @@
 use Rattle.std.proofs.Common.{List, subst, sym}
 use Rattle.fused_code.specs.Fused.{AreFused}
-use Rattle.fused_code.specs.declared.op.Op.{Op}
+use Rattle.fused_operations.specs.declared.op.Op.{Op}
 use Rattle.word_frames_tests.proofs.RightHeights.{sum_sound}
 use Rattle.word_frames_tests.proofs.codes.sum.Goals as goal
 
