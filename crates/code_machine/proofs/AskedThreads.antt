@@ -9,6 +9,7 @@ use Rattle.version_laws.specs.Histories.{text_in}
 use Rattle.resolved_tree.specs.declared.words.Word.{Word}
 use Rattle.resolved_tree.specs.Nodes.{Table, word}
 use Rattle.local_evaluation.specs.Pieces.{stop_of}
+use Rattle.bytecode.specs.Instructions.{Instruction}
 use Rattle.bytecode.specs.Meaning.{Traps, step}
 use Rattle.bytecode.specs.Seen.{code_of}
 use Rattle.tree_code.specs.CodedPieces.{Stops}
@@ -28,11 +29,11 @@ use Rattle.code_image.specs.declared.image.CodeImage.{CodeImage}
 use Rattle.code_image.specs.Acts.{Acts, IsStopPlace, named}
 use Rattle.code_image.specs.Images.{IsFunctionOf, names_in}
 use Rattle.code_machine.specs.declared.running.Next.{Next}
-use Rattle.code_machine.specs.declared.running.Next.TheVariants.{Enters, Stands}
+use Rattle.code_machine.specs.declared.running.Next.TheVariants.{Continues, Enters, Stands}
 use Rattle.code_machine.specs.declared.running.Running.{Running}
 use Rattle.code_machine.specs.Kept.{FitsImage, IsFrame, Stood, end_of}
-use Rattle.code_machine.specs.Queries.{HasNoStop, IsNextStop, RestsIn, entered_by, entering_in, frames_by, frames_in, in_transaction, is_live}
-use Rattle.code_machine.specs.Seen.{enter_of, no_frame, thread_by, thread_of, words_of}
+use Rattle.code_machine.specs.Queries.{HasNoStop, IsNextStop, RestsIn, entered_by, entering_in, frames_by, frames_in, in_transaction, is_live, place_of}
+use Rattle.code_machine.specs.Seen.{code_at, enter_of, no_frame, settled_first, thread_by, thread_of, words_of}
 use Rattle.code_machine.specs.Versions.{RunsCode, texts_by}
 use Rattle.code_machine.proofs.Fitting.{traps_is}
 use Rattle.code_machine.proofs.Going.{code_is, function_of, own_text}
@@ -116,6 +117,7 @@ depth_is image r = by r.next
   where
     by : (x : Next) → (thread_by image r x).depth ≡ r.depth
     by (Enters n count) = refl
+    by Continues = refl
     by (Stands end) = refl
 
 pub enters_name : (image : CodeImage) (r : Running) (n count : ℕ) → FitsImage image r → r.next ≡ Enters n count
@@ -128,6 +130,9 @@ enters_name image r n count fits is =
 
 pub stands_none : (image : CodeImage) (r : Running) (end : End) → r.next ≡ Stands end → entered_by (thread_of image r).next ≡ None
 stands_none image r end is = ap (λ x. entered_by (thread_by image r x).next) is
+
+pub continues_none : (image : CodeImage) (r : Running) → r.next ≡ Continues → entered_by (thread_of image r).next ≡ None
+continues_none image r is = ap (λ x. entered_by (thread_by image r x).next) is
 
 module _ (image : CodeImage) (r : Running) (fits : FitsImage image r) where
   abbrev t : Table
@@ -142,12 +147,34 @@ module _ (image : CodeImage) (r : Running) (fits : FitsImage image r) where
       let first = innermost_first t r.frames.highest_stack r.frames.words.items r.frames.frames.items (depth_of r.frames) some in
       ap (λ fs. slice_index_or fs 0 no_frame ∷ drop 1 fs) first ∙ sym first
 
-  pub thread_frames : frames_by (thread_of image r).next (thread_of image r).below ≡ all_frames
-  thread_frames = by r.next refl
+  pub thread_frames : (end : End) → r.next ≡ Stands end → frames_by (thread_of image r).next (thread_of image r).below ≡ all_frames
+  thread_frames end is = ap (λ x. frames_by (thread_by image r x).next (thread_by image r x).below) is ∙ whole (fits.stood end is).some
+
+  -- they are at the same places, whatever the innermost one has still to execute
+  settled_place : (code : List Instruction) (up : ℕ) (fs : List CodeFrame)
+      → option_map place_of (slice_get (settled_first code fs) up) ≡ option_map place_of (slice_get fs up)
+  settled_place code up [] = refl
+  settled_place code zero (f ∷ fs) = refl
+  settled_place code (suc up) (f ∷ fs) = refl
+
+  settled_whole : (code : List Instruction) → 0 < depth_of r.frames
+      → slice_index_or (settled_first code all_frames) 0 no_frame ∷ drop 1 (settled_first code all_frames) ≡ settled_first code all_frames
+  settled_whole code some =
+      let first = innermost_first t r.frames.highest_stack r.frames.words.items r.frames.frames.items (depth_of r.frames) some in
+      ap (λ fs. slice_index_or (settled_first code fs) 0 no_frame ∷ drop 1 (settled_first code fs)) first
+      ∙ sym (ap (settled_first code) first)
+
+  pub place_up_is : (up : ℕ) → option_map place_of (slice_get (frames_by (thread_of image r).next (thread_of image r).below) up)
+      ≡ option_map place_of (slice_get all_frames up)
+  place_up_is up = by r.next refl
     where
-      by : (x : Next) → r.next ≡ x → frames_by (thread_by image r x).next (thread_by image r x).below ≡ all_frames
+      by : (x : Next) → r.next ≡ x → option_map place_of (slice_get (frames_by (thread_by image r x).next (thread_by image r x).below) up)
+          ≡ option_map place_of (slice_get all_frames up)
       by (Enters n count) is = refl
-      by (Stands end) is = whole (fits.stood end is).some
+      by Continues is =
+          let code : List Instruction = code_at image (innermost r.frames).unit in
+          ap (λ fs. option_map place_of (slice_get fs up)) (settled_whole code (fits.owes is).some) ∙ settled_place code up all_frames
+      by (Stands end) is = ap (λ fs. option_map place_of (slice_get fs up)) (whole (fits.stood end is).some)
 
   -- the innermost one, where it doesn't enter
   module _ (end : End) (stands : r.next ≡ Stands end) where
@@ -214,11 +241,12 @@ module _ (image : CodeImage) (r : Running) (fits : FitsImage image r) where
         enters_not (enter_of image r n count) f (sym (ap (λ x. (thread_by image r x).next) enters) ∙ next_of_it f h)
 
     -- the stack of the frame that rests
-    pub stack_is : (f : CodeFrame) → RestsIn w slot f → (0 < depth_of r.frames) × (f.state.stack ≡ stack_of r.frames (innermost r.frames).height)
-    stack_is f h = by r.next refl
+    pub stack_is : (r.next ≡ Continues → ⊥) → (f : CodeFrame) → RestsIn w slot f → (0 < depth_of r.frames) × (f.state.stack ≡ stack_of r.frames (innermost r.frames).height)
+    stack_is settled f h = by r.next refl
       where
         by : (x : Next) → r.next ≡ x → (0 < depth_of r.frames) × (f.state.stack ≡ stack_of r.frames (innermost r.frames).height)
         by (Enters n count) is = absurd (never_enters n count is f h)
+        by Continues is = absurd (settled is)
         by (Stands end) is = (some_frame end is, ap (λ (g : CodeFrame). g.state.stack) (sym (last_is end is f h)))
 
     module _ (all : List (List BareDef)) (versions : List ℕ) (runs : RunsCode all versions image r) where

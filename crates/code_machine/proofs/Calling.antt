@@ -25,7 +25,7 @@ use Rattle.code_machine.specs.Versions.{IsOfVersion, RunsCode}
 use Rattle.code_machine.proofs.Lists.{some}
 use Rattle.code_machine.proofs.Fitting.{are_frames, depth_is, frame_moved, innermost_is, moved, wait_still}
 use Rattle.code_machine.proofs.Resuming.{frame_there, height_after, stood_there, words_there}
-use Rattle.code_machine.proofs.Starting.{first_of, not_stands, second_of}
+use Rattle.code_machine.proofs.Starting.{first_of, not_continues, not_stands, second_of}
 
 -- what an act leads to
 pub leads_so : (image : CodeImage) (r : Running) (x : StopPlace) → RestsAt image.functions.items (length image.callees.items) r x
@@ -80,6 +80,7 @@ module _ (image : CodeImage) (r : Running) (x : StopPlace) (n count : ℕ) (rest
           there = subst (HasArguments mid) (second_of n m count c e) there;
           wait = all;
         };
+        owes = λ e. absurd (not_continues n count e);
         stood = λ end e. absurd (not_stands n count end e);
         stacks = subst (λ (k : ℕ). AreNeverHigher k functions) (sym same) rests.fits.stacks;
       }

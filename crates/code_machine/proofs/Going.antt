@@ -20,12 +20,12 @@ use Rattle.code_image.specs.declared.function.CodeFunction.{CodeFunction}
 use Rattle.code_image.specs.declared.image.CodeImage.{CodeImage}
 use Rattle.code_image.specs.Stacks.{AreNeverHigher}
 use Rattle.code_image.specs.Images.{IsFunctionOf}
-use Rattle.code_machine.specs.declared.running.Next.TheVariants.{Enters, Stands}
+use Rattle.code_machine.specs.declared.running.Next.TheVariants.{Continues, Enters, Stands}
 use Rattle.code_machine.specs.declared.running.Running.{Running}
 use Rattle.code_machine.specs.declared.state.RunState.{RunState}
 use Rattle.code_machine.specs.Kept.{Fits, IsFrame, Stood, Wait, end_of}
-use Rattle.code_machine.specs.Seen.{standing_with, words_of}
-use Rattle.code_machine.specs.Stops.{CanGoOn, WentOn}
+use Rattle.code_machine.specs.Seen.{words_of}
+use Rattle.code_machine.specs.Stops.{CanGoOn}
 use Rattle.code_machine.specs.Versions.{IsOfVersion, IsRunOf, RunsCode, texts_by}
 use Rattle.code_machine.proofs.Lists.{all, one, read, seen}
 use Rattle.code_machine.proofs.Fitting.{are_frames, depth_is, end_is, frame_moved, head_is, innermost_is, moved, same_head, wait_still}
@@ -120,15 +120,18 @@ module _ (functions : List CodeFunction) (g : CodeFunction) (old new : Frames) (
             let same : first ≡ w.next = same_head first w.next rest w.below (sym seen ∙ w.after) in
             ap (λ (h : CodeFunction). end_of (step (code_of t h.verified.body.code.items) first.state)) (sym (same_function k is))
             ∙ ap (λ (x : CodeFrame). end_of (step (code_of t g.verified.body.code.items) x.state)) same
-            ∙ ap end_of w.ends ∙ end_is end;
+            ∙ ap end_of w.bursts.ends ∙ end_is end;
         wait = subst (Wait functions new) below (wait_still functions old new f some frames wait);
       }
 
 -- what a thread does next is one thing
-stands_not : (end : End) (n count : ℕ) → Stands end ≡ Enters n count → ⊥
+pub stands_not : (end : End) (n count : ℕ) → Stands end ≡ Enters n count → ⊥
 stands_not end n count e = cc
 
-same_end : (a b : End) → Stands a ≡ Stands b → a ≡ b
+pub stands_and_continues : (end : End) → Stands end ≡ Continues → ⊥
+stands_and_continues end e = cc
+
+pub same_end : (a b : End) → Stands a ≡ Stands b → a ≡ b
 same_end a b e = cc
 
 -- a thread whose innermost frame went on is kept
@@ -145,23 +148,8 @@ fits_on functions callees g old new point place height end can there frames same
       serial = can.serial;
       frames = are_frames functions old.frames new f can.some frames (frame_moved functions (innermost old.frames) point (innermost new).place (innermost new).height (can.frames (depth_of old.frames - 1) (omega (arith, can.some)))) can.frames;
       due = λ n count e. absurd (stands_not end n count e);
+      owes = λ e. absurd (stands_and_continues end e);
       stood = λ other e.
           subst (Stood functions new) (same_end end other e) (stood functions g old.frames new point place height end can.some there frames can.wait low went);
       stacks = subst (λ (k : ℕ). AreNeverHigher k functions) (sym same) can.stacks;
     }
-
--- and went on as the definitions say
-pub went_on : (all_texts : List (List BareDef)) (versions : List ℕ) (image : CodeImage) (g : CodeFunction) (old : Running) (new : Frames) (point place height : ℕ) (end : End)
-    → RunsCode all_texts versions image old → CanGoOn image.functions.items old place height
-    → slice_get image.functions.items (innermost old.frames).unit ≡ Some g
-    → change.WentOn (words_of image) g.verified.body.code.items old.frames new point place height end
-    → WentOn (texts_by all_texts versions) image old (record old { frames = new; next = Stands end }) point place height
-went_on all_texts versions image g old new point place height end code can there w = record {
-  frame = w.frame;
-  next = w.next;
-  below = w.below;
-  before = w.before;
-  after = ap (standing_with old) w.after;
-  goes = w.goes (texts_by all_texts versions)
-      (code_is all_texts versions image old g w.frame w.below code can.some there w.before (can.frames (depth_of old.frames - 1) (omega (arith, can.some))));
-}

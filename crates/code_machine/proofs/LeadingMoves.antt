@@ -78,7 +78,7 @@ module _ (all : List (List BareDef)) (image : CodeImage) (run : RunState) (slot 
       let runs = runs_there all image run slot l.running is l.there in
       let r = l.running in
       let called : is_called (in_slot (world_of image run) slot) ≡ nat_lt 1 (depth_of r.frames) =
-      ap is_called lives ∙ ap (λ (fs : List CodeFrame). is_some (slice_get fs 1)) (thread_frames image r fits)
+      ap is_called lives ∙ ap (λ (fs : List CodeFrame). is_some (slice_get fs 1)) (thread_frames image r fits RestsThere l.does)
       ∙ called_below (words_of image) r.frames.highest_stack r.frames.words.items r.frames.frames.items (depth_of r.frames) in
       subst (λ (b : Bool). LeadsNext texts (names_in all) image (world_of image run) slot (stop_leads (stop_of (words_of image) x.stop) b)) called
       (stopping x (next_stop_is image r fits (world_of image run) slot lives all run.versions.items runs g found l.does x e))

@@ -1,11 +1,14 @@
 pub mod Lists
 pub mod Fitting
 pub mod Going
+pub mod PrivateWork
 pub mod StackChanges
 pub mod Resuming
 pub mod Acting
 pub mod Worlds
 pub mod Keeping
+pub mod Working
+pub mod TakenWork
 pub mod InForce
 pub mod UsedObjects
 pub mod Installing

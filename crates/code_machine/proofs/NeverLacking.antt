@@ -11,7 +11,7 @@ use Rattle.code_image.specs.declared.function.CodeFunction.{CodeFunction}
 use Rattle.code_image.specs.declared.image.CodeImage.{CodeImage}
 use Rattle.code_image.specs.StopHeights.{act_prints}
 use Rattle.code_machine.specs.declared.running.Next.{Next}
-use Rattle.code_machine.specs.declared.running.Next.TheVariants.{Enters, Stands}
+use Rattle.code_machine.specs.declared.running.Next.TheVariants.{Continues, Enters, Stands}
 use Rattle.code_machine.specs.declared.running.Running.{Running}
 use Rattle.code_machine.specs.declared.state.RunState.{RunState}
 use Rattle.code_machine.specs.Enough.{ActMayFail, HasEnough}
@@ -25,6 +25,7 @@ use Rattle.code_machine.proofs.Worlds.{slot_is}
 -- how many transactions a thread is in
 depth_seen : (image : CodeImage) (r : Running) (next : Next) → (thread_by image r next).depth ≡ r.depth
 depth_seen image r (Enters n count) = refl
+depth_seen image r Continues = refl
 depth_seen image r (Stands end) = refl
 
 module _ (image : CodeImage) (r : Running) (x : StopPlace) (rests : RestsAt image.functions.items (length image.callees.items) r x) (act : Act) (is : x.act ≡ act) where

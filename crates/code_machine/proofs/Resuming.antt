@@ -16,7 +16,7 @@ use Rattle.code_image.specs.declared.image.CodeImage.{CodeImage}
 use Rattle.code_image.specs.Stacks.{AreNeverHigher}
 use Rattle.code_image.specs.StopHeights.{StopFits, act_leaves, act_takes, returns}
 use Rattle.code_machine.specs.declared.running.Next.{Next}
-use Rattle.code_machine.specs.declared.running.Next.TheVariants.{Enters, Stands}
+use Rattle.code_machine.specs.declared.running.Next.TheVariants.{Continues, Enters, Stands}
 use Rattle.code_machine.specs.declared.running.Stand.{Stand}
 use Rattle.code_machine.specs.declared.running.Stand.TheVariants.{Live as LiveStand}
 use Rattle.code_machine.specs.declared.running.Running.{Running}
@@ -83,16 +83,17 @@ resumed texts image r new x rests w =
 -- a thread in another number of transactions
 with_depth : (image : CodeImage) (r : Running) (k : ℕ) (n : Next) → thread_by image (record r { depth = k }) n ≡ record (thread_by image r n) { depth = k }
 with_depth image r k (Enters n count) = refl
+with_depth image r k Continues = refl
 with_depth image r k (Stands end) = refl
 
 pub depth_set : (image : CodeImage) (r : Running) (k : ℕ) → thread_of image (record r { depth = k }) ≡ record (thread_of image r) { depth = k }
 depth_set image r k = with_depth image r k r.next
 
 pub fits_deeper : (functions : List CodeFunction) (callees : ℕ) (r : Running) (k : ℕ) → Fits functions callees r → Fits functions callees (record r { depth = k })
-fits_deeper functions callees r k fits = record { kept = fits.kept; serial = fits.serial; frames = fits.frames; due = fits.due; stood = fits.stood; stacks = fits.stacks }
+fits_deeper functions callees r k fits = record { kept = fits.kept; serial = fits.serial; frames = fits.frames; due = fits.due; owes = fits.owes; stood = fits.stood; stacks = fits.stacks }
 
 pub fits_standing : (functions : List CodeFunction) (callees : ℕ) (r : Running) (stand : Stand) → Fits functions callees r → Fits functions callees (record r { stand = stand })
-fits_standing functions callees r stand fits = record { kept = fits.kept; serial = fits.serial; frames = fits.frames; due = fits.due; stood = fits.stood; stacks = fits.stacks }
+fits_standing functions callees r stand fits = record { kept = fits.kept; serial = fits.serial; frames = fits.frames; due = fits.due; owes = fits.owes; stood = fits.stood; stacks = fits.stacks }
 
 -- the world in which a thread goes on
 pub continues : (image : CodeImage) (new : Running) (slot : ℕ) (d : Data) (w : CodeWorld) (th : CodeThread) (next : CodeFrame) → new.stand ≡ LiveStand

@@ -9,7 +9,7 @@ use Rattle.word_frames.specs.Seen.{HasArguments, IsKept, arguments_at, arguments
 use Rattle.code_image.specs.declared.function.CodeFunction.{CodeFunction}
 use Rattle.code_image.specs.declared.image.CodeImage.{CodeImage}
 use Rattle.code_image.specs.Stacks.{AreNeverHigher}
-use Rattle.code_machine.specs.declared.running.Next.TheVariants.{Enters, Stands}
+use Rattle.code_machine.specs.declared.running.Next.TheVariants.{Continues, Enters, Stands}
 use Rattle.code_machine.specs.declared.running.Running.{Running}
 use Rattle.code_machine.specs.declared.running.Stand.TheVariants.{Live as LiveStand}
 use Rattle.code_machine.specs.Kept.{Fits, most_threads}
@@ -21,6 +21,9 @@ first_of a b m n e = cc
 
 pub second_of : (a b m n : ℕ) → Enters a m ≡ Enters b n → m ≡ n
 second_of a b m n e = cc
+
+pub not_continues : (a m : ℕ) → Enters a m ≡ Continues → ⊥
+not_continues a m e = cc
 
 pub not_stands : (a m : ℕ) (end : End) → Enters a m ≡ Stands end → ⊥
 not_stands a m end e = cc
@@ -46,6 +49,7 @@ fresh functions callees s r main count same kept none serial next inside stacks 
         there = subst (λ (k : ℕ). HasArguments r.frames k) (second_of main n count c (sym next ∙ e)) (subst (λ (q : Frames). HasArguments q count) (sym same) there);
         wait = λ k h. absurd (omega (arith, empty));
       };
+      owes = λ e. absurd (not_continues main count (sym next ∙ e));
       stood = λ end e. absurd (not_stands main count end (sym next ∙ e));
       stacks = subst (λ (q : Frames). AreNeverHigher q.highest_stack functions) (sym same) stacks;
     }

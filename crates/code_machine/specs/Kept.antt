@@ -14,7 +14,7 @@ use Rattle.word_frames.specs.Seen.{HasArguments, IsKept, depth_of, frame_at, fra
 use Rattle.code_image.specs.declared.function.CodeFunction.{CodeFunction}
 use Rattle.code_image.specs.declared.image.CodeImage.{CodeImage}
 use Rattle.code_image.specs.Stacks.{AreNeverHigher}
-use Rattle.code_machine.specs.declared.running.Next.TheVariants.{Enters, Stands}
+use Rattle.code_machine.specs.declared.running.Next.TheVariants.{Enters, Continues, Stands}
 use Rattle.code_machine.specs.declared.running.Running.{Running}
 use Rattle.code_machine.specs.declared.state.RunState.{RunState}
 
@@ -52,6 +52,12 @@ pub record Stood (functions : List CodeFunction) (s : Frames) (end : End) : Type
       → frames_of t s ≡ f ∷ below → end_of (step (code_of t g.verified.body.code.items) f.state) ≡ Some end
   pub wait : Wait functions s (depth_of s - 1)
 
+-- the innermost frame has private instructions to execute from its place on, and the others wait
+pub record Owes (functions : List CodeFunction) (s : Frames) : Type 0 where
+  pub some : 0 < depth_of s
+  pub height : HasHeightAt functions (innermost s) (innermost s).place (innermost s).height
+  pub wait : Wait functions s (depth_of s - 1)
+
 -- the enter of a function with one of so many names is due, and all frames wait
 pub record Due (functions : List CodeFunction) (callees : ℕ) (s : Frames) (n count : ℕ) : Type 0 where
   pub inside : n < callees
@@ -64,6 +70,7 @@ pub record Fits (functions : List CodeFunction) (callees : ℕ) (r : Running) : 
   pub serial : r.serial < most_threads
   pub frames : (n : ℕ) → n < depth_of r.frames → IsFrame functions (frame_at r.frames n)
   pub due : (n count : ℕ) → r.next ≡ Enters n count → Due functions callees r.frames n count
+  pub owes : r.next ≡ Continues → Owes functions r.frames
   pub stood : (end : End) → r.next ≡ Stands end → Stood functions r.frames end
   pub stacks : AreNeverHigher r.frames.highest_stack functions
 
@@ -82,3 +89,15 @@ pub record IsKeptRun (image : CodeImage) (run : RunState) : Type 0 where
   pub slots : AreKept image run.slots.items run.threads
   pub versions : length run.versions.items < 2 ^ 32
   pub version : suc run.shared.version ≡ length run.versions.items
+
+-- ---- private work
+
+-- the thread in a slot has private work to do
+pub record IsDueAt (run : RunState) (n : ℕ) : Type 0 where
+  pub running : Running
+  pub there : slice_get run.slots.items n ≡ Some running
+  pub due : running.next ≡ Continues
+
+-- no thread has
+abbrev pub IsSettledRun : RunState → Type 0
+IsSettledRun run = (n : ℕ) → IsDueAt run n → ⊥

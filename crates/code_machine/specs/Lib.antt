@@ -9,3 +9,6 @@ pub mod Stops
 pub mod ThreadStops
 pub mod Queries
 pub mod Leading
+pub mod Working
+pub mod Done
+pub mod Copies

@@ -26,7 +26,7 @@ use Rattle.code_machine.specs.declared.queries.CodeWait.{CodeWait}
 use Rattle.code_machine.specs.declared.queries.CodeWait.TheVariants as wait
 use Rattle.code_machine.specs.declared.machine.CodeMachine.{CodeMachine}
 use Rattle.code_machine.specs.declared.running.Running.{Running}
-use Rattle.code_machine.specs.Kept.{FitsImage}
+use Rattle.code_machine.specs.Kept.{FitsImage, IsDueAt, IsSettledRun}
 use Rattle.code_machine.specs.Seen.{code_world, thread_of, words_of}
 use Rattle.code_machine.specs.Steps.{RestsNowhere}
 
@@ -116,5 +116,16 @@ pub record NeverWaits (act : Act) : Type 0 where
 -- a thread lives in a slot of a machine, and fits its code
 pub record LivesIn (m : CodeMachine) (slot : ℕ) (r : Running) : Type 0 where
   pub there : slice_get m.run.slots.items slot ≡ Some r
-  pub fits : FitsImage m.image r
-  pub lives : in_slot (code_world m) slot ≡ Live (thread_of m.image r)
+  pub fits : FitsImage m.image.value r
+  pub lives : in_slot (code_world m) slot ≡ Live (thread_of m.image.value r)
+
+-- ---- private work
+
+-- the thread in a slot has no private work to do, so it can be asked what it does next
+abbrev pub IsSettledAt : CodeMachine → ℕ → Type 0
+IsSettledAt m slot = IsDueAt m.run slot → ⊥
+
+-- no thread has, and moves leave none
+pub record IsSettled (m : CodeMachine) : Type 0 where
+  pub none : IsSettledRun m.run
+  pub leaves : m.leaves_work ≡ false

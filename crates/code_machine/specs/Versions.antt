@@ -109,7 +109,7 @@ abbrev pub versions_of : CodeMachine → List ℕ
 versions_of m = m.run.versions.items
 
 abbrev pub IsMachineOf : List (List BareDef) → CodeMachine → Type 0
-IsMachineOf all m = IsRunOf all m.image m.run
+IsMachineOf all m = IsRunOf all m.image.value m.run
 
 abbrev pub IsReadyAt : List (List BareDef) → CodeMachine → ℕ → Type 0
-IsReadyAt all m t = IsReady all m.image m.run t
+IsReadyAt all m t = IsReady all m.image.value m.run t

@@ -16,15 +16,17 @@ ghost use Rattle.word_installs.specs.Prepared.{ArePrepared};
 ghost use Rattle.word_layouts.specs.WordChanges.{AreChangesOf, HasFewFields, StandFor};
 ghost use Rattle.code_machine.specs.Leading.{Led, has_moved};
 ghost use Rattle.code_machine.specs.Seen.{code_world, image_of, name_at, output_of, slot_of};
+ghost use Rattle.code_machine.specs.Queries.{IsSettled};
 ghost use Rattle.code_machine.specs.Steps.{Came, IsStart};
 ghost use Rattle.code_machine.specs.Stops.{IsFresh};
 
 use crate::machine::CodeMachine;
-use crate::moves::{CodeStep, step};
+use crate::moves::{CodeStep, work_and_step};
 use crate::running::{Running, Stand};
 use crate::state::RunState;
 use code_image::CodeImage;
 use std::alloc::{AllocError, Global};
+use std::sync::Arc;
 use word_data::WordData;
 use word_installs::{NewRow, install};
 use word_layouts::{VersionChanges, WordLayouts};
@@ -81,6 +83,16 @@ fn add_version(
     added
 }
 
+/// An image that is shared.
+fn share(alloc: Global, image: CodeImage) -> Result<Arc<CodeImage>, AllocError>
+    ensures { IfOk result (λ shared. shared.value ≡ image) }
+{
+    match Arc::new(alloc, image) {
+        Ok(shared) => Ok(shared),
+        Err(_) => Err(AllocError),
+    }
+}
+
 impl CodeMachine {
     /// The start of a run of the first of some texts by its code: main's thread in the first of so many slots, globals and arrays with
     /// these words in the order of their numbers, and room for so many objects. It takes all memory that threads ever need, but for what
@@ -101,13 +113,16 @@ impl CodeMachine {
         ensures first { IfOk result (λ m. versions_of m ≡ 0 ∷ []) }
         ensures used { IfOk result (λ m. HasUsed 0 m.run) }
         ensures silent { IfOk result (λ m. output_of m ≡ []) }
+        ensures settled { IfOk result IsSettled }
     {
         let shared = WordData::new(alloc, cells, objects, image.mutexes)?;
         let slots = slots_of(alloc, &image, slots)?;
         let output = Vec::with_capacity(alloc, image.longest_print)?;
         let versions = vec![in alloc; 0]?;
+        let image = share(alloc, image)?;
         Ok(CodeMachine {
             image,
+            leaves_work: false,
             run: RunState {
                 shared,
                 slots,
@@ -123,7 +138,8 @@ impl CodeMachine {
 
     /// Makes the move of the thread in a slot, if it can be made, and says whether it led to a check-in.
     ///
-    /// A move takes time linear in the instructions of its burst and in what it prints; a start or a join of a thread looks at each
+    /// Private work that is due in the slot is done before. That which follows the move is done, or left where [`CodeMachine::leave_work`]
+    /// says so. A move takes time linear in the instructions of its burst and in what it prints; a start or a join of a thread looks at each
     /// slot. Where all that was printed is taken, it is out of memory only where 2^32 - 1 objects were created, or 2^48 threads
     /// started, or where the thread is in 2^64 - 1 transactions. The machine is of no use then.
     #[inline(always)]
@@ -140,8 +156,10 @@ impl CodeMachine {
             × ((n : ℕ) → HasUsed n self.old.run → HasUsed n self.new.run) }
         ensures long { OnOk result (length (output_of self.new) ≤ length (output_of self.old) + (image_of self.old).longest_print) }
         ensures enough { HasNumbers (code_world self.old) slot → output_of self.old ≡ [] → IsOk result }
+        ensures settled { IsSettled self.old → IsSettled self.new }
     {
-        step(&self.image, &mut self.run, slot)
+        let leaves_work = self.leaves_work;
+        work_and_step(&self.image, &mut self.run, slot, leaves_work)
     }
 
     /// Takes what was printed away. Its memory stays for what is printed next.
@@ -152,6 +170,7 @@ impl CodeMachine {
         ensures run { (texts : List (List BareDef)) → IsMachineOf texts self.old → IsMachineOf texts self.new }
         ensures versions { versions_of self.new ≡ versions_of self.old }
         ensures used { (n : ℕ) → HasUsed n self.old.run → HasUsed n self.new.run }
+        ensures settled { IsSettled self.old → IsSettled self.new }
     {
         self.run.output.clear();
     }
@@ -176,6 +195,7 @@ impl CodeMachine {
             → OnOk result (IsMachineOf texts self.new) }
         ensures versions { OnOk result (versions_of self.new ≡ versions_of self.old ++ text ∷ []) }
         ensures used { (n : ℕ) → HasUsed n self.old.run → HasUsed n self.new.run }
+        ensures settled { IsSettled self.old → IsSettled self.new }
         ensures fault { OnErr result ((code_world self.new ≡ code_world self.old) × (versions_of self.new ≡ versions_of self.old)
             × ((texts : List (List BareDef)) → IsMachineOf texts self.old → IsMachineOf texts self.new)) }
     {

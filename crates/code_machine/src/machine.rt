@@ -5,12 +5,16 @@ ghost use Rattle.code_machine.specs.Kept.{IsKeptRun};
 
 use crate::state::RunState;
 use code_image::CodeImage;
+use std::sync::Arc;
 
 /// A run of the code of some texts.
 #[derive(Drop)]
 pub struct CodeMachine {
-    pub(crate) image: CodeImage,
+    /// It doesn't change, so those who do private work elsewhere share it.
+    pub(crate) image: Arc<CodeImage>,
     pub(crate) run: RunState,
-    ghost kept: { IsKeptRun image run } by { Prim.hlevel props },
-    ghost room: { image.longest_print ≤ vec_capacity run.output },
+    /// Whether the private work that follows a move is left for later.
+    pub(crate) leaves_work: bool,
+    ghost kept: { IsKeptRun image.value run } by { Prim.hlevel props },
+    ghost room: { image.value.longest_print ≤ vec_capacity run.output },
 }

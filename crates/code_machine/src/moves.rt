@@ -12,8 +12,9 @@ ghost use Rattle.code_image.specs.Images.{names_in};
 ghost use Rattle.code_machine.specs.declared.running.Next.TheVariants.{Enters as EntersNext, Stands as StandsNext};
 ghost use Rattle.code_machine.specs.declared.running.Stand.TheVariants.{Live as LiveStand};
 ghost use Rattle.code_machine.specs.Enough.{HasEnough};
-ghost use Rattle.code_machine.specs.Keeping.{Keeps, UsesNothing};
-ghost use Rattle.code_machine.specs.Kept.{IsKeptRun};
+ghost use Rattle.code_machine.specs.Keeping.{Keeps, SameRun, UsesNothing};
+ghost use Rattle.code_machine.specs.Kept.{IsDueAt, IsKeptRun};
+ghost use Rattle.code_machine.specs.Working.{IsStep};
 ghost use Rattle.code_machine.specs.Versions.{IsReady, IsRunOf, texts_of};
 ghost use Rattle.code_machine.specs.Leading.{LeadsNext, Led, has_moved, stop_leads};
 ghost use Rattle.code_machine.specs.Seen.{world_of};
@@ -77,6 +78,33 @@ impl Running {
 }
 
 impl RunState {
+    /// Does the private work of the thread in a slot, if some is due.
+    #[inline(always)]
+    pub(crate) fn run_on(&mut self, image: &CodeImage, slot: u8)
+        requires { IsKeptRun image.now self.old }
+        ensures same { SameRun image.now self.old self.new }
+        ensures settled { IsDueAt self.new slot → ⊥ }
+    {
+        let slot = slot as usize;
+        if slot >= self.slots.len() {
+            return;
+        }
+        self.slots[slot].run_on(image);
+    }
+
+    /// The same, unless it is left for later.
+    #[inline(always)]
+    fn run_on_unless(&mut self, image: &CodeImage, slot: u8, leaves_work: bool)
+        requires { IsKeptRun image.now self.old }
+        ensures same { SameRun image.now self.old self.new }
+        ensures settled { leaves_work ≡ false → IsDueAt self.new slot → ⊥ }
+    {
+        if leaves_work {
+            return;
+        }
+        self.run_on(image, slot);
+    }
+
     /// What the thread in a slot does next; none where none lives there, or where the run has ended.
     #[inline(always)]
     fn next_in(&self, slot: u8) -> Option<Next>
@@ -95,11 +123,30 @@ impl RunState {
     }
 }
 
-/// Makes the move of the thread in a slot, if it can be made.
+/// Does the private work that is due in a slot, and makes the move of its thread, if it can be made. The private work that follows is
+/// done, or left for later.
 #[inline(always)]
-pub(crate) fn step(image: &CodeImage, run: &mut RunState, slot: u8) -> Result<CodeStep, AllocError>
+pub(crate) fn work_and_step(
+    image: &CodeImage,
+    run: &mut RunState,
+    slot: u8,
+    leaves_work: bool,
+) -> Result<CodeStep, AllocError>
     requires { IsKeptRun image.now run.old }
-    ensures keeps { Keeps image.now run.old run.new }
+    ensures { IsStep image.now slot leaves_work run.old run.new result }
+{
+    run.run_on(image, slot);
+    let stepped = step(image, run, slot);
+    run.run_on_unless(image, slot, leaves_work);
+    stepped
+}
+
+/// Makes the move of the thread in a slot, if it can be made. The private work that follows is due then.
+#[inline(always)]
+fn step(image: &CodeImage, run: &mut RunState, slot: u8) -> Result<CodeStep, AllocError>
+    requires kept { IsKeptRun image.now run.old }
+    requires settled { IsDueAt run.old slot → ⊥ }
+    ensures keeps { Keeps image.now slot run.old run.new }
     ensures stays { IfOk result (λ step. has_moved step ≡ false → UsesNothing run.old run.new) }
     ensures came { (all : List (List BareDef)) → IsReady all image.now run.old slot
         → IfOk result (λ step. StepsTo all image.now slot run.old run.new (has_moved step)) }
@@ -111,6 +158,7 @@ pub(crate) fn step(image: &CodeImage, run: &mut RunState, slot: u8) -> Result<Co
 {
     match run.next_in(slot) {
         None => Ok(CodeStep::CannotMove),
+        Some(Next::Continues) => Ok(CodeStep::CannotMove),
         Some(Next::Enters(n, count)) => Ok(stepped(enter(image, run, slot, n, count), true)),
         Some(Next::Stands(End::Traps(kind))) => Ok(stepped(trap(image, run, slot, kind), false)),
         Some(Next::Stands(End::Rests)) => stop(image, run, slot),
@@ -123,7 +171,7 @@ pub(crate) fn step(image: &CodeImage, run: &mut RunState, slot: u8) -> Result<Co
 fn enter(image: &CodeImage, run: &mut RunState, slot: u8, n: u32, count: usize) -> bool
     requires kept { IsKeptRun image.now run.old }
     requires lives { Lives run.old slot (EntersNext n count) }
-    ensures keeps { Keeps image.now run.old run.new }
+    ensures keeps { Keeps image.now slot run.old run.new }
     ensures stays { result ≡ false → UsesNothing run.old run.new }
     ensures came { (all : List (List BareDef)) → IsReady all image.now run.old slot → StepsTo all image.now slot run.old run.new result }
     ensures output { run.new.output ≡ run.old.output }
@@ -145,7 +193,7 @@ fn enter(image: &CodeImage, run: &mut RunState, slot: u8, n: u32, count: usize) 
 fn trap(image: &CodeImage, run: &mut RunState, slot: u8, kind: TrapKind) -> bool
     requires kept { IsKeptRun image.now run.old }
     requires lives { Lives run.old slot (StandsNext (TrapsEnd kind)) }
-    ensures keeps { Keeps image.now run.old run.new }
+    ensures keeps { Keeps image.now slot run.old run.new }
     ensures stays { result ≡ false → UsesNothing run.old run.new }
     ensures came { (all : List (List BareDef)) → IsReady all image.now run.old slot → StepsTo all image.now slot run.old run.new result }
     ensures output { run.new.output ≡ run.old.output }
@@ -159,7 +207,7 @@ fn trap(image: &CodeImage, run: &mut RunState, slot: u8, kind: TrapKind) -> bool
 fn stop(image: &CodeImage, run: &mut RunState, slot: u8) -> Result<CodeStep, AllocError>
     requires kept { IsKeptRun image.now run.old }
     requires lives { Lives run.old slot (StandsNext RestsEnd) }
-    ensures keeps { Keeps image.now run.old run.new }
+    ensures keeps { Keeps image.now slot run.old run.new }
     ensures stays { IfOk result (λ step. has_moved step ≡ false → UsesNothing run.old run.new) }
     ensures came { (all : List (List BareDef)) → IsReady all image.now run.old slot
         → IfOk result (λ step. StepsTo all image.now slot run.old run.new (has_moved step)) }
@@ -192,7 +240,7 @@ fn make_stop(
 ) -> Result<bool, AllocError>
     requires kept { IsKeptRun image.now run.old }
     requires lives { LivesAt image.now.functions.items (length image.now.callees.items) run.old slot stop.now }
-    ensures keeps { Keeps image.now run.old run.new }
+    ensures keeps { Keeps image.now slot run.old run.new }
     ensures stays { IfOk result (λ moved. moved ≡ false → UsesNothing run.old run.new) }
     ensures came { (all : List (List BareDef)) → IsReady all image.now run.old slot → IfOk result (StepsTo all image.now slot run.old run.new) }
     ensures long { OnOk result (length run.new.output.items ≤ length run.old.output.items + image.now.longest_print) }
@@ -220,7 +268,7 @@ fn alone(
     requires lives { LivesAt image.now.functions.items (length image.now.callees.items) run.old slot stop.now }
     requires act { stop.now.act ≡ act }
     requires alone { IsAlone act }
-    ensures keeps { Keeps image.now run.old run.new }
+    ensures keeps { Keeps image.now slot run.old run.new }
     ensures stays { IfOk result (λ moved. moved ≡ false → UsesNothing run.old run.new) }
     ensures came { (all : List (List BareDef)) → IsReady all image.now run.old slot → IfOk result (StepsTo all image.now slot run.old run.new) }
     ensures long { OnOk result (length run.new.output.items ≤ length run.old.output.items + image.now.longest_print) }

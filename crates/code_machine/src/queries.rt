@@ -16,7 +16,8 @@ ghost use Rattle.code_image.specs.Images.{names_in};
 ghost use Rattle.code_machine.specs.Kept.{FitsImage};
 ghost use Rattle.code_machine.specs.Versions.{IsMachineOf, RunsCode, texts_by, texts_of};
 ghost use Rattle.code_machine.specs.Seen.{code_world, finish_of, image_of, thread_of, words_of};
-ghost use Rattle.code_machine.specs.Queries.{HasNoStop, IsHeld, IsNextStop, LivesIn, NeverWaits, RestsIn, WaitsFor, entered_by, entering_in, frames_in, in_transaction, is_live, place_of, place_seen, waiting_of};
+ghost use Rattle.code_machine.specs.declared.running.Next.TheVariants.{Continues as ContinuesNext};
+ghost use Rattle.code_machine.specs.Queries.{HasNoStop, IsHeld, IsNextStop, IsSettledAt, LivesIn, NeverWaits, RestsIn, WaitsFor, entered_by, entering_in, frames_in, in_transaction, is_live, place_of, place_seen, waiting_of};
 
 use crate::machine::CodeMachine;
 use crate::running::{Next, Running, Stand, innermost};
@@ -105,15 +106,15 @@ impl Running {
     {
         match self.next {
             Next::Enters(n, _) => word_at(image.callees.as_slice(), n),
-            Next::Stands(_) => None,
+            Next::Continues | Next::Stands(_) => None,
         }
     }
 
-    /// The stop at which the innermost frame rests, if it rests at one.
+    /// The stop at which the innermost frame rests, if it rests at one. It is asked of a thread that has no private work to do.
     #[inline(always)]
     fn next_stop(&self, image: &CodeImage) -> Option<StopPlace>
         requires { FitsImage image.now self.now }
-        ensures { (all : List (List BareDef)) (versions : List ℕ) → RunsCode all versions image.now self.now → (w : World) (slot : ℕ)
+        ensures { (self.now.next ≡ ContinuesNext → ⊥) → (all : List (List BareDef)) (versions : List ℕ) → RunsCode all versions image.now self.now → (w : World) (slot : ℕ)
             → in_slot w slot ≡ IsLive (thread_of image.now self.now)
             → MatchOption result (HasNoStop (texts_by all versions) w slot) (IsNextStop (texts_by all versions) (names_in all) image.now w slot) }
     {
@@ -125,7 +126,7 @@ impl Running {
                 }
                 End::Traps(_) => None,
             },
-            Next::Enters(_, _) => None,
+            Next::Enters(_, _) | Next::Continues => None,
         }
     }
 
@@ -201,10 +202,11 @@ impl CodeMachine {
         }
     }
 
-    /// The stop at which the innermost frame of the thread in a slot rests, if it rests at one.
+    /// The stop at which the innermost frame of the thread in a slot rests, if it rests at one. It is asked of a thread that has no private
+    /// work to do.
     #[inline(always)]
     pub fn next_stop(&self, slot: u8) -> Option<StopPlace>
-        ensures { (all : List (List BareDef)) → IsMachineOf all self.now → MatchOption result
+        ensures { IsSettledAt self.now slot → (all : List (List BareDef)) → IsMachineOf all self.now → MatchOption result
             (HasNoStop (texts_of all self.now.run) (code_world self.now) slot)
             (IsNextStop (texts_of all self.now.run) (names_in all) (image_of self.now) (code_world self.now) slot) }
     {
@@ -214,10 +216,11 @@ impl CodeMachine {
         }
     }
 
-    /// Whether the thread in a slot waits. It takes a few instructions where it rests neither at a lock nor at a join.
+    /// Whether the thread in a slot waits. It takes a few instructions where it rests neither at a lock nor at a join. It is asked of a
+    /// thread that has no private work to do.
     #[inline(always)]
     pub fn is_held(&self, slot: u8) -> bool
-        ensures { (all : List (List BareDef)) → IsMachineOf all self.now → IsHeld (texts_of all self.now.run) (names_in all) (code_world self.now) slot result }
+        ensures { IsSettledAt self.now slot → (all : List (List BareDef)) → IsMachineOf all self.now → IsHeld (texts_of all self.now.run) (names_in all) (code_world self.now) slot result }
     {
         if self.may_wait(slot) {
             self.is_held_there(slot)
@@ -228,7 +231,7 @@ impl CodeMachine {
 
     /// The same of a thread that may rest at a lock or a join.
     fn is_held_there(&self, slot: u8) -> bool
-        ensures { (all : List (List BareDef)) → IsMachineOf all self.now → IsHeld (texts_of all self.now.run) (names_in all) (code_world self.now) slot result }
+        ensures { IsSettledAt self.now slot → (all : List (List BareDef)) → IsMachineOf all self.now → IsHeld (texts_of all self.now.run) (names_in all) (code_world self.now) slot result }
     {
         self.waits(slot).is_some()
     }
@@ -236,7 +239,7 @@ impl CodeMachine {
     /// Whether the thread in a slot rests at a stop that may wait: at a lock or a join.
     #[inline(always)]
     fn may_wait(&self, slot: u8) -> bool
-        ensures { (all : List (List BareDef)) → IsMachineOf all self.now → result ≡ false
+        ensures { IsSettledAt self.now slot → (all : List (List BareDef)) → IsMachineOf all self.now → result ≡ false
             → WaitsFor (texts_of all self.now.run) (names_in all) (code_world self.now) slot None }
     {
         match self.next_stop(slot) {
@@ -245,9 +248,9 @@ impl CodeMachine {
         }
     }
 
-    /// What the thread in a slot waits for, if it waits.
+    /// What the thread in a slot waits for, if it waits. It is asked of a thread that has no private work to do.
     pub fn waits(&self, slot: u8) -> Option<CodeWait>
-        ensures { (all : List (List BareDef)) → IsMachineOf all self.now →
+        ensures { IsSettledAt self.now slot → (all : List (List BareDef)) → IsMachineOf all self.now →
             WaitsFor (texts_of all self.now.run) (names_in all) (code_world self.now) slot (option_map (waiting_of (words_of (image_of self.now))) result) }
     {
         match self.next_stop(slot) {
@@ -272,7 +275,7 @@ impl CodeMachine {
 
     /// What a thread waits for at the stop at which it rests.
     fn waits_at(&self, slot: u8, stop: StopPlace) -> Option<CodeWait>
-        ensures { (texts : List (List BareDef)) (names : Names) → IsNextStop texts names (image_of self.now) (code_world self.now) slot stop
+        ensures { IsSettledAt self.now slot → (texts : List (List BareDef)) (names : Names) → IsNextStop texts names (image_of self.now) (code_world self.now) slot stop
             → WaitsFor texts names (code_world self.now) slot (option_map (waiting_of (words_of (image_of self.now))) result) }
     {
         let StopPlace { stop, act, .. } = stop;
@@ -309,7 +312,7 @@ impl CodeMachine {
 
     /// The thread that a join waits for: it lives.
     fn joined_by(&self, slot: u8) -> Option<CodeWait>
-        ensures { (f : CodeFrame) → RestsIn (code_world self.now) slot f
+        ensures { IsSettledAt self.now slot → (f : CodeFrame) → RestsIn (code_world self.now) slot f
             → option_map (waiting_of (words_of (image_of self.now))) result ≡ joined (code_world self.now).slots f.state.stack }
     {
         match self.live(slot) {

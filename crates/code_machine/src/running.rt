@@ -7,7 +7,7 @@ ghost use Rattle.word_frames.specs.Seen.{IsKept, depth_of, innermost};
 ghost use Rattle.code_image.specs.declared.function.CodeFunction.{CodeFunction as Function};
 ghost use Rattle.code_image.specs.declared.image.CodeImage.{CodeImage as Image};
 ghost use Rattle.code_image.specs.Stacks.{AreNeverHigher};
-ghost use Rattle.code_machine.specs.declared.running.Next.TheVariants.{Enters as EntersNext};
+ghost use Rattle.code_machine.specs.declared.running.Next.TheVariants.{Continues as ContinuesNext, Enters as EntersNext};
 ghost use Rattle.code_machine.specs.declared.running.Stand.TheVariants.{Free as FreeStand};
 ghost use Rattle.code_machine.specs.Kept.{Fits, FitsImage, most_threads};
 ghost use Rattle.code_machine.specs.Seen.{slot_of};
@@ -25,6 +25,8 @@ use word_frames::{Frame, Frames};
 pub(crate) enum Next {
     /// It enters the function of the name with a number, with so many arguments.
     Enters(u32, usize),
+    /// Its innermost frame has private instructions to execute, from its place on.
+    Continues,
     /// Its innermost frame is where its private instructions ended: it rests at a stop, or an operator traps.
     Stands(End),
 }
@@ -90,6 +92,7 @@ impl Running {
         ensures none { self.new.frames.frames.items ≡ [] }
         ensures started { (image : Image) → slot_of image self.new ≡ IsLive (starting serial (first_enter image version function argument)) }
         ensures depth { self.new.depth ≡ 0 }
+        ensures next { self.new.next ≡ EntersNext function 1 }
     {
         self.frames.start(argument);
         self.stand = Stand::Live;
@@ -99,7 +102,9 @@ impl Running {
         self.next = Next::Enters(function, 1);
     }
 
-    /// The innermost frame, which stopped at a point, goes on at a place with so many words on its stack.
+    /// The innermost frame, which stopped at a point, goes on at a place with so many words on its stack. What it executes from there is
+    /// due: [`Running::run_on`] does it.
+    #[inline(always)]
     pub(crate) fn go_on(&mut self, image: &CodeImage, point: u32, place: usize, height: usize)
         requires { CanGoOn image.now.functions.items self.old place height }
         ensures fits { FitsImage image.now self.new }
@@ -108,14 +113,48 @@ impl Running {
             → RunsCode all versions image.now self.new }
         ensures went { (all : List (List BareDef)) (versions : List ℕ) → RunsCode all versions image.now self.old → WentOn (texts_by all versions) image.now self.old self.new point place height }
     {
-        let function = image.function(innermost(&self.frames).unit);
+        self.frames.put_off(point, place, height);
+        self.next = Next::Continues;
+    }
+
+    /// Does the private work that is due, if some is.
+    #[inline(always)]
+    pub(crate) fn run_on(&mut self, image: &CodeImage)
+        requires { FitsImage image.now self.old }
+        ensures fits { FitsImage image.now self.new }
+        ensures runs { (all : List (List BareDef)) (versions : List ℕ) → RunsCode all versions image.now self.old
+            → RunsCode all versions image.now self.new }
+        ensures seen { slot_of image.now self.new ≡ slot_of image.now self.old }
+        ensures settled { self.new.next ≡ ContinuesNext → ⊥ }
+        ensures depth { self.new.depth ≡ self.old.depth }
+    {
+        match self.next {
+            Next::Continues => self.execute(image),
+            Next::Enters(_, _) | Next::Stands(_) => {}
+        }
+    }
+
+    /// The innermost frame executes the private instructions from its place on.
+    #[inline(always)]
+    fn execute(&mut self, image: &CodeImage)
+        requires fits { FitsImage image.now self.old }
+        requires due { self.old.next ≡ ContinuesNext }
+        ensures fits { FitsImage image.now self.new }
+        ensures runs { (all : List (List BareDef)) (versions : List ℕ) → RunsCode all versions image.now self.old
+            → RunsCode all versions image.now self.new }
+        ensures seen { slot_of image.now self.new ≡ slot_of image.now self.old }
+        ensures settled { self.new.next ≡ ContinuesNext → ⊥ }
+        ensures depth { self.new.depth ≡ self.old.depth }
+    {
+        let frame = innermost(&self.frames);
+        let function = image.function(frame.unit);
         let end = self.frames.go_on(
             function.verified.body.code.as_slice(),
             function.verified.heights.as_slice(),
             function.ops.as_slice(),
-            point,
-            place,
-            height,
+            frame.point,
+            frame.place,
+            frame.height,
         );
         self.next = Next::Stands(end);
     }

@@ -9,7 +9,7 @@ use Rattle.word_data.specs.Lengths.{most_printed}
 use Rattle.code_image.specs.declared.image.CodeImage.{CodeImage}
 use Rattle.code_machine.specs.declared.machine.CodeMachine.{CodeMachine}
 use Rattle.code_machine.specs.declared.running.Next.{Next}
-use Rattle.code_machine.specs.declared.running.Next.TheVariants.{Enters, Stands}
+use Rattle.code_machine.specs.declared.running.Next.TheVariants.{Continues, Enters, Stands}
 use Rattle.code_machine.specs.declared.running.Running.{Running}
 use Rattle.code_machine.specs.declared.running.Stand.{Stand}
 use Rattle.code_machine.specs.declared.running.Stand.TheVariants.{Free, Live, Over}
@@ -27,6 +27,7 @@ depth_in (seen.Over serial w) = 0
 
 depth_by : (image : CodeImage) (r : Running) (x : Next) → (thread_by image r x).depth ≡ r.depth
 depth_by image r (Enters n count) = refl
+depth_by image r Continues = refl
 depth_by image r (Stands end) = refl
 
 depth_of : (image : CodeImage) (r : Running) (s : Stand) (thread : CodeThread) → slot_by image r s ≡ seen.Live thread → thread.depth ≡ r.depth
@@ -50,7 +51,7 @@ numbers_left moves m slot used few = record {
   creations = let created = used.creations in omega (arith, few, created);
   threads = let started = used.threads in omega (arith, few, started);
   depth = λ thread lives.
-      let low = depth_low m.image m.run.slots.items slot moves thread used.depths lives in
+      let low = depth_low m.image.value m.run.slots.items slot moves thread used.depths lives in
       omega (arith, few, low);
 }
 

@@ -4,6 +4,7 @@ pub mod Resting
 pub mod LostThreads
 pub mod ReadyMoves
 pub mod RunsAfter
+pub mod SameRuns
 pub mod Moving
 pub mod Installing
 pub mod SlotsAlike

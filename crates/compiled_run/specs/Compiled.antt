@@ -15,6 +15,7 @@ use Rattle.run_machine.specs.declared.machine.Moved.TheVariants.{Done, CannotMov
 use Rattle.run_machine.specs.Machines.{Shown}
 use Rattle.word_data.specs.Lengths.{most_printed}
 use Rattle.code_machine.specs.Queries as asked
+use Rattle.code_machine.specs.Queries.{IsSettled}
 use Rattle.code_machine.specs.Seen.{image_of, output_of, words_of}
 use Rattle.code_machine.specs.Used.{HasUsed}
 use Rattle.compiled_run.specs.declared.run.CompiledRun.{CompiledRun}
@@ -58,6 +59,12 @@ pub record Spent (n : ℕ) (r : CompiledRun) : Type 0 where
 pub record Lasts (n : ℕ) (r : CompiledRun) : Type 0 where
   pub spent : Spent n r
   pub emptied : output_of r.machine ≡ []
+
+-- ---- private work
+
+-- no thread has private work to do, and moves leave none
+abbrev pub CanBeAsked : CompiledRun → Type 0
+CanBeAsked r = IsSettled r.machine
 
 -- ---- a move that was made
 

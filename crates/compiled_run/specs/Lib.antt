@@ -1,3 +1,4 @@
 pub mod Needs
 pub mod CodeOfRuns
 pub mod Compiled
+pub mod Works

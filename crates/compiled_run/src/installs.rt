@@ -10,7 +10,7 @@ ghost use Rattle.word_installs.specs.NewRows.{AreNewRows};
 ghost use Rattle.word_layouts.specs.WordChanges.{AreChangesOf};
 ghost use Rattle.image_load.specs.TextTables.{IsDataOf};
 ghost use Rattle.run_machine.specs.Machines.{CameBy, KeepsTexts, NeedsHold};
-ghost use Rattle.compiled_run.specs.Compiled.{Lasts, compiled_shown};
+ghost use Rattle.compiled_run.specs.Compiled.{CanBeAsked, Lasts, compiled_shown};
 
 use crate::run::CompiledRun;
 use code_install_laws::accepted_texts_are_coded;
@@ -90,6 +90,7 @@ impl CompiledRun {
         ensures same { KeepsTexts (compiled_shown self.old) (compiled_shown self.new) }
         ensures kept { (compiled_shown self.new).kept ≡ (compiled_shown self.old).kept }
         ensures lasts { (n : ℕ) → Lasts n self.old → Lasts n self.new }
+        ensures asked { CanBeAsked self.old → CanBeAsked self.new }
     {
         accepted_texts_are_coded();
         code_moves_as_the_source_machine();

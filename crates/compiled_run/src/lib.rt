@@ -6,11 +6,12 @@
 //! and the same end.
 //!
 //! Read `specs/CodeOfRuns` (what ties code to a run), `specs/Needs` (what it needs of the run) and `specs/Compiled`; then `run` (the
-//! start and the moves), `installs`, and `machine` (what an engine asks).
+//! start and the moves), `installs`, `machine` (what an engine asks) and `work` (private work that is left for later).
 #![tactic(auto)]
 
 mod installs;
 mod machine;
 mod run;
+mod work;
 
 pub use run::CompiledRun;

@@ -59,13 +59,15 @@ fn ending(finish: Option<Finish>) -> Option<Ending>
 }
 
 impl Machine for CompiledRun {
-    ghost use Rattle.compiled_run.specs.Compiled.{Lasts, Spent, compiled_shown};
+    ghost use Rattle.compiled_run.specs.Compiled.{CanBeAsked, Lasts, Spent, compiled_shown};
 
     ghost shown = { compiled_shown };
 
     ghost lasts = { Lasts };
 
     ghost spent = { Spent };
+
+    ghost asks = { CanBeAsked };
 
     #[inline(always)]
     fn step(&mut self, slot: u8) -> Result<Moved, AllocError> {

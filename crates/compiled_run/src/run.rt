@@ -10,7 +10,7 @@ ghost use Rattle.run_machine.specs.Machines.{KeepsTexts, MovedBy, NeedsHold};
 ghost use Rattle.image_load.specs.declared.fault.LoadFault.TheVariants.{Memory};
 ghost use Rattle.image_load.specs.Loaded.{AreAcceptedAs, HasFewNames};
 ghost use Rattle.code_machine.specs.Seen.{code_world, output_of};
-ghost use Rattle.compiled_run.specs.Compiled.{IsMade, Lasts, Spent, compiled_shown};
+ghost use Rattle.compiled_run.specs.Compiled.{CanBeAsked, IsMade, Lasts, Spent, compiled_shown};
 
 use c_types::Typed;
 use code_install_laws::{accepted_texts_are_coded, used_names_stay};
@@ -54,6 +54,7 @@ impl CompiledRun {
         ensures trees { IfOk result (λ r. (compiled_shown r).trees ≡ texts.items) }
         ensures kept { IfOk result (λ r. (compiled_shown r).kept ≡ 0) }
         ensures lasts { IfOk result (Lasts creation_limit) }
+        ensures asked { IfOk result CanBeAsked }
         ensures fault { AreAcceptedAs (map text_in texts.items) → HasFewNames (map text_in texts.items)
             → IfErr result (λ fault. fault ≡ Memory) }
     {
@@ -83,6 +84,7 @@ impl CompiledRun {
         ensures kept { (compiled_shown self.new).kept ≡ (compiled_shown self.old).kept }
         ensures lasts { (n : ℕ) → Lasts (1 + n) self.old → IsOk result × Spent n self.new }
         ensures stays { (n : ℕ) → Lasts n self.old → result ≡ Ok Moved.CannotMove → Lasts n self.new }
+        ensures asked { CanBeAsked self.old → CanBeAsked self.new }
     {
         accepted_texts_are_coded();
         code_moves_as_the_source_machine();

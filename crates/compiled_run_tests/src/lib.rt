@@ -9,6 +9,8 @@
 #[cfg(test)]
 mod installs;
 #[cfg(test)]
+mod late;
+#[cfg(test)]
 mod pair;
 #[cfg(test)]
 mod runs;

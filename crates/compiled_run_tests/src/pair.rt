@@ -138,6 +138,17 @@ fn plain_step(plain: &mut SourceRun, slot: u8) -> Result<Moved, AllocError> {
     }
 }
 
+/// Makes a move of both. Says whether it came to the same.
+pub(crate) fn move_alike(
+    plain: &mut SourceRun,
+    compiled: &mut CompiledRun,
+    slot: u8,
+) -> Result<bool, AllocError> {
+    let a = plain_step(plain, slot)?;
+    let b = compiled.step(slot)?;
+    Ok(a == b)
+}
+
 /// Makes a move of both. Says whether they answer alike, and have printed the same after so many bytes.
 pub(crate) fn step(
     plain: &mut SourceRun,
@@ -145,9 +156,7 @@ pub(crate) fn step(
     slot: u8,
     seen: usize,
 ) -> Result<bool, AllocError> {
-    let a = plain_step(plain, slot)?;
-    let b = compiled.step(slot)?;
-    if a != b || !are_alike(plain, compiled) {
+    if !move_alike(plain, compiled, slot)? || !are_alike(plain, compiled) {
         return Ok(false);
     }
     let output = plain.output();

@@ -53,6 +53,9 @@ pub trait Machine: Drop {
     /// The same once its output is forgotten.
     ghost spent: { ℕ → Self → Type 0 };
 
+    /// No thread has private work to do, so that each can be asked what it does next.
+    ghost asks: { Self → Type 0 };
+
     /// Makes the move of the thread in a slot, if it can be made. All that an engine needs to know of the move is answered with it.
     fn step(&mut self, slot: u8) -> Result<Moved, AllocError>
         ensures moved { (texts : List (List BareDef)) (limits : Limits) (moves : List Made) → (shown self.old).is_run texts limits moves
@@ -60,6 +63,7 @@ pub trait Machine: Drop {
             → IfOk result (MovedBy texts limits moves slot (shown self.new)) }
         ensures same { KeepsTexts (shown self.old) (shown self.new) }
         ensures kept { (shown self.new).kept ≡ (shown self.old).kept }
+        ensures asked { asks self.old → asks self.new }
         ensures lasts { (n : ℕ) → lasts (1 + n) self.old → IsOk result × spent n self.new }
         ensures stays { (n : ℕ) → lasts n self.old → result ≡ Ok Moved.CannotMove → lasts n self.new };
 
@@ -76,6 +80,7 @@ pub trait Machine: Drop {
             → (shown self.old).is_run texts limits moves → (shown self.new).is_run texts limits moves) }
         ensures same { KeepsTexts (shown self.old) (shown self.new) }
         ensures kept { (shown self.new).kept ≡ (shown self.old).kept }
+        ensures asked { asks self.old → asks self.new }
         ensures lasts { (n : ℕ) → lasts n self.old → lasts n self.new };
 
     /// What was printed after that many bytes. It is asked of bytes of which the text is kept.
@@ -95,6 +100,7 @@ pub trait Machine: Drop {
         ensures kept { (texts : List (List BareDef)) (limits : Limits) (moves : List Made) (w : World)
             → (shown self.old).is_run texts limits moves → world_after texts limits moves ≡ Some w
             → (shown self.old).kept ≤ length w.output → (shown self.new).kept ≤ length w.output }
+        ensures asked { asks self.old → asks self.new }
         ensures lasts { (n : ℕ) → spent n self.old → lasts n self.new };
 
     /// Whether a definition was misused.
@@ -112,14 +118,14 @@ pub trait Machine: Drop {
         ensures { (texts : List (List BareDef)) (limits : Limits) (moves : List Made) → (shown self.now).is_run texts limits moves
             → option_map (λ x. is_live (in_slot x.world slot)) (source_run texts limits moves) ≡ Some result };
 
-    /// Whether the thread in a slot can move.
+    /// Whether the thread in a slot can move. It is asked where no thread has private work to do.
     fn can_move(&self, slot: u8) -> bool
-        ensures { (texts : List (List BareDef)) (limits : Limits) (moves : List Made) → (shown self.now).is_run texts limits moves
+        ensures { asks self.now → (texts : List (List BareDef)) (limits : Limits) (moves : List Made) → (shown self.now).is_run texts limits moves
             → option_map (λ x. can_move x.world slot) (source_run texts limits moves) ≡ Some result };
 
-    /// What the thread in a slot waits for, if it waits. It is asked of a run that isn't over.
+    /// What the thread in a slot waits for, if it waits. It is asked of a run that isn't over, where no thread has private work to do.
     fn waits(&self, slot: u8) -> Option<SourceWait<'_>>
-        ensures { (texts : List (List BareDef)) (limits : Limits) (moves : List Made) → (shown self.now).is_run texts limits moves
+        ensures { asks self.now → (texts : List (List BareDef)) (limits : Limits) (moves : List Made) → (shown self.now).is_run texts limits moves
             → option_map (λ x. is_over x.world) (source_run texts limits moves) ≡ Some false
             → option_map (λ x. waits_for x.world slot) (source_run texts limits moves) ≡ Some (option_map waiting_of result) };
 
@@ -153,9 +159,10 @@ pub trait Machine: Drop {
             ≡ Some (option_map (place_at (shown self.now).words) result) };
 
     /// The number of the point at which the innermost frame of the thread in a slot stops next, if that is what the thread
-    /// does next; none where it enters a function, or traps before it stops. It is asked of a run that isn't over.
+    /// does next; none where it enters a function, or traps before it stops. It is asked of a run that isn't over, where no thread has
+    /// private work to do.
     fn next_point(&self, slot: u8) -> Option<u32>
-        ensures { (texts : List (List BareDef)) (limits : Limits) (moves : List Made) → (shown self.now).is_run texts limits moves
+        ensures { asks self.now → (texts : List (List BareDef)) (limits : Limits) (moves : List Made) → (shown self.now).is_run texts limits moves
             → option_map (λ x. is_over x.world) (source_run texts limits moves) ≡ Some false
             → option_map (λ x. next_point_in (in_slot x.world slot)) (source_run texts limits moves) ≡ Some result };
 

@@ -17,6 +17,9 @@ impl Machine for SourceRun {
 
     ghost spent = { λ _ _. ⊥ };
 
+    // It does all private work within the move.
+    ghost asks = { λ _. Unit {0} };
+
     fn step(&mut self, slot: u8) -> Result<Moved, AllocError> {
         // Where the move leads is asked before it is made.
         let leads = self.leads(slot);

@@ -1,4 +1,4 @@
-use Rattle.std.proofs.Common.{◌≡◌, length, Some, refl, sym, subst, arith}
+use Rattle.std.proofs.Common.{◌≡◌, inr, length, Some, refl, sym, subst, arith}
 use Rattle.std.specs.Prelude.{slice_get}
 use Rattle.std.specs.Vec.{with_item}
 use Rattle.resolved_tree.specs.Trees.{table}
@@ -26,7 +26,7 @@ returns-in_err-make-clause-keeps c =
     let there : slice_get old.slots.items slot ≡ Some before =
     there_read old.slots.items (length old.slots.items) slot before refl (inside old.slots.items slot l.running l.there) c.index_mut-running.ensures.value in
     keeps_thread c.args.image.now old _ slot before c.make.new.self there refl refl c.requires.kept (record { versions = refl; in_force = refl; layouts = refl })
-    c.make.ensures.version c.make.ensures.fits c.make.ensures.runs c.make.ensures.depth c.make.ensures.created
+    c.make.ensures.version c.make.ensures.fits c.make.ensures.runs c.make.ensures.depth c.make.ensures.created slot (λ e. inr refl)
 
 pub returns-in-Goes-clause-keeps : goal.returns-in-Goes-clause-keeps
 returns-in-Goes-clause-keeps c =
@@ -37,7 +37,7 @@ returns-in-Goes-clause-keeps c =
     let there : slice_get old.slots.items slot ≡ Some before =
     there_read old.slots.items (length old.slots.items) slot before refl (inside old.slots.items slot l.running l.there) c.index_mut-running.ensures.value in
     keeps_thread c.args.image.now old _ slot before c.make.new.self there refl refl c.requires.kept (record { versions = refl; in_force = refl; layouts = refl })
-    c.make.ensures.version c.make.ensures.fits c.make.ensures.runs c.make.ensures.depth c.make.ensures.created
+    c.make.ensures.version c.make.ensures.fits c.make.ensures.runs c.make.ensures.depth c.make.ensures.created slot (λ e. inr refl)
 
 pub returns-in-Stays-clause-keeps : goal.returns-in-Stays-clause-keeps
 returns-in-Stays-clause-keeps c =
@@ -48,7 +48,7 @@ returns-in-Stays-clause-keeps c =
     let there : slice_get old.slots.items slot ≡ Some before =
     there_read old.slots.items (length old.slots.items) slot before refl (inside old.slots.items slot l.running l.there) c.index_mut-running.ensures.value in
     keeps_thread c.args.image.now old _ slot before c.make.new.self there refl refl c.requires.kept (record { versions = refl; in_force = refl; layouts = refl })
-    c.make.ensures.version c.make.ensures.fits c.make.ensures.runs c.make.ensures.depth c.make.ensures.created
+    c.make.ensures.version c.make.ensures.fits c.make.ensures.runs c.make.ensures.depth c.make.ensures.created slot (λ e. inr refl)
 
 pub returns-in-Ends-clause-keeps : goal.returns-in-Ends-clause-keeps
 returns-in-Ends-clause-keeps c =
@@ -59,7 +59,7 @@ returns-in-Ends-clause-keeps c =
     let there : slice_get old.slots.items slot ≡ Some before =
     there_read old.slots.items (length old.slots.items) slot before refl (inside old.slots.items slot l.running l.there) c.index_mut-running.ensures.value in
     keeps_thread c.args.image.now old _ slot before c.make.new.self there refl refl c.requires.kept (record { versions = refl; in_force = refl; layouts = refl })
-    c.make.ensures.version c.make.ensures.fits c.make.ensures.runs c.make.ensures.depth c.make.ensures.created
+    c.make.ensures.version c.make.ensures.fits c.make.ensures.runs c.make.ensures.depth c.make.ensures.created slot (λ e. inr refl)
 
 pub returns-in-Stays-clause-stays : goal.returns-in-Stays-clause-stays
 returns-in-Stays-clause-stays c = λ e.

@@ -11,7 +11,7 @@ use Rattle.code_machine.proofs.moves.step.Goals as goal
 
 pub returns-in-None-clause-keeps : goal.returns-in-None-clause-keeps
 returns-in-None-clause-keeps c =
-    keeps_all c.args.image.now c.args.run.now _ (record { versions = refl; in_force = refl; layouts = refl }) refl c.requires refl refl refl
+    keeps_all c.args.image.now c.args.run.now _ (record { versions = refl; in_force = refl; layouts = refl }) refl c.requires.kept refl refl refl c.args.slot
 
 pub returns-in-None-clause-stays : goal.returns-in-None-clause-stays
 returns-in-None-clause-stays c = λ e. record { output = refl; used = λ n u. u }
@@ -53,4 +53,16 @@ returns-in-Some-Stands-Traps-clause-led c = λ all is.
     let at = c.in-Some-Stands-Traps in
     let l = subst (λ next. Lives old c.args.slot next) (at.field-0-is ∙ ap Stands at.field-0-0-is) at.ensures in
     c.stepped-in-Some-Stands-Traps.ensures.led (texts_of all old) (names_in all) image (world_of image old) c.args.slot
-    (trap_leads all image old c.args.slot at.kind l (c.requires.slots.fit c.args.slot l.running l.there) is)
+    (trap_leads all image old c.args.slot at.kind l (c.requires.kept.slots.fit c.args.slot l.running l.there) is)
+
+pub returns-in-Some-Continues-clause-keeps : goal.returns-in-Some-Continues-clause-keeps
+returns-in-Some-Continues-clause-keeps c =
+    keeps_all c.args.image.now c.args.run.now _ (record { versions = refl; in_force = refl; layouts = refl }) refl c.requires.kept refl refl refl c.args.slot
+
+pub returns-in-Some-Continues-clause-stays : goal.returns-in-Some-Continues-clause-stays
+returns-in-Some-Continues-clause-stays c = λ e. record { output = refl; used = λ n u. u }
+
+pub returns-in-Some-Continues-clause-came : goal.returns-in-Some-Continues-clause-came
+returns-in-Some-Continues-clause-came c = λ all ready.
+    let l = subst (Lives c.args.run.now c.args.slot) c.in-Some-Continues.field-0-is c.in-Some-Continues.ensures in
+    absurd (c.requires.settled (record { running = l.running; there = l.there; due = l.does }))

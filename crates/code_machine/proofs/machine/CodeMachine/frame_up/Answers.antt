@@ -4,7 +4,7 @@ use Rattle.word_frames.specs.declared.frame.Frame.{Frame}
 use Rattle.word_frames.specs.Seen.{frames_below}
 use Rattle.code_machine.specs.Queries.{frames_in, place_of}
 use Rattle.code_machine.specs.Seen.{image_of, words_of}
-use Rattle.code_machine.proofs.AskedThreads.{thread_frames}
+use Rattle.code_machine.proofs.AskedThreads.{place_up_is}
 use Rattle.code_machine.proofs.machine.CodeMachine.frame_up.Goals as goal
 
 pub returns-in-Some : goal.returns-in-Some
@@ -15,4 +15,4 @@ returns-in-Some c =
     c.place_up.ensures t r.frames.highest_stack r.frames.words.items
     ∙ ap (λ (fs : List Frame). option_map place_of (slice_get (frames_below t r.frames.highest_stack r.frames.words.items fs (length fs)) c.args.up)) c.as_slice.ensures.value
     ∙ sym (ap (λ x. option_map place_of (slice_get (frames_in x) c.args.up)) there.lives
-    ∙ ap (λ fs. option_map place_of (slice_get fs c.args.up)) (thread_frames (image_of c.args.self.now) r there.fits))
+    ∙ place_up_is (image_of c.args.self.now) r there.fits c.args.up)

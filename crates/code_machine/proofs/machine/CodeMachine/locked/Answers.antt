@@ -15,7 +15,7 @@ use Rattle.code_machine.proofs.machine.CodeMachine.locked.Goals as goal
 
 pub returns-in-Lock : goal.returns-in-Lock
 returns-in-Lock c = λ names text stack.
-    let image = c.args.self.now.image in
+    let image = c.args.self.now.image.value in
     let w = code_world c.args.self.now in
     let t = words_of image in
     let slot = c.args.slot in

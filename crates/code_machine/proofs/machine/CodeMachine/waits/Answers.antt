@@ -5,5 +5,5 @@ use Rattle.code_machine.proofs.AskedWaits.{none_waits}
 use Rattle.code_machine.proofs.machine.CodeMachine.waits.Goals as goal
 
 pub returns-in-None : goal.returns-in-None
-returns-in-None c = λ all is.
-    none_waits (texts_of all c.args.self.now.run) (names_in all) (code_world c.args.self.now) c.args.slot (c.in-None.ensures all is)
+returns-in-None c = λ settled all is.
+    none_waits (texts_of all c.args.self.now.run) (names_in all) (code_world c.args.self.now) c.args.slot (c.in-None.ensures settled all is)

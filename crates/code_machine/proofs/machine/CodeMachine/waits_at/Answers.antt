@@ -11,34 +11,34 @@ use Rattle.code_machine.proofs.AskedWaits.{awaits_none, awaits_thread, stop_wait
 use Rattle.code_machine.proofs.machine.CodeMachine.waits_at.Goals as goal
 
 pub returns-in-Shared : goal.returns-in-Shared
-returns-in-Shared c = λ texts names n.
-    let image = c.args.self.now.image in
+returns-in-Shared c = λ settled texts names n.
+    let image = c.args.self.now.image.value in
     let w = code_world c.args.self.now in
-    let t = words_of c.args.self.now.image in
-    let function : ℕ → Option Bytes = named (words_of c.args.self.now.image) c.args.self.now.image.callees.items in
+    let t = words_of c.args.self.now.image.value in
+    let function : ℕ → Option Bytes = named (words_of c.args.self.now.image.value) c.args.self.now.image.value.callees.items in
     let s = stop_of t c.args.stop.stop in
     let text = text_in texts n.frame.version in
     stop_waits texts names w c.args.slot image c.args.stop (option_map (waiting_of t) c.held_for.result) n
     (c.held_for.ensures names text n.frame.state.stack (subst (Acts t names text function s) c.in-Shared.is n.acts))
 
 pub returns-in-Join : goal.returns-in-Join
-returns-in-Join c = λ texts names n.
-    let image = c.args.self.now.image in
+returns-in-Join c = λ settled texts names n.
+    let image = c.args.self.now.image.value in
     let w = code_world c.args.self.now in
-    let t = words_of c.args.self.now.image in
-    let function : ℕ → Option Bytes = named (words_of c.args.self.now.image) c.args.self.now.image.callees.items in
+    let t = words_of c.args.self.now.image.value in
+    let function : ℕ → Option Bytes = named (words_of c.args.self.now.image.value) c.args.self.now.image.value.callees.items in
     let s = stop_of t c.args.stop.stop in
     let text = text_in texts n.frame.version in
     stop_waits texts names w c.args.slot image c.args.stop (option_map (waiting_of t) c.joined_by.result) n
-    (c.joined_by.ensures n.frame n.rests
+    (c.joined_by.ensures settled n.frame n.rests
     ∙ sym (awaits_thread t names text function w c.args.slot s n.frame.state.stack (subst (Acts t names text function s) c.in-Join.is n.acts)))
 
 pub returns-in_default : goal.returns-in_default
-returns-in_default c = λ texts names n.
-    let image = c.args.self.now.image in
+returns-in_default c = λ settled texts names n.
+    let image = c.args.self.now.image.value in
     let w = code_world c.args.self.now in
-    let t = words_of c.args.self.now.image in
-    let function : ℕ → Option Bytes = named (words_of c.args.self.now.image) c.args.self.now.image.callees.items in
+    let t = words_of c.args.self.now.image.value in
+    let function : ℕ → Option Bytes = named (words_of c.args.self.now.image.value) c.args.self.now.image.value.callees.items in
     let s = stop_of t c.args.stop.stop in
     let text = text_in texts n.frame.version in
     stop_waits texts names w c.args.slot image c.args.stop None n

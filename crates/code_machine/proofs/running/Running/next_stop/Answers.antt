@@ -7,7 +7,7 @@ use Rattle.code_machine.proofs.AskedThreads.{none_traps, stop_or_none}
 use Rattle.code_machine.proofs.running.Running.next_stop.Goals as goal
 
 pub returns-in-Rests : goal.returns-in-Rests
-returns-in-Rests c = λ all versions runs w slot lives.
+returns-in-Rests c = λ settled all versions runs w slot lives.
     let image = c.args.image.now in
     let g = c.function.result.now in
     stop_or_none image c.args.self.now c.requires w slot lives all versions runs g
@@ -18,5 +18,5 @@ returns-in-Rests c = λ all versions runs w slot lives.
     (c.copied.ensures ∙ c.stop_at.ensures))
 
 pub returns-in-Traps : goal.returns-in-Traps
-returns-in-Traps c = λ all versions runs w slot lives.
+returns-in-Traps c = λ settled all versions runs w slot lives.
     none_traps c.args.image.now c.args.self.now c.requires w slot lives all versions runs c.in-Traps.field-0 (c.in-Stands.is ∙ ap Stands c.in-Traps.is)

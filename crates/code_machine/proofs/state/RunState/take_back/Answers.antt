@@ -1,0 +1,40 @@
+use Rattle.std.proofs.Common.{◌≡◌, ◌<◌, length, Some, refl, arith}
+use Rattle.std.specs.Prelude.{slice_get}
+use Rattle.std.specs.Vec.{with_item}
+use Rattle.code_machine.proofs.Lists.{inside}
+use Rattle.code_machine.proofs.ThreadSlots.{there_read}
+use Rattle.code_machine.proofs.Working.{same_run, slot_settled, slot_worked}
+use Rattle.code_machine.proofs.state.RunState.take_back.Goals as goal
+
+pub returns-then-slot-len-clause-same : goal.returns-then-slot-len-clause-same
+returns-then-slot-len-clause-same c = same_run c.args.image.now c.args.self.now c.requires.kept
+
+pub returns-then-slot-len-clause-settled : goal.returns-then-slot-len-clause-settled
+returns-then-slot-len-clause-settled c = λ d.
+    let slots = c.args.self.now.slots in
+    omega (arith, inside slots.items c.args.slot d.running d.there, c.if-slot-len.true, c.len.ensures, slots.ok.0)
+
+pub take_back-requires-clause-fits : goal.take_back-requires-clause-fits
+take_back-requires-clause-fits c =
+    let old = c.args.self.now in
+    let before = c.index_mut.result.now in
+    let within : c.args.slot < length old.slots.items = omega (arith, c.if-slot-len.false, c.len.ensures, old.slots.ok.0) in
+    c.requires.kept.slots.fit c.args.slot before (there_read old.slots.items (length old.slots.items) c.args.slot before refl within c.index_mut.ensures.value)
+
+pub returns-clause-same : goal.returns-clause-same
+returns-clause-same c =
+    let old = c.args.self.now in
+    let before = c.index_mut.result.now in
+    let within : c.args.slot < length old.slots.items = omega (arith, c.if-slot-len.false, c.len.ensures, old.slots.ok.0) in
+    let there : slice_get old.slots.items c.args.slot ≡ Some before = there_read old.slots.items (length old.slots.items) c.args.slot before refl within c.index_mut.ensures.value in
+    slot_worked c.args.image.now old (with_item old.slots c.args.slot c.take_back.new.self) c.args.slot before c.take_back.new.self there refl c.requires.kept
+    c.take_back.ensures.fits c.take_back.ensures.seen c.take_back.ensures.runs c.take_back.ensures.settled c.take_back.ensures.depth
+
+pub returns-clause-settled : goal.returns-clause-settled
+returns-clause-settled c =
+    let old = c.args.self.now in
+    let before = c.index_mut.result.now in
+    let within : c.args.slot < length old.slots.items = omega (arith, c.if-slot-len.false, c.len.ensures, old.slots.ok.0) in
+    let there : slice_get old.slots.items c.args.slot ≡ Some before = there_read old.slots.items (length old.slots.items) c.args.slot before refl within c.index_mut.ensures.value in
+    slot_settled c.args.image.now old (with_item old.slots c.args.slot c.take_back.new.self) c.args.slot before c.take_back.new.self there refl c.requires.kept
+    c.take_back.ensures.fits c.take_back.ensures.seen c.take_back.ensures.runs c.take_back.ensures.settled c.take_back.ensures.depth

@@ -1,2 +1,0 @@
-pub mod DefinedUses
-pub mod WellUsed
