@@ -12,6 +12,7 @@ use Rattle.source_model.specs.Schedules.{makes_move}
 use Rattle.effects.specs.Rows.{AreRows}
 use Rattle.dsu_runs.specs.Engines.{Fails, Grew, GrewPartly, Makes}
 use Rattle.dsu_runs.specs.Ran.{FailedAt, Printed}
+use Rattle.dsu_runs.specs.Finishes.{FailedFrom}
 use Rattle.dsu_runs.specs.Turns.{Steps, history_after}
 use Rattle.dsu_runs.specs.declared.running.Running.{Running}
 use Rattle.dsu_runs.specs.declared.running.Step.{Step}
@@ -42,7 +43,7 @@ legal_more rules setup es e g after legal made =
 told_before : (told : Option (List ℕ)) (bytes : List ℕ) → told ≡ Some bytes → told ≡ Some (bytes ++ [])
 told_before told bytes is = is ∙ ap Some (sym (append-nil bytes))
 
-printed_by : (told now : Option (List ℕ)) (setup : Setup) (g : Guard) → Grew (first_guard setup) g told now → Appends told now g.world.output
+pub printed_by : (told now : Option (List ℕ)) (setup : Setup) (g : Guard) → Grew (first_guard setup) g told now → Appends told now g.world.output
 printed_by None now setup g grew = tt
 printed_by (Some bytes) now setup g grew =
     subst (λ o. Appends (Some bytes) o g.world.output) (sym (grew bytes (told_before (Some bytes) bytes refl))) refl
@@ -63,34 +64,39 @@ part_by (Some bytes) mid now setup g after grew longer part =
     (last.0, last.1, last.2, subst (λ o. Appends (Some bytes) o (take last.0 after.world.output)) (sym last.3) refl)
 
 -- some events were made, by an engine whose sink showed some bytes before and shows some now
-pub record Came (setup : Setup) (told : Option (List ℕ)) (history : List Event) (g : Guard) (now : Option (List ℕ)) : Type 0 where
+pub record Came (setup : Setup) (start : Guard) (told : Option (List ℕ)) (history : List Event) (g : Guard) (now : Option (List ℕ)) : Type 0 where
   pub legal : (rules : Rules) → AreRows rules.row → guard_after rules setup history ≡ Some g
-  pub grew : Grew (first_guard setup) g told now
+  pub grew : Grew start g told now
 
-pub came_first : (setup : Setup) (told : Option (List ℕ)) → Came setup told [] (first_guard setup) told
+pub came_first : (setup : Setup) (told : Option (List ℕ)) → Came setup (first_guard setup) told [] (first_guard setup) told
 came_first setup told = record { legal = λ rules rows. refl; grew = λ before is. is }
 
-pub came_more : (at : Guard → Type 0) (setup : Setup) (told now next : Option (List ℕ)) (history : List Event) (g : Guard) (e : Event)
-    → Came setup told history g now → (m : Makes at setup e g now next)
-    → Came setup told (history ++ e ∷ []) m.after next
-came_more at setup told now next history g e came m = record {
+-- nothing was made yet
+pub came_none : (setup : Setup) (start : Guard) (told : Option (List ℕ)) (history : List Event)
+    → ((rules : Rules) → AreRows rules.row → guard_after rules setup history ≡ Some start) → Came setup start told history start told
+came_none setup start told history legal = record { legal = legal; grew = λ before is. is }
+
+pub came_more : (at : Guard → Type 0) (setup : Setup) (start : Guard) (told now next : Option (List ℕ)) (history : List Event) (g : Guard) (e : Event)
+    → Came setup start told history g now → (m : Makes at setup e g now next)
+    → Came setup start told (history ++ e ∷ []) m.after next
+came_more at setup start told now next history g e came m = record {
   legal = λ rules rows. legal_more rules setup history e g m.after (came.legal rules rows) (m.happens rules rows);
   grew = λ before is. m.grew before (came.grew before is);
 }
 
-pub printed : (setup : Setup) (told now : Option (List ℕ)) (history : List Event) (g : Guard) → Came setup told history g now
+pub printed : (setup : Setup) (told now : Option (List ℕ)) (history : List Event) (g : Guard) → Came setup (first_guard setup) told history g now
     → Printed told now g
 printed setup told now history g came = printed_by told now setup g came.grew
 
 -- the same, where the engine printed nothing since
 pub printed_still : (setup : Setup) (told now next : Option (List ℕ)) (history : List Event) (g : Guard) → next ≡ now
-    → Came setup told history g now → Printed told next g
+    → Came setup (first_guard setup) told history g now → Printed told next g
 printed_still setup told now next history g silent came =
     subst (λ o. Printed told o g) (sym silent) (printed setup told now history g came)
 
 -- the sink failed in one event more
 pub failed_at : (setup : Setup) (told now next : Option (List ℕ)) (history all : List Event) (g : Guard) (e : Event) (counted count : ℕ)
-    → Came setup told history g now → (f : Fails setup e g now next) → makes_move e ≡ true → Rose counted count
+    → Came setup (first_guard setup) told history g now → (f : Fails setup e g now next) → makes_move e ≡ true → Rose counted count
     → all ≡ history ++ e ∷ [] → FailedAt setup all f.after told next counted count
 failed_at setup told now next history all g e counted count came f moves rose split =
     let part = part_by told now next setup g f.after came.grew f.longer f.grew in
@@ -109,11 +115,27 @@ failed_at setup told now next history all g e counted count came f moves rose sp
       rose = rose;
     }
 
-pub failed_legal : (setup : Setup) (told now next : Option (List ℕ)) (history all : List Event) (g : Guard) (e : Event)
-    → Came setup told history g now → (f : Fails setup e g now next) → all ≡ history ++ e ∷ []
+pub failed_legal : (setup : Setup) (start : Guard) (told now next : Option (List ℕ)) (history all : List Event) (g : Guard) (e : Event)
+    → Came setup start told history g now → (f : Fails setup e g now next) → all ≡ history ++ e ∷ []
     → (rules : Rules) → AreRows rules.row → guard_after rules setup all ≡ Some f.after
-failed_legal setup told now next history all g e came f split rules rows =
+failed_legal setup start told now next history all g e came f split rules rows =
     ap (guard_after rules setup) split ∙ legal_more rules setup history e g f.after (came.legal rules rows) (f.happens rules rows)
+
+-- the same from any guard on
+pub failed_from : (setup : Setup) (start : Guard) (told now next : Option (List ℕ)) (history all : List Event) (g : Guard) (e : Event)
+    (counted count : ℕ) → Came setup start told history g now → (f : Fails setup e g now next) → makes_move e ≡ true
+    → Rose counted count → all ≡ history ++ e ∷ [] → FailedFrom setup start all f.after told next counted count
+failed_from setup start told now next history all g e counted count came f moves rose split = record {
+  earlier = history;
+  event = e;
+  before = g;
+  split = split;
+  moves = moves;
+  legal = came.legal;
+  grew = f.longer;
+  written = λ bytes is. f.grew bytes (came.grew bytes is);
+  rose = rose;
+}
 
 -- an event tried by an engine: what the call says that makes it
 pub record Tries {E : Type 0} (setup : Setup) (is_at : Guard → E → Type 0) (told : E → Option (List ℕ)) (faults : E → ℕ)

@@ -9,5 +9,7 @@ mod Room
 mod Seats
 pub mod Slots
 mod Soloing
-mod Standing
+pub mod Standing
 mod Stepping
+mod Turning
+mod Finishing

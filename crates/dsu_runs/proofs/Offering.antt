@@ -1,5 +1,5 @@
 -- One turn in which an offer is opened, decided or withdrawn.
-use Rattle.std.proofs.Common.{◌≡◌, ◌⊎◌, inl, inr, ℕ, zero, suc, ◌+◌, ◌≤◌, false, List, [], ◌∷◌, ◌++◌, Option, Some, None, refl, ◌∙◌, ap, arith}
+use Rattle.std.proofs.Common.{◌≡◌, ◌⊎◌, inl, inr, ℕ, zero, suc, ◌+◌, ◌≤◌, false, List, [], ◌∷◌, ◌++◌, Option, Some, None, refl, sym, ◌∙◌, ap, arith}
 use Rattle.std.specs.Prelude.{◌==◌, length, vec_capacity, if◌then◌else◌}
 use Rattle.std.proofs.lemmas.Bool.{false≢true}
 use Rattle.std.proofs.lemmas.Bool.Decides.{nat_tests}
@@ -12,7 +12,8 @@ use Rattle.dsu_runs.specs.declared.running.Running.{Running}
 use Rattle.dsu_runs.specs.declared.running.Step.{Step}
 use Rattle.dsu_runs.specs.declared.running.Step.TheVariants.{Done, CannotHappen, SinkFailed, Memory, Misused, UndefinedName}
 use Rattle.dsu_runs.specs.declared.solo_run.SoloRun.{SoloRun}
-use Rattle.dsu_runs.specs.Turns.{GoesAt, Keeps, Turned, history_after}
+use Rattle.dsu_runs.specs.Engines.{GoesAt}
+use Rattle.dsu_runs.specs.Turns.{Keeps, Turned, history_after}
 use Rattle.dsu_runs.proofs.Acting.{Tried, keeps_then, kept, with_running}
 use Rattle.dsu_runs.proofs.Happening.{any_are_rows, any_rules, opens, withdraws}
 
@@ -42,9 +43,9 @@ module _ {E : Type 0} (is_at : Guard → E → Type 0) (told : E → Option (Lis
   withdraws_only k offer e = cc
 
   -- an offer that is due is opened
-  pub opened : (old : SoloRun E) (new : Running E) (k : ℕ) (step : Step) → GoesAt is_at g old.running.engine → due setup g ≡ Some k
+  pub opened : (old : SoloRun E) (new : Running E) (k : ℕ) (step : Step) → old.quiet ≡ false → GoesAt is_at g old.running.engine → due setup g ≡ Some k
       → Tried is_at told setup g old new (Offer k) step → Turned is_at told setup g (Some (Offer k)) old (with_running old new) step
-  opened old new k Done goes is tried = record {
+  opened old new k Done unknown goes is tried = record {
     wanted = Offer k;
     event = Offer k;
     due = refl;
@@ -53,21 +54,22 @@ module _ {E : Type 0} (is_at : Guard → E → Type 0) (told : E → Option (Lis
     history = tried.1;
     last = refl;
     left = none_made old.left;
+    quiet = λ is. absurd (false≢true (sym unknown ∙ is));
   }
-  opened old new k CannotHappen goes is tried =
+  opened old new k CannotHappen unknown goes is tried =
       let can = opens any_rules setup g k goes.going goes.none_open is in absurd (never can.0 (tried.0.never any_rules any_are_rows) can.1)
     where
       never : {A : Type 0} {o : Option A} (a : A) → o ≡ None → o ≡ Some a → ⊥
       never a none some = cc
-  opened old new k SinkFailed goes is tried = absurd (false≢true (tried.2 refl))
-  opened old new k Memory goes is tried = record { silent = tried.0; history = tried.1 }
-  opened old new k Misused goes is tried = absurd (opens_only k tried.0.offer tried.0.decides)
-  opened old new k UndefinedName goes is tried = absurd (opens_only k tried.0.offer tried.0.decides)
+  opened old new k SinkFailed unknown goes is tried = absurd (false≢true (tried.2 refl))
+  opened old new k Memory unknown goes is tried = record { silent = tried.0; history = tried.1 }
+  opened old new k Misused unknown goes is tried = absurd (opens_only k tried.0.offer tried.0.decides)
+  opened old new k UndefinedName unknown goes is tried = absurd (opens_only k tried.0.offer tried.0.decides)
 
   -- a decision that was made
-  pub decided : (old : SoloRun E) (new : Running E) (k : ℕ) (step : Step) → (step ≡ CannotHappen → ⊥) → (step ≡ Memory → ⊥)
+  pub decided : (old : SoloRun E) (new : Running E) (k : ℕ) (step : Step) → old.quiet ≡ false → (step ≡ CannotHappen → ⊥) → (step ≡ Memory → ⊥)
       → (step ≡ Misused → ⊥) → (step ≡ UndefinedName → ⊥) → Tried is_at told setup g old new (Decide k) step → Turned is_at told setup g (Some (Decide k)) old (with_running old new) step
-  decided old new k Done can room used has tried = record {
+  decided old new k Done unknown can room used has tried = record {
     wanted = Decide k;
     event = Decide k;
     due = refl;
@@ -76,12 +78,13 @@ module _ {E : Type 0} (is_at : Guard → E → Type 0) (told : E → Option (Lis
     history = tried.1;
     last = refl;
     left = none_made old.left;
+    quiet = λ is. absurd (false≢true (sym unknown ∙ is));
   }
-  decided old new k CannotHappen can room used has tried = absurd (can refl)
-  decided old new k SinkFailed can room used has tried = absurd (false≢true (tried.2 refl))
-  decided old new k Memory can room used has tried = absurd (room refl)
-  decided old new k Misused can room used has tried = absurd (used refl)
-  decided old new k UndefinedName can room used has tried = absurd (has refl)
+  decided old new k CannotHappen unknown can room used has tried = absurd (can refl)
+  decided old new k SinkFailed unknown can room used has tried = absurd (false≢true (tried.2 refl))
+  decided old new k Memory unknown can room used has tried = absurd (room refl)
+  decided old new k Misused unknown can room used has tried = absurd (used refl)
+  decided old new k UndefinedName unknown can room used has tried = absurd (has refl)
 
   -- one that wasn't leaves the run as it was
   pub record Still (old : SoloRun E) (mid : Running E) : Type 0 where
@@ -115,10 +118,10 @@ module _ {E : Type 0} (is_at : Guard → E → Type 0) (told : E → Option (Lis
   undecided old mid k UndefinedName why tried stays = record { there = tried.0.stays; silent = tried.0.silent; history = tried.1 }
 
   -- and then the offer is withdrawn
-  pub withdrawn : (old : SoloRun E) (mid new : Running E) (k : ℕ) (step : Step) → Still old mid → has_ended g ≡ false
+  pub withdrawn : (old : SoloRun E) (mid new : Running E) (k : ℕ) (step : Step) → old.quiet ≡ false → Still old mid → has_ended g ≡ false
       → g.open_offer ≡ Some k → Tried is_at told setup g (with_running old mid) new (Withdraw k) step
       → Turned is_at told setup g (Some (Decide k)) old (with_running old new) step
-  withdrawn old mid new k Done still going is tried = record {
+  withdrawn old mid new k Done unknown still going is tried = record {
     wanted = Decide k;
     event = Withdraw k;
     due = refl;
@@ -132,17 +135,18 @@ module _ {E : Type 0} (is_at : Guard → E → Type 0) (told : E → Option (Lis
     history = tried.1 ∙ ap (λ es. es ++ Withdraw k ∷ []) still.history;
     last = refl;
     left = none_made old.left;
+    quiet = λ is. absurd (false≢true (sym unknown ∙ is));
   }
-  withdrawn old mid new k CannotHappen still going is tried =
+  withdrawn old mid new k CannotHappen unknown still going is tried =
       let can = withdraws any_rules setup g k going is in absurd (never can.0 (tried.0.never any_rules any_are_rows) can.1)
     where
       never : {A : Type 0} {o : Option A} (a : A) → o ≡ None → o ≡ Some a → ⊥
       never a none some = cc
-  withdrawn old mid new k SinkFailed still going is tried = absurd (false≢true (tried.2 refl))
-  withdrawn old mid new k Memory still going is tried =
+  withdrawn old mid new k SinkFailed unknown still going is tried = absurd (false≢true (tried.2 refl))
+  withdrawn old mid new k Memory unknown still going is tried =
       record { silent = tried.0 ∙ still.silent; history = tried.1 ∙ still.history }
-  withdrawn old mid new k Misused still going is tried = absurd (withdraws_only k tried.0.offer tried.0.decides)
-  withdrawn old mid new k UndefinedName still going is tried = absurd (withdraws_only k tried.0.offer tried.0.decides)
+  withdrawn old mid new k Misused unknown still going is tried = absurd (withdraws_only k tried.0.offer tried.0.decides)
+  withdrawn old mid new k UndefinedName unknown still going is tried = absurd (withdraws_only k tried.0.offer tried.0.decides)
 
 module _ {E : Type 0} (faults : E → ℕ) where
   -- an event tried where none was made before

@@ -38,7 +38,7 @@ module _ {E : Type 0} (setup : Setup) (is_at : Guard → E → Type 0) (told : E
   -- so many events of the journal were made
   pub record Made (n : ℕ) (now : Running E) : Type 0 where
     pub guard : Guard
-    pub came : Came setup (told engine) now.history.items guard (told now.engine)
+    pub came : Came setup (first_guard setup) (told engine) now.history.items guard (told now.engine)
     pub there : is_at guard now.engine
     pub later : faults engine ≤ faults now.engine
     pub made : now.history.items ≡ take n (events_of lines)
@@ -56,8 +56,8 @@ module _ {E : Type 0} (setup : Setup) (is_at : Guard → E → Type 0) (told : E
   starts now same none at = record {
     guard = first_guard setup;
     came =
-        subst (λ es. Came setup (told engine) es (first_guard setup) (told now.engine)) (sym none)
-        (subst (λ x. Came setup (told engine) [] (first_guard setup) (told x)) (sym same)
+        subst (λ es. Came setup (first_guard setup) (told engine) es (first_guard setup) (told now.engine)) (sym none)
+        (subst (λ x. Came setup (first_guard setup) (told engine) [] (first_guard setup) (told x)) (sym same)
         (came_first setup (told engine)));
     there = subst (λ x. is_at (first_guard setup) x) (sym same) at;
     later = let eq = ap faults same in omega (arith, eq);
@@ -102,8 +102,8 @@ module _ {E : Type 0} (setup : Setup) (is_at : Guard → E → Type 0) (told : E
         record {
           guard = m.after;
           came =
-              subst (λ es. Came setup (told engine) es m.after (told next.engine)) (sym history)
-              (came_more (λ x. is_at x next.engine) setup (told engine) (told now.engine) (told next.engine) now.history.items
+              subst (λ es. Came setup (first_guard setup) (told engine) es m.after (told next.engine)) (sym history)
+              (came_more (λ x. is_at x next.engine) setup (first_guard setup) (told engine) (told now.engine) (told next.engine) now.history.items
               at.guard line.1 at.came m);
           there = m.there;
           later = later;
@@ -144,7 +144,7 @@ module _ {E : Type 0} (setup : Setup) (is_at : Guard → E → Type 0) (told : E
         record {
           guard = f.after;
           legal =
-              failed_legal setup (told engine) (told now.engine) (told next.engine) now.history.items next.history.items at.guard
+              failed_legal setup (first_guard setup) (told engine) (told now.engine) (told next.engine) now.history.items next.history.items at.guard
               line.1 at.came f history;
           made = history ∙ more ∙ ap (λ k. take k (events_of lines)) (sym (long history));
           later = later;

@@ -16,7 +16,7 @@ use Rattle.source_model.specs.Schedules.{due, move_count}
 use Rattle.source_model.specs.Endings.{no_offer_waits}
 use Rattle.source_model.proofs.Events.{Closes, ClosesNone, Handles, each_event, left_of, of_outcome, right_of}
 use Rattle.dsu_runs.proofs.Happening.{check_in_made, move_made, passed}
-use Rattle.dsu_runs.proofs.Seats.{after_check_in, after_move, check_ins, more, none_at_first}
+use Rattle.dsu_runs.proofs.Seats.{after_check_in, after_move, check_ins, more}
 
 -- how often an offer may still be opened or closed
 abbrev pub to_close : Option ℕ → ℕ
@@ -127,9 +127,13 @@ pays rules setup (Withdraw k) g after made =
     (of_outcome (Closed g) (happens rules setup (Withdraw k) g) after made
     (each_event rules setup (Withdraw k) g (Closed g) (closing rules setup (Withdraw k) k g (λ n. refl))))
 
--- all of it is there at the start
-pub room_first : (setup : Setup) → check_ins (first_guard setup).seats + offers_left setup (first_guard setup) ≤ 2 * length setup.offers
-room_first setup = let none = none_at_first setup in omega (arith, none)
+-- so often at most
+pub few_left : (setup : Setup) (g : Guard) → offers_left setup g ≤ 2 * length setup.offers + 1
+few_left setup g = let one = at_most_one g.open_offer in omega (arith, one)
+  where
+    at_most_one : (o : Option ℕ) → to_close o ≤ 1
+    at_most_one None = omega arith
+    at_most_one (Some k) = omega arith
 
 -- where none of it is left, no offer is open or due
 pub none_wait : (setup : Setup) (g : Guard) → offers_left setup g ≤ 0 → no_offer_waits setup g ≡ true

@@ -1,11 +1,11 @@
 -- How many seats are at a check-in, after a move and after a check-in.
 use Rattle.std.proofs.Common.{◌≡◌, ℕ, zero, suc, ◌+◌, ◌<◌, ◌≤◌, ◌==◌, Bool, true, false, List, [], ◌∷◌, slice_index_or, slice_set, refl, ap, arith}
-use Rattle.std.specs.Prelude.{◌-◌, codes, cond, count_by, replicate}
+use Rattle.std.specs.Prelude.{cond, count_by, length}
 use Rattle.std.proofs.lemmas.Bool.{false≢true}
 use Rattle.std.proofs.lemmas.Bool.Decides.{nat_tests}
-use Rattle.std.proofs.lemmas.List.Sums.{sum_by-append}
+use Rattle.std.proofs.lemmas.List.Sums.{count_by-le-length, sum_by-append}
 use Rattle.source_model.specs.Worlds.{World, Slot, Free, Live, Over, alive_in}
-use Rattle.source_model.specs.Guards.{Seat, Setup, empty_seat, first_guard, seat_after, seats_from, started_seat}
+use Rattle.source_model.specs.Guards.{Seat, empty_seat, seat_after, seats_from, started_seat}
 
 abbrev pub check_ins : List Seat → ℕ
 check_ins seats = count_by (λ s. s.at_check_in) seats
@@ -97,12 +97,6 @@ after_check_in (x ∷ ss) (suc t) s at passed =
     let rest = after_check_in ss t s at passed in
     omega (arith, rest, more x ss, more x (slice_set ss t s))
 
--- none is at a check-in at the start
-empty_seats : (n : ℕ) → check_ins (replicate n empty_seat) ≡ 0
-empty_seats zero = refl
-empty_seats (suc n) = let rest = empty_seats n in omega (arith, rest, more empty_seat (replicate n empty_seat))
-
-pub none_at_first : (setup : Setup) → check_ins (first_guard setup).seats ≡ 0
-none_at_first setup =
-    let rest = empty_seats (setup.limits.slots - 1) in
-    omega (arith, rest, more (started_seat (codes "main")) (replicate (setup.limits.slots - 1) empty_seat))
+-- at most as many as there are seats
+pub few_check_ins : (ss : List Seat) → check_ins ss ≤ length ss
+few_check_ins ss = count_by-le-length (λ s. s.at_check_in) ss

@@ -1,6 +1,7 @@
 -- What an engine says of a run, by the guard that it is at.
-use Rattle.std.specs.Prelude.{◌≡◌, ℕ, ◌+◌, ◌≤◌, ◌<◌, nat_lt, Bool, List, ◌++◌, length, take, Option, Some, None, if◌then◌else◌}
+use Rattle.std.specs.Prelude.{◌≡◌, ℕ, ◌+◌, ◌≤◌, ◌<◌, nat_lt, Bool, false, List, ◌++◌, length, take, Option, Some, None, if◌then◌else◌}
 use Rattle.run_types.specs.declared.run.Event.{Event}
+use Rattle.run_types.specs.declared.run.Event.TheVariants.{Move, CheckIn}
 use Rattle.run_types.specs.declared.run.Ending.{Ending}
 use Rattle.run_types.specs.declared.run.Ending.TheVariants.{Trap, Finished}
 use Rattle.source_model.specs.Worlds.{Finish, World, is_over}
@@ -8,7 +9,7 @@ use Rattle.source_model.specs.Worlds as world
 use Rattle.source_model.specs.Waits.{ForMutex, ForThread, waits_for}
 use Rattle.source_model.specs.Waits as waits
 use Rattle.source_model.specs.Runs.{lives}
-use Rattle.source_model.specs.Guards.{Guard, Rules, Setup, seat_of}
+use Rattle.source_model.specs.Guards.{Guard, Rules, Setup, has_ended, seat_of}
 use Rattle.source_model.specs.Journals as journal
 use Rattle.source_model.specs.Endings.{int_ending}
 use Rattle.effects.specs.Rows.{AreRows}
@@ -16,6 +17,8 @@ use Rattle.dsu_runs.specs.declared.engine.Made.{Made}
 use Rattle.dsu_runs.specs.declared.engine.Made.TheVariants.{Done, CannotHappen, SinkFailed}
 use Rattle.dsu_runs.specs.declared.engine.Stands.{Stands}
 use Rattle.dsu_runs.specs.declared.engine.Stands.TheVariants.{NoThread, AtCheckIn, Going}
+use Rattle.dsu_runs.specs.declared.engine.Turn.{Turn}
+use Rattle.dsu_runs.specs.declared.engine.Turn.TheVariants as turn
 use Rattle.dsu_runs.specs.declared.engine.Waiting.{Waiting}
 use Rattle.dsu_runs.specs.declared.engine.Waiting.TheVariants.{Mutex, Thread}
 
@@ -82,3 +85,29 @@ abbrev pub MakesAt : (at : Guard → Type 0) → Setup → Event → Guard → O
 MakesAt at setup e g told now Done = Makes at setup e g told now
 MakesAt at setup e g told now CannotHappen = Refuses at setup e g told now
 MakesAt at setup e g told now SinkFailed = Fails setup e g told now
+
+-- an engine is at a guard of a run that goes on, with a seat for each slot, and no offer is open
+pub record GoesAt {E : Type 0} (is_at : Guard → E → Type 0) (g : Guard) (engine : E) : Type 0 where
+  pub there : is_at g engine
+  pub going : has_ended g ≡ false
+  pub fits : length g.seats ≡ length g.world.slots
+  pub none_open : g.open_offer ≡ None
+
+-- a move was made that printed nothing, and the run goes on
+pub record MovesOn (at : Guard → Type 0) (setup : Setup) (slot : ℕ) (g : Guard) (told now : Option (List ℕ)) : Type 0 where
+  pub makes : Makes at setup (Move slot) g told now
+  pub going : has_ended makes.after ≡ false
+  pub silent : makes.after.world.output ≡ g.world.output
+
+-- none acts, and the engine stays
+pub record Rests (at : Guard → Type 0) (g : Guard) (told now : Option (List ℕ)) : Type 0 where
+  pub stays : at g
+  pub silent : now ≡ told
+
+-- what came of a turn in which a thread's event is next, or none
+abbrev pub TurnsTo : (at : Guard → Type 0) → Setup → Option Event → Guard → Option (List ℕ) → Option (List ℕ) → Turn → Type 0
+TurnsTo at setup next g told now (turn.Moved slot) = (next ≡ Some (Move slot)) × MovesOn at setup slot g told now
+TurnsTo at setup next g told now (turn.CheckedIn slot) = (next ≡ Some (CheckIn slot)) × Makes at setup (CheckIn slot) g told now
+TurnsTo at setup next g told now (turn.Changed slot) = (next ≡ Some (Move slot)) × Makes at setup (Move slot) g told now
+TurnsTo at setup next g told now (turn.SinkFailed slot) = (next ≡ Some (Move slot)) × Fails setup (Move slot) g told now
+TurnsTo at setup next g told now turn.NoneActs = (next ≡ None) × Rests at g told now

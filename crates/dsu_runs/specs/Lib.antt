@@ -6,4 +6,5 @@ pub mod Books
 pub mod Turns
 pub mod Ran
 pub mod Solo
+pub mod Finishes
 pub mod Replays

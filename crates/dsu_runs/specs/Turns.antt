@@ -1,5 +1,5 @@
 -- What comes of one event, and of one turn of the solo schedule.
-use Rattle.std.specs.Prelude.{◌≡◌, ℕ, ◌+◌, ◌-◌, ◌≤◌, ◌==◌, ◌&&◌, ◌||◌, not, List, [], ◌∷◌, ◌++◌, length, true, false, Option, Some, None, option_map, Result, Ok, Err, if◌then◌else◌}
+use Rattle.std.specs.Prelude.{◌≡◌, ℕ, ◌+◌, ◌<◌, ◌≤◌, ◌==◌, ◌&&◌, ◌||◌, not, List, [], ◌∷◌, ◌++◌, length, true, false, Option, Some, None, option_map, Result, Ok, Err, if◌then◌else◌}
 use Rattle.std.specs.Option.{option_or}
 use Rattle.std.specs.Vec.{vec_capacity}
 use Rattle.dsu_io.specs.Causes.{Rose}
@@ -73,20 +73,12 @@ next_within setup g last left =
     then None
     else option_or (option_map Decide g.open_offer) (offer_or_act setup g last left)
 
--- a run after an event that was made, but for its engine and history
-abbrev pub followed : {E : Type 0} → Event → SoloRun E → SoloRun E
-followed event run = record {
-  running = run.running;
-  last = option_or (acted_by event) run.last;
-  left = run.left - move_count (event ∷ []);
-}
-
--- an engine is at a guard of a run that goes on, with a seat for each slot, and no offer is open
-pub record GoesAt {E : Type 0} (is_at : Guard → E → Type 0) (g : Guard) (engine : E) : Type 0 where
-  pub there : is_at g engine
+-- only a thread's event can be next: the run goes on, no offer is open or due, and a move is left
+pub record IsQuiet (setup : Setup) (g : Guard) (left : ℕ) : Type 0 where
   pub going : has_ended g ≡ false
-  pub fits : length g.seats ≡ length g.world.slots
   pub none_open : g.open_offer ≡ None
+  pub none_due : due setup g ≡ None
+  pub some_left : 0 < left
 
 -- the event that was next was made, or one that may stand for it
 pub record Acts {E : Type 0} (is_at : Guard → E → Type 0) (told : E → Option (List ℕ)) (setup : Setup) (g : Guard)
@@ -99,6 +91,7 @@ pub record Acts {E : Type 0} (is_at : Guard → E → Type 0) (told : E → Opti
   pub history : new.running.history.items ≡ old.running.history.items ++ event ∷ []
   pub last : new.last ≡ option_or (acted_by event) old.last
   pub left : new.left + move_count (event ∷ []) ≡ old.left
+  pub quiet : new.quiet ≡ true → IsQuiet setup makes.after new.left
 
 -- none was next
 pub record Waits {E : Type 0} (is_at : Guard → E → Type 0) (told : E → Option (List ℕ)) (g : Guard)

@@ -8,7 +8,7 @@ use run_types::Ending;
 
 /// How a run ends that ends as it is.
 pub(crate) fn ending<E: Engine>(engine: &E) -> Ending
-    ensures { (setup : Setup) (g : Guard) → E.is_at setup g engine.now → length g.seats ≡ length g.world.slots → result ≡ int_ending (ending_of g) }
+    ensures { E.asks engine.now → (setup : Setup) (g : Guard) → E.is_at setup g engine.now → length g.seats ≡ length g.world.slots → result ≡ int_ending (ending_of g) }
 {
     match engine.finish() {
         Some(ending) => ending,
@@ -24,7 +24,7 @@ pub(crate) fn ending<E: Engine>(engine: &E) -> Ending
 
 /// Whether no thread of a run that goes on is at a check-in or can move.
 pub(crate) fn is_stuck<E: Engine>(engine: &E) -> bool
-    ensures { (setup : Setup) (g : Guard) → E.is_at setup g engine.now → has_ended g ≡ false → length g.seats ≡ length g.world.slots
+    ensures { E.asks engine.now → (setup : Setup) (g : Guard) → E.is_at setup g engine.now → has_ended g ≡ false → length g.seats ≡ length g.world.slots
         → result ≡ (seats_wait g.seats && not (some_can_move g.world)) }
 {
     engine.next_act(None).is_none()

@@ -5,7 +5,7 @@ ghost use Rattle.source_model.specs.Answers.{answer_seen};
 ghost use Rattle.source_model.specs.Guards.{Guard, Setup, can_open, has_ended};
 ghost use Rattle.source_model.specs.Journals.{answers};
 ghost use Rattle.source_model.specs.Schedules.{due, first_act, slots_after};
-ghost use Rattle.dsu_runs.specs.Engines.{MakesAt, finish_of, standing_of, waiting_of, waits_in};
+ghost use Rattle.dsu_runs.specs.Engines.{GoesAt, MakesAt, TurnsTo, finish_of, standing_of, waiting_of, waits_in};
 ghost use Rattle.dsu_runs.specs.UndefinedNames.{UsesUndefined};
 
 use name_sets::Names;
@@ -22,6 +22,22 @@ pub enum Made {
     CannotHappen,
     /// It was made and printed something, but not all of that could be written. The engine makes no further event.
     SinkFailed,
+}
+
+/// What came of a turn, in which one thread acts if one can.
+#[derive(Clone, Copy, Debug, PartialEq, Eq)]
+pub enum Turn {
+    /// The thread in that slot moved, which printed nothing, and the run goes on. So no offer became due.
+    Moved(u8),
+    /// The thread in that slot passed its check-in.
+    CheckedIn(u8),
+    /// The thread in that slot moved. It may have printed something, and the run may have ended.
+    Changed(u8),
+    /// The thread in that slot moved and printed something, but not all of that could be written. The engine makes no further
+    /// event.
+    SinkFailed(u8),
+    /// No thread can act, and nothing changed.
+    NoneActs,
 }
 
 /// Why an open offer isn't decided.
@@ -78,6 +94,10 @@ pub trait Engine {
     /// The texts for which the ids in its answers stand.
     ghost table: { Self → List (List ℕ) };
 
+    /// No thread has private work to do, so each can be asked what it does next. An engine may leave the work that follows a
+    /// move for later: it is at the same guard then.
+    ghost asks: { Self → Type 0 };
+
     /// How many slots there are.
     fn slots(&self) -> u8
         ensures { (setup : Setup) (g : Guard) → is_at setup g self.now → result ≡ length g.seats };
@@ -93,18 +113,19 @@ pub trait Engine {
     /// What the threads do next: of the slots in cyclic order after the one that acted last, the first one whose thread can act
     /// passes its check-in, or makes its move. Slot 0 is the first at the start. It is asked of a run that hasn't ended.
     fn next_act(&self, last: Option<u8>) -> Option<Event>
-        ensures { (setup : Setup) (g : Guard) → is_at setup g self.now → has_ended g ≡ false
+        ensures { asks self.now → (setup : Setup) (g : Guard) → is_at setup g self.now → has_ended g ≡ false
             → length g.seats ≡ length g.world.slots → result ≡ first_act g (slots_after (length g.seats) last) };
 
     /// What the thread in a slot waits for. In a run that is over none waits.
     fn waits(&self, slot: u8) -> Option<Waiting<'_>>
-        ensures { (setup : Setup) (g : Guard) → is_at setup g self.now → option_map waiting_of result ≡ waits_in g.world slot };
+        ensures { asks self.now → (setup : Setup) (g : Guard) → is_at setup g self.now → option_map waiting_of result ≡ waits_in g.world slot };
 
     /// Makes the move of the thread in a slot. Out of memory: nothing was printed, and nothing else is known of the engine.
     fn act(&mut self, slot: u8) -> Result<Made, AllocError>
         ensures made { (setup : Setup) (g : Guard) → is_at setup g self.old → IfOk result
             (MakesAt (λ x. is_at setup x self.new) setup (Move slot) g (told self.old) (told self.new)) }
         ensures silent { OnErr result (told self.new ≡ told self.old) }
+        ensures asked { asks self.old → asks self.new }
         ensures later { faults self.old ≤ faults self.new }
         ensures cause { result ≡ Ok Made.SinkFailed → Rose (faults self.old) (faults self.new) };
 
@@ -112,8 +133,21 @@ pub trait Engine {
     fn check_in(&mut self, slot: u8) -> Made
         ensures made { (setup : Setup) (g : Guard) → is_at setup g self.old
             → MakesAt (λ x. is_at setup x self.new) setup (CheckIn slot) g (told self.old) (told self.new) result }
+        ensures asked { asks self.old → asks self.new }
         ensures later { faults self.old ≤ faults self.new }
         ensures written { result ≢ Made.SinkFailed };
+
+    /// Makes the event that `next_act` names, if there is one. It is asked of a run that hasn't ended in which no offer is open.
+    /// It is what a run does at almost all of its turns, so it asks no thread twice, and its answer says whether a schedule has
+    /// anything to ask before the next turn. Out of memory: nothing was printed, and nothing else is known of the engine.
+    fn act_next(&mut self, last: Option<u8>) -> Result<Turn, AllocError>
+        ensures turned { asks self.old → (setup : Setup) (g : Guard) → GoesAt (is_at setup) g self.old → IfOk result
+            (TurnsTo (λ x. is_at setup x self.new) setup (first_act g (slots_after (length g.seats) last)) g
+            (told self.old) (told self.new)) }
+        ensures silent { OnErr result (told self.new ≡ told self.old) }
+        ensures asked { asks self.old → asks self.new }
+        ensures later { faults self.old ≤ faults self.new }
+        ensures cause { (slot : ℕ) → result ≡ Ok (Turn.SinkFailed slot) → Rose (faults self.old) (faults self.new) };
 
     /// How many offers there are. Offers are numbered from 1.
     fn offers(&self) -> u8
@@ -135,6 +169,7 @@ pub trait Engine {
     fn offer(&mut self, k: u8) -> Made
         ensures made { (setup : Setup) (g : Guard) → is_at setup g self.old
             → MakesAt (λ x. is_at setup x self.new) setup (Offer k) g (told self.old) (told self.new) result }
+        ensures asked { asks self.old → asks self.new }
         ensures later { faults self.old ≤ faults self.new }
         ensures written { result ≢ Made.SinkFailed };
 
@@ -145,6 +180,7 @@ pub trait Engine {
             (MakesAt (λ x. is_at setup x self.new) setup (Decide k) g (told self.old) (told self.new)) }
         ensures stays { OnErr result ((setup : Setup) (g : Guard) → is_at setup g self.old → is_at setup g self.new) }
         ensures silent { OnErr result (told self.new ≡ told self.old) }
+        ensures asked { asks self.old → asks self.new }
         ensures later { faults self.old ≤ faults self.new }
         ensures written { result ≢ Ok Made.SinkFailed }
         ensures misused { result ≡ Err Undecided.Misused → (setup : Setup) (g : Guard) → is_at setup g self.old
@@ -156,6 +192,7 @@ pub trait Engine {
     fn withdraw(&mut self, k: u8) -> Made
         ensures made { (setup : Setup) (g : Guard) → is_at setup g self.old
             → MakesAt (λ x. is_at setup x self.new) setup (Withdraw k) g (told self.old) (told self.new) result }
+        ensures asked { asks self.old → asks self.new }
         ensures later { faults self.old ≤ faults self.new }
         ensures written { result ≢ Made.SinkFailed };
 

@@ -9,8 +9,9 @@ use std::alloc::Global;
 
 /// Makes the events of a journal, each with its line, up to the first that can't happen.
 pub fn replay<E: Engine>(alloc: Global, engine: E, events: &[(u32, Event)]) -> Ran<E>
-    ensures { (setup : Setup) → E.is_at setup (first_guard setup) engine
+    ensures replayed { E.asks engine → (setup : Setup) → E.is_at setup (first_guard setup) engine
         → Replayed setup (E.is_at setup) E.told E.faults engine events.now result }
+    ensures asked { E.asks engine → E.asks result.engine }
 {
     seats_fit_their_slots();
     let Ok(history) = Vec::with_capacity(alloc, events.len()) else {

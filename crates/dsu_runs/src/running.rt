@@ -43,24 +43,7 @@ impl<E: Engine> Running<E> {
             (E.told self.old.engine) (E.told self.new.engine) result }
         ensures history { self.new.history.items ≡ history_after event self.old.history.items result }
         ensures room { vec_capacity self.old.history ≤ vec_capacity self.new.history }
-        ensures later { E.faults self.old.engine ≤ E.faults self.new.engine }
-        ensures cause { result ≡ Step.SinkFailed → Rose (E.faults self.old.engine) (E.faults self.new.engine) }
-        ensures moves { result ≡ Step.SinkFailed → makes_move event ≡ true }
-        ensures stays { result ≡ Step.Memory → makes_move event ≡ false → (setup : Setup) (g : Guard)
-            → E.is_at setup g self.old.engine → E.is_at setup g self.new.engine }
-    {
-        self.make_inlined(event)
-    }
-
-    /// Makes an event, and keeps it, as code of its own in its caller: for the one call that a run makes at each turn.
-    #[inline(always)]
-    pub fn make_inlined(&mut self, event: Event) -> Step
-        requires { length self.old.history.items < vec_capacity self.old.history }
-        ensures made { (setup : Setup) (g : Guard) → E.is_at setup g self.old.engine
-            → Steps (λ x. E.is_at setup x self.new.engine) setup event g
-            (E.told self.old.engine) (E.told self.new.engine) result }
-        ensures history { self.new.history.items ≡ history_after event self.old.history.items result }
-        ensures room { vec_capacity self.old.history ≤ vec_capacity self.new.history }
+        ensures asked { E.asks self.old.engine → E.asks self.new.engine }
         ensures later { E.faults self.old.engine ≤ E.faults self.new.engine }
         ensures cause { result ≡ Step.SinkFailed → Rose (E.faults self.old.engine) (E.faults self.new.engine) }
         ensures moves { result ≡ Step.SinkFailed → makes_move event ≡ true }
@@ -77,8 +60,9 @@ impl<E: Engine> Running<E> {
 
     /// The run at its end, with how it ended.
     pub fn end(self) -> Ran<E>
-        ensures { (setup : Setup) (g : Guard) → E.is_at setup g self.engine → length g.seats ≡ length g.world.slots
-            → result ≡ ran_of self (StopCause.Ended (int_ending (ending_of g))) }
+        ensures ended { E.asks self.engine → (setup : Setup) (g : Guard) → E.is_at setup g self.engine
+            → length g.seats ≡ length g.world.slots → result ≡ ran_of self (StopCause.Ended (int_ending (ending_of g))) }
+        ensures engine { result.engine ≡ self.engine }
     {
         let ending = ending(&self.engine);
         self.stop(StopCause::Ended(ending))
@@ -98,7 +82,6 @@ impl<E: Engine> Running<E> {
 }
 
 /// What came of an event, with why it wasn't made.
-#[inline(always)]
 fn step_of(made: Result<Made, Undecided>) -> Step
     ensures { result ≡ step_by made }
 {
@@ -113,11 +96,11 @@ fn step_of(made: Result<Made, Undecided>) -> Step
 }
 
 /// Has an engine make a move.
-#[inline(always)]
 fn act<E: Engine>(engine: &mut E, slot: u8) -> Result<Made, Undecided>
     ensures made { (setup : Setup) (g : Guard) → E.is_at setup g engine.old → IfOk result
         (MakesAt (λ x. E.is_at setup x engine.new) setup (Move slot) g (E.told engine.old) (E.told engine.new)) }
     ensures silent { OnErr result (E.told engine.new ≡ E.told engine.old) }
+    ensures asked { E.asks engine.old → E.asks engine.new }
     ensures later { E.faults engine.old ≤ E.faults engine.new }
     ensures cause { result ≡ Ok Made.SinkFailed → Rose (E.faults engine.old) (E.faults engine.new) }
     ensures memory { result ≢ Err Undecided.Misused }
@@ -130,11 +113,11 @@ fn act<E: Engine>(engine: &mut E, slot: u8) -> Result<Made, Undecided>
 }
 
 /// Has an engine make an event. Only a move that wants memory leaves the engine as it can't be used any more.
-#[inline(always)]
 fn make<E: Engine>(engine: &mut E, event: Event) -> Result<Made, Undecided>
     ensures made { (setup : Setup) (g : Guard) → E.is_at setup g engine.old → IfOk result
         (MakesAt (λ x. E.is_at setup x engine.new) setup event g (E.told engine.old) (E.told engine.new)) }
     ensures silent { OnErr result (E.told engine.new ≡ E.told engine.old) }
+    ensures asked { E.asks engine.old → E.asks engine.new }
     ensures later { E.faults engine.old ≤ E.faults engine.new }
     ensures cause { result ≡ Ok Made.SinkFailed → Rose (E.faults engine.old) (E.faults engine.new) }
     ensures moves { result ≡ Ok Made.SinkFailed → makes_move event ≡ true }
@@ -158,7 +141,7 @@ fn make<E: Engine>(engine: &mut E, event: Event) -> Result<Made, Undecided>
 
 /// Keeps an event, for which there is room.
 #[inline(always)]
-fn keep(history: &mut Vec<Event>, event: Event)
+pub(crate) fn keep(history: &mut Vec<Event>, event: Event)
     requires { length history.old.items < vec_capacity history.old }
     ensures items { history.new.items ≡ history.old.items ++ event ∷ [] }
     ensures room { vec_capacity history.old ≤ vec_capacity history.new }

@@ -1,15 +1,20 @@
-ghost use Rattle.std.specs.Prelude.{◌≡◌, ◌==◌, ◌&&◌, not, length, ◌<◌, ℕ, false, Some};
+ghost use Rattle.std.specs.Prelude.{◌≡◌, ◌==◌, ◌∷◌, ◌++◌, ◌+◌, ◌&&◌, not, [], length, ◌<◌, ◌≤◌, ℕ, true, false, Some, None, MatchOption};
 ghost use Rattle.std.specs.Vec.{vec_capacity};
-ghost use Rattle.run_types.specs.declared.run.Event.TheVariants.{Decide};
+ghost use Rattle.run_types.specs.declared.run.Event.TheVariants.{CheckIn, Decide, Move};
 ghost use Rattle.source_model.specs.Guards.{Guard, Setup, first_guard, has_ended};
-ghost use Rattle.source_model.specs.Schedules.{act_of, first_act, slots_after};
+ghost use Rattle.source_model.specs.Schedules.{due, first_act, slots_after};
 ghost use Rattle.source_model.specs.Endings.{is_stuck as stuck_at};
-ghost use Rattle.dsu_runs.specs.Turns.{GoesAt, Keeps, Turned, followed, next_within, offer_or_act};
+ghost use Rattle.effects.specs.Rows.{AreRows};
+ghost use Rattle.source_model.specs.Guards.{Rules};
+ghost use Rattle.source_model.specs.Journals.{guard_after};
+ghost use Rattle.dsu_runs.specs.Engines.{GoesAt};
+ghost use Rattle.dsu_runs.specs.Turns.{IsQuiet, Keeps, Turned, next_within, offer_or_act};
 ghost use Rattle.dsu_runs.specs.Solo.{RanSolo};
+ghost use Rattle.dsu_runs.specs.Finishes.{Finishes, IsLive};
 
 use crate::ending::is_stuck;
-use crate::running::{Running, Step};
-use crate::{Engine, Ran, StopCause};
+use crate::running::{Running, Step, keep};
+use crate::{Engine, Live, Ran, StopCause, Turn};
 use run_types::Event;
 use source_model::{seats_fit_their_slots, solo_schedule_goes_to_the_end};
 use std::alloc::Global;
@@ -22,32 +27,58 @@ pub(crate) struct SoloRun<E> {
     last: Option<u8>,
     /// How many moves may still be made.
     left: u32,
+    /// Whether only a thread's event can be next, so that nothing has to be asked before it: the run goes on, no offer is open
+    /// or due, and a move is left.
+    quiet: bool,
 }
 
 /// Makes the events of the solo schedule until the run has ended: it finished or trapped; it is stuck, and no offer is open
 /// or due; or it isn't stuck, and so many moves were made. An offer that can't be decided is withdrawn.
 pub fn solo<E: Engine>(alloc: Global, engine: E, moves: u32) -> Ran<E>
-    ensures { (setup : Setup) → E.is_at setup (first_guard setup) engine
+    ensures ran { E.asks engine → (setup : Setup) → E.is_at setup (first_guard setup) engine
         → RanSolo setup (E.is_at setup) E.told E.faults engine moves result }
+    ensures asked { E.asks engine → E.asks result.engine }
+{
+    finish(Live {
+        engine,
+        history: Vec::new(alloc),
+        last: None,
+        left: moves,
+    })
+}
+
+/// Goes on with a run by the solo schedule until it has ended, wherever its events so far have come to. Where there is no room
+/// for the further events, and none can be had, none is made.
+pub fn finish<E: Engine>(live: Live<E>) -> Ran<E>
+    ensures ran { E.asks live.engine → (setup : Setup) (start : Guard) → IsLive setup (E.is_at setup) start live
+        → Finishes setup (E.is_at setup) E.told E.faults start live result }
+    ensures asked { E.asks live.engine → E.asks result.engine }
 {
     seats_fit_their_slots();
     solo_schedule_goes_to_the_end();
-    // A check-in comes only after a move that led to it, so there are at most as many; an offer is opened and closed once.
-    let most = 2 * moves as usize + 2 * engine.offers() as usize;
-    let Ok(history) = Vec::with_capacity(alloc, most) else {
+    let Live {
+        engine,
+        mut history,
+        last,
+        left,
+    } = live;
+    // A check-in comes only after a move that led to it, but for those that stand; an offer is opened and closed once.
+    let most = 2 * left as usize + 2 * engine.offers() as usize + engine.slots() as usize + 1;
+    let Ok(_room) = history.reserve(most) else {
         return Ran {
             engine,
-            history: Vec::new(alloc),
+            history,
             cause: StopCause::Memory,
         };
     };
     let mut solo = SoloRun {
         running: Running { engine, history },
-        last: None,
-        left: moves,
+        last,
+        left,
+        quiet: false,
     };
     for _turn in 0..most {
-        match solo.act() {
+        match solo.turn() {
             Step::Done => {}
             // An offer is withdrawn where its decision isn't made, so a turn comes to nothing only where no event is next.
             Step::CannotHappen | Step::Misused | Step::UndefinedName => return solo.running.end(),
@@ -62,30 +93,70 @@ impl<E: Engine> SoloRun<E> {
     /// The next event of a run that hasn't ended. Without a move left a run goes on only where it is stuck: its offers are
     /// still answered.
     #[inline(always)]
-    fn act(&mut self) -> Step
+    fn turn(&mut self) -> Step
         requires room { length self.old.running.history.items < vec_capacity self.old.running.history }
-        ensures turned { (setup : Setup) (g : Guard) → E.is_at setup g self.old.running.engine
-            → length g.seats ≡ length g.world.slots
-            → Turned (E.is_at setup) E.told setup g (next_within setup g self.old.last self.old.left)
-            self.old self.new result }
+        requires left { self.old.quiet ≡ true → 0 < self.old.left }
+        ensures turned { E.asks self.old.running.engine → (setup : Setup) (g : Guard) → E.is_at setup g self.old.running.engine
+            → length g.seats ≡ length g.world.slots → (self.old.quiet ≡ true → IsQuiet setup g self.old.left)
+            → Turned (E.is_at setup) E.told setup g (next_within setup g self.old.last self.old.left) self.old self.new result }
         ensures kept { Keeps E.faults self.old self.new result }
+        ensures asked { E.asks self.old.running.engine → E.asks self.new.running.engine }
+        ensures left { self.new.quiet ≡ true → 0 < self.new.left }
+    {
+        match self.others_turn() {
+            Some(step) => step,
+            None => self.act(),
+        }
+    }
+
+    /// What a turn comes to in which no thread's event is next; none where only that can be.
+    #[inline(always)]
+    fn others_turn(&mut self) -> Option<Step>
+        requires room { length self.old.running.history.items < vec_capacity self.old.running.history }
+        requires left { self.old.quiet ≡ true → 0 < self.old.left }
+        ensures turned { E.asks self.old.running.engine → (setup : Setup) (g : Guard) → E.is_at setup g self.old.running.engine
+            → length g.seats ≡ length g.world.slots → (self.old.quiet ≡ true → IsQuiet setup g self.old.left)
+            → MatchOption result (IsQuiet setup g self.old.left) (Turned (E.is_at setup) E.told setup g
+            (next_within setup g self.old.last self.old.left) self.old self.new) }
+        ensures kept { MatchOption result (self.new ≡ record self.old { quiet = true }) (Keeps E.faults self.old self.new) }
+        ensures asked { E.asks self.old.running.engine → E.asks self.new.running.engine }
+        ensures left { MatchOption result (0 < self.old.left) (λ step. self.new.quiet ≡ false) }
+    {
+        if self.quiet {
+            return None;
+        }
+        self.ask()
+    }
+
+    /// The same, where what is next isn't known.
+    #[cold]
+    #[inline(never)]
+    fn ask(&mut self) -> Option<Step>
+        requires room { length self.old.running.history.items < vec_capacity self.old.running.history }
+        requires unknown { self.old.quiet ≡ false }
+        ensures turned { E.asks self.old.running.engine → (setup : Setup) (g : Guard) → E.is_at setup g self.old.running.engine
+            → length g.seats ≡ length g.world.slots → MatchOption result (IsQuiet setup g self.old.left) (Turned (E.is_at setup)
+            E.told setup g (next_within setup g self.old.last self.old.left) self.old self.new) }
+        ensures kept { MatchOption result (self.new ≡ record self.old { quiet = true }) (Keeps E.faults self.old self.new) }
+        ensures asked { E.asks self.old.running.engine → E.asks self.new.running.engine }
+        ensures left { MatchOption result (0 < self.old.left) (λ step. self.new.quiet ≡ false) }
     {
         if self.running.engine.finish().is_some() {
-            return Step::CannotHappen;
+            return Some(Step::CannotHappen);
         }
         if self.is_used_up() {
-            return Step::CannotHappen;
+            return Some(Step::CannotHappen);
         }
         match self.running.engine.open() {
-            Some(k) => self.close(k),
-            None => self.open_or_act(),
+            Some(k) => Some(self.close(k)),
+            None => self.open_due(),
         }
     }
 
     /// Whether no move is left in a run that isn't stuck.
     fn is_used_up(&self) -> bool
-        ensures { (setup : Setup) (g : Guard) → E.is_at setup g self.now.running.engine → has_ended g ≡ false
-            → length g.seats ≡ length g.world.slots → result ≡ (self.now.left == 0 && not (stuck_at g)) }
+        ensures { E.asks self.now.running.engine → (setup : Setup) (g : Guard) → E.is_at setup g self.now.running.engine
+            → has_ended g ≡ false → length g.seats ≡ length g.world.slots → result ≡ (self.now.left == 0 && not (stuck_at g)) }
     {
         if self.left != 0 {
             return false;
@@ -96,9 +167,12 @@ impl<E: Engine> SoloRun<E> {
     /// Decides the open offer. Where the decision can't be made, or isn't, it withdraws the offer.
     fn close(&mut self, k: u8) -> Step
         requires room { length self.old.running.history.items < vec_capacity self.old.running.history }
+        requires unknown { self.old.quiet ≡ false }
         ensures turned { (setup : Setup) (g : Guard) → E.is_at setup g self.old.running.engine → has_ended g ≡ false
             → g.open_offer ≡ Some k → Turned (E.is_at setup) E.told setup g (Some (Decide k)) self.old self.new result }
         ensures kept { Keeps E.faults self.old self.new result }
+        ensures asked { E.asks self.old.running.engine → E.asks self.new.running.engine }
+        ensures unknown { self.new.quiet ≡ false }
     {
         match self.running.make(Event::Decide(k)) {
             Step::CannotHappen | Step::Memory | Step::Misused | Step::UndefinedName => {
@@ -108,72 +182,97 @@ impl<E: Engine> SoloRun<E> {
         }
     }
 
-    /// Opens the offer that is due, if one is; else a thread acts, if a move is left and one can.
-    #[inline(always)]
-    fn open_or_act(&mut self) -> Step
+    /// Opens the offer that is due, if one is. If none is, and no move is left, nothing is next.
+    fn open_due(&mut self) -> Option<Step>
         requires room { length self.old.running.history.items < vec_capacity self.old.running.history }
+        requires unknown { self.old.quiet ≡ false }
         ensures turned { (setup : Setup) (g : Guard) → GoesAt (E.is_at setup) g self.old.running.engine
-            → Turned (E.is_at setup) E.told setup g (offer_or_act setup g self.old.last self.old.left)
-            self.old self.new result }
-        ensures kept { Keeps E.faults self.old self.new result }
+            → MatchOption result (IsQuiet setup g self.old.left) (Turned (E.is_at setup) E.told setup g
+            (offer_or_act setup g self.old.last self.old.left) self.old self.new) }
+        ensures kept { MatchOption result (self.new ≡ record self.old { quiet = true }) (Keeps E.faults self.old self.new) }
+        ensures asked { E.asks self.old.running.engine → E.asks self.new.running.engine }
+        ensures left { MatchOption result (0 < self.old.left) (λ step. self.new.quiet ≡ false) }
     {
         match self.running.engine.due() {
-            Some(k) => self.running.make(Event::Offer(k)),
+            Some(k) => Some(self.running.make(Event::Offer(k))),
             None => {
                 if self.left == 0 {
-                    return Step::CannotHappen;
+                    return Some(Step::CannotHappen);
                 }
-                self.act_in_turn()
+                self.quiet = true;
+                None
             }
         }
     }
 
     /// The first of the slots in order after the one that acted last acts, if one can.
     #[inline(always)]
-    fn act_in_turn(&mut self) -> Step
+    fn act(&mut self) -> Step
         requires left { 0 < self.old.left }
         requires room { length self.old.running.history.items < vec_capacity self.old.running.history }
-        ensures turned { (setup : Setup) (g : Guard) → GoesAt (E.is_at setup) g self.old.running.engine
+        ensures turned { E.asks self.old.running.engine → (setup : Setup) (g : Guard)
+            → GoesAt (E.is_at setup) g self.old.running.engine → due setup g ≡ None
             → Turned (E.is_at setup) E.told setup g (first_act g (slots_after (length g.seats) self.old.last))
             self.old self.new result }
         ensures kept { Keeps E.faults self.old self.new result }
+        ensures asked { E.asks self.old.running.engine → E.asks self.new.running.engine }
+        ensures left { self.new.quiet ≡ true → 0 < self.new.left }
     {
-        match self.running.engine.next_act(self.last) {
-            Some(event) => self.make_act(event),
-            None => Step::CannotHappen,
+        match self.running.engine.act_next(self.last) {
+            Ok(Turn::Moved(slot)) => {
+                self.moved(slot);
+                Step::Done
+            }
+            Ok(Turn::CheckedIn(slot)) => {
+                self.checked_in(slot);
+                Step::Done
+            }
+            Ok(Turn::Changed(slot)) => {
+                self.moved(slot);
+                self.quiet = false;
+                Step::Done
+            }
+            Ok(Turn::SinkFailed(slot)) => {
+                self.moved(slot);
+                Step::SinkFailed
+            }
+            Ok(Turn::NoneActs) => Step::CannotHappen,
+            Err(_) => Step::Memory,
         }
     }
 
-    /// Makes what the thread in a slot can do.
+    /// Keeps that the thread in a slot moved.
     #[inline(always)]
-    fn make_act(&mut self, event: Event) -> Step
+    fn moved(&mut self, slot: u8)
         requires left { 0 < self.old.left }
         requires room { length self.old.running.history.items < vec_capacity self.old.running.history }
-        ensures turned { (setup : Setup) (g : Guard) (slot : ℕ) → GoesAt (E.is_at setup) g self.old.running.engine
-            → act_of g slot ≡ Some event → Turned (E.is_at setup) E.told setup g (Some event) self.old self.new result }
-        ensures kept { Keeps E.faults self.old self.new result }
+        ensures engine { self.new.running.engine ≡ self.old.running.engine }
+        ensures history { self.new.running.history.items ≡ self.old.running.history.items ++ Move slot ∷ [] }
+        ensures room { vec_capacity self.old.running.history ≤ vec_capacity self.new.running.history }
+        ensures last { self.new.last ≡ Some slot }
+        ensures fewer { self.new.left + 1 ≡ self.old.left }
+        ensures left { self.new.quiet ≡ true → 0 < self.new.left }
     {
-        let step = self.running.make_inlined(event);
-        match step {
-            Step::Done | Step::SinkFailed => self.follow(event),
-            Step::CannotHappen | Step::Memory | Step::Misused | Step::UndefinedName => {}
+        keep(&mut self.running.history, Event::Move(slot));
+        self.last = Some(slot);
+        self.left -= 1;
+        if self.left == 0 {
+            self.quiet = false;
         }
-        step
     }
 
-    /// Keeps which slot acted, and how many moves are left, after an event that was made.
+    /// Keeps that the thread in a slot passed its check-in.
     #[inline(always)]
-    fn follow(&mut self, event: Event)
-        requires { 0 < self.old.left }
-        ensures { self.new ≡ followed event self.old }
+    fn checked_in(&mut self, slot: u8)
+        requires room { length self.old.running.history.items < vec_capacity self.old.running.history }
+        ensures engine { self.new.running.engine ≡ self.old.running.engine }
+        ensures history { self.new.running.history.items ≡ self.old.running.history.items ++ CheckIn slot ∷ [] }
+        ensures room { vec_capacity self.old.running.history ≤ vec_capacity self.new.running.history }
+        ensures last { self.new.last ≡ Some slot }
+        ensures left { self.new.left ≡ self.old.left }
+        ensures quiet { self.new.quiet ≡ self.old.quiet }
     {
-        match event {
-            Event::Move(slot) => {
-                self.last = Some(slot);
-                self.left -= 1;
-            }
-            Event::CheckIn(slot) => self.last = Some(slot),
-            Event::Offer(_) | Event::Decide(_) | Event::Withdraw(_) => {}
-        }
+        keep(&mut self.running.history, Event::CheckIn(slot));
+        self.last = Some(slot);
     }
 }

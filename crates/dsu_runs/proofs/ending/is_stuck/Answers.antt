@@ -8,7 +8,7 @@ twice true = refl
 twice false = refl
 
 pub returns : goal.returns
-returns g c = λ setup x at going same.
+returns g c = λ asks setup x at going same.
     twice c.is_none.result
     ∙ ap not (sym c.is_none.ensures)
-    ∙ stuck_in_turn x c.next_act.result same (c.next_act.ensures setup x at going same)
+    ∙ stuck_in_turn x c.next_act.result same (c.next_act.ensures asks setup x at going same)

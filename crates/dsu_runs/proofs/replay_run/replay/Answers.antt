@@ -9,8 +9,8 @@ use Rattle.dsu_runs.proofs.Happening.{any_are_rows, any_rules}
 use Rattle.dsu_runs.proofs.Replaying.{failed, finished, lacks, line_there, misused, no_room, one_more, refused, starts, undefined}
 use Rattle.dsu_runs.proofs.replay_run.replay.Goals as goal
 
-pub returns-in_default : goal.returns-in_default
-returns-in_default g c = λ setup start.
+pub returns-in_default-clause-replayed : goal.returns-in_default-clause-replayed
+returns-in_default-clause-replayed g c = λ asks setup start.
     let e = g.E.Engine in
     no_room setup (e.is_at setup) e.told e.faults c.args.engine c.args.events.now (record { engine = c.args.engine; history = c.new.result }) refl
     c.new.ensures.items
@@ -19,9 +19,10 @@ pub loop-line-init : goal.loop-line-init
 loop-line-init g c =
     let e = g.E.Engine in
     record {
-      made = λ setup start.
+      made = λ asks setup start.
           starts setup (e.is_at setup) e.told e.faults c.args.engine c.args.events.now
           (record { engine = c.args.engine; history = c.in-Ok.history }) refl c.in-Ok.ensures.items start;
+      asked = λ asks. asks;
       counted = ap length c.in-Ok.ensures.items;
       room = c.in-Ok.ensures.capacity;
     }
@@ -36,7 +37,7 @@ loop-line-preserved g c =
     let new = c.make.new.self in
     let line = slice_index_or lines n (0, Move 0) in
     record {
-      made = λ setup start.
+      made = λ asks setup start.
           let tries : Tries setup (e.is_at setup) e.told e.faults old new line.1 c.make.result = record {
             made = λ x there. m.made setup x there;
             history = m.history;
@@ -45,7 +46,8 @@ loop-line-preserved g c =
             moves = m.moves;
           } in
           one_more setup (e.is_at setup) e.told e.faults c.args.engine lines n old new line c.make.result
-          (c.loop-line.invariant.made setup start) (line_there lines n c.loop-line-test.true) tries c.in-Done.is;
+          (c.loop-line.invariant.made asks setup start) (line_there lines n c.loop-line-test.true) tries c.in-Done.is;
+      asked = λ asks. m.asked (c.loop-line.invariant.asked asks);
       counted =
           ap length (m.history ∙ ap (history_after line.1 old.history.items) c.in-Done.is)
           ∙ length-append old.history.items (line.1 ∷ [])
@@ -58,8 +60,8 @@ make-requires g c =
     let at = c.loop-line.invariant in
     omega (arith, at.counted, at.room, c.loop-line-test.true)
 
-pub returns-in-CannotHappen : goal.returns-in-CannotHappen
-returns-in-CannotHappen g c = λ setup start.
+pub returns-in-CannotHappen-clause-replayed : goal.returns-in-CannotHappen-clause-replayed
+returns-in-CannotHappen-clause-replayed g c = λ asks setup start.
     let e = g.E.Engine in
     let m = c.make.ensures in
     let lines = c.args.events.now in
@@ -76,10 +78,10 @@ returns-in-CannotHappen g c = λ setup start.
     } in
     subst (Replayed setup (e.is_at setup) e.told e.faults c.args.engine lines) (sym c.stop.ensures)
     (refused setup (e.is_at setup) e.told e.faults c.args.engine lines n old new line c.make.result
-    (c.loop-line.invariant.made setup start) (line_there lines n c.loop-line-test.true) tries c.in-CannotHappen.is)
+    (c.loop-line.invariant.made asks setup start) (line_there lines n c.loop-line-test.true) tries c.in-CannotHappen.is)
 
-pub returns-in-SinkFailed : goal.returns-in-SinkFailed
-returns-in-SinkFailed g c = λ setup start.
+pub returns-in-SinkFailed-clause-replayed : goal.returns-in-SinkFailed-clause-replayed
+returns-in-SinkFailed-clause-replayed g c = λ asks setup start.
     let e = g.E.Engine in
     let m = c.make.ensures in
     let lines = c.args.events.now in
@@ -96,10 +98,10 @@ returns-in-SinkFailed g c = λ setup start.
     } in
     subst (Replayed setup (e.is_at setup) e.told e.faults c.args.engine lines) (sym c.stop-in-SinkFailed.ensures)
     (failed setup (e.is_at setup) e.told e.faults c.args.engine lines n old new line c.make.result
-    (c.loop-line.invariant.made setup start) (line_there lines n c.loop-line-test.true) tries c.in-SinkFailed.is)
+    (c.loop-line.invariant.made asks setup start) (line_there lines n c.loop-line-test.true) tries c.in-SinkFailed.is)
 
-pub returns-in-Memory : goal.returns-in-Memory
-returns-in-Memory g c = λ setup start.
+pub returns-in-Memory-clause-replayed : goal.returns-in-Memory-clause-replayed
+returns-in-Memory-clause-replayed g c = λ asks setup start.
     let e = g.E.Engine in
     let m = c.make.ensures in
     let lines = c.args.events.now in
@@ -116,10 +118,10 @@ returns-in-Memory g c = λ setup start.
     } in
     subst (Replayed setup (e.is_at setup) e.told e.faults c.args.engine lines) (sym c.stop-in-Memory.ensures)
     (lacks setup (e.is_at setup) e.told e.faults c.args.engine lines n old new line c.make.result
-    (c.loop-line.invariant.made setup start) (line_there lines n c.loop-line-test.true) tries c.in-Memory.is)
+    (c.loop-line.invariant.made asks setup start) (line_there lines n c.loop-line-test.true) tries c.in-Memory.is)
 
-pub returns-in-Misused : goal.returns-in-Misused
-returns-in-Misused g c = λ setup start.
+pub returns-in-Misused-clause-replayed : goal.returns-in-Misused-clause-replayed
+returns-in-Misused-clause-replayed g c = λ asks setup start.
     let e = g.E.Engine in
     let m = c.make.ensures in
     let lines = c.args.events.now in
@@ -136,10 +138,10 @@ returns-in-Misused g c = λ setup start.
     } in
     subst (Replayed setup (e.is_at setup) e.told e.faults c.args.engine lines) (sym c.stop-in-Misused.ensures)
     (misused setup (e.is_at setup) e.told e.faults c.args.engine lines n old new line c.make.result
-    (c.loop-line.invariant.made setup start) (line_there lines n c.loop-line-test.true) tries c.in-Misused.is)
+    (c.loop-line.invariant.made asks setup start) (line_there lines n c.loop-line-test.true) tries c.in-Misused.is)
 
-pub returns-in-UndefinedName : goal.returns-in-UndefinedName
-returns-in-UndefinedName g c = λ setup start.
+pub returns-in-UndefinedName-clause-replayed : goal.returns-in-UndefinedName-clause-replayed
+returns-in-UndefinedName-clause-replayed g c = λ asks setup start.
     let e = g.E.Engine in
     let m = c.make.ensures in
     let lines = c.args.events.now in
@@ -156,15 +158,15 @@ returns-in-UndefinedName g c = λ setup start.
     } in
     subst (Replayed setup (e.is_at setup) e.told e.faults c.args.engine lines) (sym c.stop-in-UndefinedName.ensures)
     (undefined setup (e.is_at setup) e.told e.faults c.args.engine lines n old new line c.make.result
-    (c.loop-line.invariant.made setup start) (line_there lines n c.loop-line-test.true) tries c.in-UndefinedName.is)
+    (c.loop-line.invariant.made asks setup start) (line_there lines n c.loop-line-test.true) tries c.in-UndefinedName.is)
 
-pub returns : goal.returns
-returns g c = λ setup start.
+pub returns-clause-replayed : goal.returns-clause-replayed
+returns-clause-replayed g c = λ asks setup start.
     let e = g.E.Engine in
-    let at = c.loop-line.invariant.made setup start in
+    let at = c.loop-line.invariant.made asks setup start in
     let seats =
     c.seats_fit_their_slots.ensures any_rules setup c.loop-line.running.history.items at.guard (at.came.legal any_rules any_are_rows) in
     subst (Replayed setup (e.is_at setup) e.told e.faults c.args.engine c.args.events.now)
-    (sym (c.end.ensures setup at.guard at.there seats.count))
+    (sym (c.end.ensures.ended (c.loop-line.invariant.asked asks) setup at.guard at.there seats.count))
     (finished setup (e.is_at setup) e.told e.faults c.args.engine c.args.events.now c.loop-line.line-index c.loop-line.running
     (int_ending (ending at.guard)) at c.loop-line-test.false refl)

@@ -8,8 +8,9 @@ abbrev pub invariant-loop-line : goal.invariant-loop-line
 invariant-loop-line g l =
     let e = g.E.Engine in
     record {
-      made : (setup : Setup) → e.is_at setup (first_guard setup) l.fn.engine
+      made : e.asks l.fn.engine → (setup : Setup) → e.is_at setup (first_guard setup) l.fn.engine
           → Made setup (e.is_at setup) e.told e.faults l.fn.engine l.fn.events l.line-index l.running;
+      asked : e.asks l.fn.engine → e.asks l.running.engine;
       counted : length l.running.history.items ≡ l.line-index;
       room : length l.fn.events ≤ vec_capacity l.running.history;
     }

@@ -1,35 +1,40 @@
-use Rattle.std.proofs.Common.{◌∙◌, Some, ap, sym}
-use Rattle.std.specs.Prelude.{option_map}
-use Rattle.std.specs.Option.{option_or}
-use Rattle.run_types.specs.declared.run.Event.TheVariants.{Decide}
-use Rattle.dsu_runs.specs.Turns.{next_within, offer_or_act}
-use Rattle.dsu_runs.proofs.Acting.{turned_by}
-use Rattle.dsu_runs.proofs.Ends.{next_going}
-use Rattle.dsu_runs.proofs.Standing.{still_going}
+use Rattle.std.proofs.Common.{◌≡◌, length, sym, subst}
+use Rattle.std.specs.Prelude.{Ok}
+use Rattle.run_types.specs.declared.run.Event.TheVariants.{CheckIn}
+use Rattle.source_model.specs.Schedules.{first_act, slots_after}
+use Rattle.dsu_runs.specs.declared.engine.Turn.TheVariants as turn
+use Rattle.dsu_runs.specs.Engines.{Makes, MovesOn, TurnsTo}
+use Rattle.dsu_runs.proofs.Turning.{moved_on, of_ok, passed_on}
 use Rattle.dsu_runs.proofs.solo_run.SoloRun.act.Goals as goal
 
-pub returns-in-Some-clause-turned : goal.returns-in-Some-clause-turned
-returns-in-Some-clause-turned g c = λ setup x at seats.
+pub returns-in-Ok-Moved-clause-turned : goal.returns-in-Ok-Moved-clause-turned
+returns-in-Ok-Moved-clause-turned g c = λ asks setup x goes none.
     let e = g.E.Engine in
     let old = c.args.self.now in
-    let going = still_going x c.finish.result (c.finish.ensures setup x at) (sym c.is_some.ensures ∙ c.if-is_some.false) in
-    let used = sym (c.is_used_up.ensures setup x at going seats) ∙ c.if-is_used_up.false in
-    let opened = sym (c.«open».ensures setup x at) ∙ c.in-Some.is in
-    turned_by (e.is_at setup) e.told setup x (Some (Decide c.in-Some.k)) (next_within setup x old.last old.left) old c.close.new.self
-    c.close.result
-    (sym (next_going setup x old.last old.left going used
-    ∙ ap (λ o. option_or (option_map Decide o) (offer_or_act setup x old.last old.left)) opened))
-    (c.close.ensures.turned setup x at going opened)
+    let m = c.moved.ensures in
+    let slot = c.in-Ok-Moved.slot in
+    let mid = c.act_next.new.self in
+    let next = first_act x (slots_after (length x.seats) old.last) in
+    let is : c.act_next.result ≡ Ok (turn.Moved slot) = cc in
+    let t =
+    of_ok c.act_next.result (TurnsTo (λ y. e.is_at setup y mid) setup next x (e.told old.running.engine) (e.told mid)) (turn.Moved slot)
+    (c.act_next.ensures.turned asks setup x goes) is in
+    moved_on (e.is_at setup) e.told setup x old c.moved.new.self slot next goes none t.0
+    (subst (λ n. MovesOn (λ y. e.is_at setup y n) setup slot x (e.told old.running.engine) (e.told n)) (sym m.engine) t.1)
+    m.history m.last m.fewer m.left
 
-pub returns-in-None-clause-turned : goal.returns-in-None-clause-turned
-returns-in-None-clause-turned g c = λ setup x at seats.
+pub returns-in-Ok-CheckedIn-clause-turned : goal.returns-in-Ok-CheckedIn-clause-turned
+returns-in-Ok-CheckedIn-clause-turned g c = λ asks setup x goes none.
     let e = g.E.Engine in
     let old = c.args.self.now in
-    let going = still_going x c.finish.result (c.finish.ensures setup x at) (sym c.is_some.ensures ∙ c.if-is_some.false) in
-    let used = sym (c.is_used_up.ensures setup x at going seats) ∙ c.if-is_used_up.false in
-    let opened = sym (c.«open».ensures setup x at) ∙ c.in-None.is in
-    turned_by (e.is_at setup) e.told setup x (offer_or_act setup x old.last old.left) (next_within setup x old.last old.left) old
-    c.open_or_act.new.self c.open_or_act.result
-    (sym (next_going setup x old.last old.left going used
-    ∙ ap (λ o. option_or (option_map Decide o) (offer_or_act setup x old.last old.left)) opened))
-    (c.open_or_act.ensures.turned setup x (record { there = at; going = going; fits = seats; none_open = opened }))
+    let m = c.checked_in.ensures in
+    let slot = c.in-Ok-CheckedIn.slot in
+    let mid = c.act_next.new.self in
+    let next = first_act x (slots_after (length x.seats) old.last) in
+    let is : c.act_next.result ≡ Ok (turn.CheckedIn slot) = cc in
+    let t =
+    of_ok c.act_next.result (TurnsTo (λ y. e.is_at setup y mid) setup next x (e.told old.running.engine) (e.told mid)) (turn.CheckedIn slot)
+    (c.act_next.ensures.turned asks setup x goes) is in
+    passed_on (e.is_at setup) e.told setup x old c.checked_in.new.self slot next goes none t.0
+    (subst (λ n. Makes (λ y. e.is_at setup y n) setup (CheckIn slot) x (e.told old.running.engine) (e.told n)) (sym m.engine) t.1)
+    m.history m.last m.left c.requires.left

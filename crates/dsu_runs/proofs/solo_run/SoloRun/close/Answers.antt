@@ -12,4 +12,4 @@ returns-in-CannotHappen-clause-turned g c = λ setup x at going opened.
     undecided (e.is_at setup) e.told setup x old c.make.new.self c.args.k c.make.result c.in-CannotHappen.is
     (first.made setup x at, first.history, first.moves) (λ is. first.stays is refl setup x at) in
     withdrawn (e.is_at setup) e.told setup x old c.make.new.self c.make-in-CannotHappen.new.self c.args.k c.make-in-CannotHappen.result
-    still going opened (next.made setup x still.there, next.history, next.moves)
+    c.requires.unknown still going opened (next.made setup x still.there, next.history, next.moves)

@@ -1,7 +1,7 @@
 use Rattle.std.proofs.Common.{subst, sym, ◌∙◌}
 use Rattle.dsu_runs.specs.Turns.{Steps}
 use Rattle.dsu_runs.proofs.Stepping.{stepped, still_there}
-use Rattle.dsu_runs.proofs.running.Running.make_inlined.Goals as goal
+use Rattle.dsu_runs.proofs.running.Running.make.Goals as goal
 
 pub returns-in-Done-clause-made : goal.returns-in-Done-clause-made
 returns-in-Done-clause-made g c = λ setup x there.
