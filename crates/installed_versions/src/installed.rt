@@ -1,5 +1,6 @@
 //! The versions of a run so far.
-ghost use Rattle.std.specs.Prelude.{◌≡◌, ℕ, ◌<◌, ◌≤◌, List, [], ◌∷◌, ◌++◌, false, length, map, string_bytes, IfOk, IfErr, OnOk, OnErr};
+ghost use Rattle.std.specs.Prelude.{◌≡◌, ℕ, ◌<◌, ◌≤◌, List, [], ◌∷◌, ◌++◌, None, false, length, map, option_copied, string_bytes, IfOk, IfErr, OnOk, OnErr};
+ghost use Rattle.std.specs.Arc.{arc_value};
 ghost use Rattle.c_semantics.specs.SourceTexts.{Text, text_of};
 ghost use Rattle.c_semantics.specs.Store.{store};
 ghost use Rattle.c_tree.specs.BareExpr.{Bytes};
@@ -7,21 +8,24 @@ ghost use Rattle.code_store.specs.Limits.{are_too_many};
 ghost use Rattle.name_sets.specs.Limit.{most_names};
 ghost use Rattle.name_sets.specs.Texts.{IsTable};
 ghost use Rattle.code_store.specs.Stored.{meant_body, IsStoreOf};
+ghost use Rattle.rows_in_force.specs.StoreRows.{AreRowsOver};
 ghost use Rattle.patch_build.specs.Tables.{with_texts};
 ghost use Rattle.patch_build.specs.Versions.{AreVersions, IsTableOf};
 ghost use Rattle.source_model.specs.Patches.{all_names};
 ghost use Rattle.installed_versions.specs.Firsts.{IsFirstFault, IsStoreFault};
-ghost use Rattle.installed_versions.specs.Installed.{IsInstalled, IsSeenAs, Replaces};
+ghost use Rattle.installed_versions.specs.Installed.{HasItsRows, IsInstalled, IsSeenAs, Replaces};
 
 use crate::fault::FirstFault;
 use brought_bodies::first_bodies;
 use c_types::Typed;
+use checkin_rows::Rows;
 use code_store::{Store, StoredBody};
 use name_sets::{Names, NamesFault};
 use patch_build::Versions;
 use sorted_names::names_in_order;
 use std::alloc::{AllocError, Global};
 use std::mem;
+use std::sync::Arc;
 
 /// The versions of a run so far.
 #[derive(Drop)]
@@ -32,6 +36,8 @@ pub struct Installed {
     names: Names,
     /// The bodies that they brought.
     store: Store,
+    /// The rows over these bodies, once they were computed.
+    rows: Option<Arc<Rows, Global>>,
 }
 
 /// What an install replaced.
@@ -41,12 +47,15 @@ pub struct Replaced {
     names: Names,
     /// How many bodies there were.
     bodies: usize,
+    /// The rows over these bodies, if they were kept.
+    rows: Option<Arc<Rows, Global>>,
 }
 
 impl Installed {
     /// The first version.
     pub fn first(alloc: Global, text: &Typed) -> Result<Installed, FirstFault>
         ensures installed { IfOk result (λ i. IsInstalled (text_of text.now ∷ []) i.count i.names i.store) }
+        ensures rows { IfOk result HasItsRows }
         ensures fault { IfErr result (λ fault. IsFirstFault text.now fault) }
     {
         let names = names_of(alloc, text)?;
@@ -55,6 +64,7 @@ impl Installed {
             count: 1,
             names,
             store,
+            rows: None,
         })
     }
 
@@ -70,6 +80,35 @@ impl Installed {
         ensures { result.now ≡ self.now.names }
     {
         &self.names
+    }
+
+    /// The bodies of all versions.
+    pub fn store(&self) -> &Store
+        ensures { result.now ≡ self.now.store }
+    {
+        &self.store
+    }
+
+    /// The rows over these bodies, if they are kept.
+    pub fn rows(&self) -> Option<&Arc<Rows, Global>>
+        ensures { option_copied result ≡ self.now.rows }
+    {
+        self.rows.as_ref()
+    }
+
+    /// Keeps the rows over these bodies, unless they are kept. It needs no memory.
+    pub fn keep_rows(&mut self, rows: &Arc<Rows, Global>)
+        ensures count { self.new.count ≡ self.old.count }
+        ensures names { self.new.names ≡ self.old.names }
+        ensures store { self.new.store ≡ self.old.store }
+        ensures rows { HasItsRows self.old → AreRowsOver self.old.store (arc_value rows.now) → HasItsRows self.new }
+    {
+        if self.rows.is_some() {
+            return;
+        }
+        if let Ok(shared) = Arc::try_clone(rows) {
+            self.rows = Some(shared);
+        }
     }
 
     /// The names of all versions, alone.
@@ -94,8 +133,9 @@ impl Installed {
         }
     }
 
-    /// Adds what a patch brings: the names of all versions with the new one, and its bodies. What it replaced
-    /// comes back, so that the install can be taken back. Out of memory, nothing changes.
+    /// Adds what a patch brings: the names of all versions with the new one, and its bodies. Rows over the bodies before are
+    /// those of another store, so none are kept. What it replaced comes back, so that the install can be taken back. Out of
+    /// memory, nothing changes.
     pub fn install(&mut self, names: Names, bodies: Vec<StoredBody>) -> Result<Replaced, AllocError>
         requires few { self.old.count < 64 }
         requires room { (table : List Bytes) → are_too_many
@@ -106,6 +146,7 @@ impl Installed {
             → IsStoreOf names (store (texts ++ next ∷ [])) (self.old.store ++ bodies.items)
             → OnOk result (IsInstalled (texts ++ next ∷ []) self.new.count self.new.names self.new.store) }
         ensures names { OnOk result (self.new.names ≡ names) }
+        ensures rows { OnOk result (HasItsRows self.new) }
         ensures replaced { IfOk result (Replaces self.old self.new) }
         ensures fault { OnErr result (self.new ≡ self.old) }
     {
@@ -115,6 +156,7 @@ impl Installed {
         Ok(Replaced {
             names: mem::replace(&mut self.names, names),
             bodies: before,
+            rows: self.rows.take(),
         })
     }
 
@@ -124,6 +166,7 @@ impl Installed {
     {
         self.store.truncate(replaced.bodies);
         self.names = replaced.names;
+        self.rows = replaced.rows;
         self.count = self.count.saturating_sub(1);
     }
 }

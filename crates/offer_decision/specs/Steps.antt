@@ -3,8 +3,9 @@ use Rattle.std.specs.Prelude.{◌≡◌, ℕ, ◌<◌, ◌↔◌, ◌⊎◌, IsT
 use Rattle.name_sets.specs.IdSet.{IsCommon}
 use Rattle.name_sets.specs.Texts.{IsTable}
 use Rattle.c_tree.specs.BareExpr.{Bytes}
-use Rattle.c_semantics.specs.SourceTexts.{Text}
-use Rattle.c_semantics.specs.Store.{Body, store}
+use Rattle.c_semantics.specs.Store.{Body}
+use Rattle.code_store.specs.declared.body.StoredBody.{StoredBody}
+use Rattle.code_store.specs.Stored.{IsStoreOf}
 use Rattle.con_freeness.specs.declared.row.Row.{Row}
 use Rattle.con_freeness.specs.Decisions.{IsListOf}
 use Rattle.con_freeness.specs.Rows.{Names}
@@ -17,12 +18,12 @@ use Rattle.rows_in_force.specs.Origins.{function_of, mark_of}
 use Rattle.patch_build.specs.declared.fault.PatchFault.{PatchFault}
 use Rattle.patch_build.specs.declared.fault.PatchFault.TheVariants.{Not}
 use Rattle.patch_build.specs.declared.patch.Patch.{Patch}
-use Rattle.patch_build.specs.declared.patch.Versions.{Versions}
-use Rattle.patch_build.specs.Versions.{AreVersions}
 use Rattle.offer_decision.specs.declared.answer.Decision.{Decision}
 use Rattle.offer_decision.specs.declared.answer.Decision.TheVariants as decision
 use Rattle.offer_decision.specs.declared.answer.Tested.{Tested}
 use Rattle.offer_decision.specs.declared.answer.Tested.TheVariants as tested
+use Rattle.offer_decision.specs.declared.prepared.Found.{Found}
+use Rattle.offer_decision.specs.declared.prepared.Found.TheVariants as found
 use Rattle.offer_decision.specs.declared.seat.Seat.{Seat}
 use Rattle.offer_decision.specs.Decided.{IsRefusal, IsAdmission}
 use Rattle.offer_decision.specs.Seats.{AreSeats}
@@ -69,13 +70,13 @@ IsTested names changed interface rows seats answer =
     → IsListOf names changed changed_names → IsListOf names interface interface_names
     → SaysRight rules bodies slots seats names changed_names interface_names answer
 
--- the answer of the test over versions
-abbrev pub IsTestedOver : Versions → ℕ → ℕ → List Seat → Tested → Type 0
-IsTestedOver versions changed interface seats answer =
-    (rules : Rules) (texts : List Text) (slots : List kept.Seat) (changed_names interface_names : Names)
-    → AreRows rules.row → AreVersions texts versions → AreSeats versions.names.now (store texts) seats slots
-    → IsListOf versions.names.now changed changed_names → IsListOf versions.names.now interface interface_names
-    → SaysRight rules (store texts) slots seats versions.names.now changed_names interface_names answer
+-- the answer of the test over the bodies of a store
+abbrev pub IsTestedOver : List Bytes → List StoredBody → ℕ → ℕ → List Seat → Tested → Type 0
+IsTestedOver names stored changed interface seats answer =
+    (rules : Rules) (bodies : List Body) (slots : List kept.Seat) (changed_names interface_names : Names)
+    → AreRows rules.row → IsStoreOf names bodies stored → AreSeats names bodies seats slots
+    → IsListOf names changed changed_names → IsListOf names interface interface_names
+    → SaysRight rules bodies slots seats names changed_names interface_names answer
 
 -- a decision says right what the test does, on a patch
 abbrev pub SaysOfPatch : Rules → List Body → List kept.Seat → List Seat → Names → Names → Names → Patch → Decision → Type 0
@@ -85,15 +86,15 @@ SaysOfPatch rules bodies slots seats names changed interface patch (decision.Ref
     IsRefusal rules bodies slots names changed interface r
 SaysOfPatch rules bodies slots seats names changed interface patch (decision.NotPatch cause) = ⊥
 
--- the decision on a patch over versions
-abbrev pub IsAnswer : Versions → Patch → List Seat → Decision → Type 0
-IsAnswer versions patch seats decision =
-    (rules : Rules) (texts : List Text) (slots : List kept.Seat) (changed_names interface_names : Names)
-    → AreRows rules.row → AreVersions texts versions → AreSeats versions.names.now (store texts) seats slots
-    → IsListOf versions.names.now patch.changed changed_names → IsListOf versions.names.now patch.interface interface_names
-    → SaysOfPatch rules (store texts) slots seats versions.names.now changed_names interface_names patch decision
+-- the decision on a patch over the bodies of a store
+abbrev pub IsAnswer : List Bytes → List StoredBody → Patch → List Seat → Decision → Type 0
+IsAnswer names stored patch seats decision =
+    (rules : Rules) (bodies : List Body) (slots : List kept.Seat) (changed_names interface_names : Names)
+    → AreRows rules.row → IsStoreOf names bodies stored → AreSeats names bodies seats slots
+    → IsListOf names patch.changed changed_names → IsListOf names patch.interface interface_names
+    → SaysOfPatch rules bodies slots seats names changed_names interface_names patch decision
 
--- the decision where there is no patch
-abbrev pub IsOfFault : PatchFault → Decision → Type 0
-IsOfFault fault (decision.NotPatch cause) = fault ≡ Not cause
+-- what is found where there is no patch
+abbrev pub IsOfFault : PatchFault → Found → Type 0
+IsOfFault fault (found.NotPatch cause) = fault ≡ Not cause
 IsOfFault fault _ = ⊥

@@ -1,9 +1,10 @@
 //! Offers to the small program of the documents on admission.
 use crate::texts::{first_of, read};
+use c_types::Typed;
 use con_freeness::{Effect, Refusal};
 use dsu_io::Boxed;
 use name_sets::{NameId, Names};
-use offer_decision::{Decision, Seat, decision};
+use offer_decision::{Decision, Offered, Seat, decide_prepared, prepare};
 use patch_build::Versions;
 use rows_in_force::Origin;
 use source_model::NotPatch;
@@ -123,14 +124,25 @@ fn answer_of(names: &Names, decision: &Decision) -> Answer {
     }
 }
 
-/// What is decided on an offer after some versions.
-fn answer_to(alloc: Global, versions: Versions<'_>, case: &Case) -> Result<Answer, Fail> {
-    let (point, pinned, text, _) = *case;
+/// What is decided on an offer of a text after some versions.
+fn answer_to<'a>(
+    alloc: Global,
+    versions: Versions<'a>,
+    text: &'a Typed,
+    case: &Case,
+) -> Result<Answer, Fail> {
+    let (point, pinned, _, _) = *case;
     let main = versions.names.find("main").ok_or("an id")?;
-    let new = read(alloc, text)?;
-    let Ok(decision) = decision(alloc, versions, new.get(), &seats(main, point, pinned)) else {
-        return Err(Fail::new("nothing is decided"));
+    let offered = Offered {
+        versions,
+        text,
+        rows: None,
     };
+    let Ok(prepared) = prepare(alloc, offered) else {
+        return Err(Fail::new("nothing is prepared"));
+    };
+    let seats = seats(main, point, pinned);
+    let decision = decide_prepared(prepared, versions.names, versions.store, &seats);
     let answer = answer_of(versions.names, &decision);
     drop(decision);
     Ok(answer)
@@ -139,7 +151,8 @@ fn answer_to(alloc: Global, versions: Versions<'_>, case: &Case) -> Result<Answe
 /// Whether each case has its answer.
 fn are_answered(alloc: Global, versions: Versions<'_>, cases: &[Case]) -> Result<bool, Fail> {
     for case in cases {
-        if answer_to(alloc, versions, case)? != case.3 {
+        let new = read(alloc, case.2)?;
+        if answer_to(alloc, versions, new.get(), case)? != case.3 {
             return Ok(false);
         }
     }
