@@ -8,7 +8,7 @@ ghost use Rattle.accepted_runs.specs.AcceptedRuns.{TextsAreAccepted};
 ghost use Rattle.dsu_runs.specs.Setups.{limits_of, setup_of};
 ghost use Rattle.plain_engine.specs.Plain.{IsAt};
 ghost use Rattle.image_load.specs.Loaded.{HasFewNames};
-ghost use Rattle.compiled_run.specs.Compiled.{Lasts, compiled_shown};
+ghost use Rattle.compiled_run.specs.Compiled.{CanBeAsked, Lasts, compiled_shown};
 
 use accepted_runs::accepted_runs_misuse_nothing;
 use c_types::Typed;
@@ -42,6 +42,7 @@ pub fn compiled_engine<S: Sink>(
     ensures start { let setup = setup_of text offers.items lines.items objects in
         IfOk result (λ e. IsAt compiled_shown setup (first_guard setup) e.state e.printed e.written) }
     ensures lasts { IfOk result (λ e. Lasts (2 ^ 32 - 1) e.state.run) }
+    ensures asked { IfOk result (λ e. CanBeAsked e.state.run) }
     ensures told { IfOk result (λ e. e.sink ≡ sink) }
     ensures back { IfErr result (λ e. e.sink ≡ sink) }
     ensures fault { IfErr result (λ e. e.why ≡ FirstFault.Memory) }
@@ -72,6 +73,7 @@ fn first_run(
     ensures trees { IfOk result (λ r. (compiled_shown r).trees ≡ text ∷ offers.items) }
     ensures kept { IfOk result (λ r. (compiled_shown r).kept ≡ 0) }
     ensures lasts { IfOk result (Lasts (2 ^ 32 - 1)) }
+    ensures asked { IfOk result CanBeAsked }
     ensures fault { IfErr result (λ fault. fault ≡ LoadFault.Memory) }
 {
     let mut texts = vec![in alloc; text]?;

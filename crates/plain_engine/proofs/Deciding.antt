@@ -1,9 +1,8 @@
 -- The decision on an offer.
 use Rattle.std.proofs.Common.{Bor, ◌≡◌, ℕ, zero, suc, ◌<◌, Bool, true, false, List, [], ◌∷◌, ◌++◌, All, Contains, map, length, slice_get, Option, Some, None, refl, sym, ◌∙◌, ap, subst, arith}
-use Rattle.std.specs.Prelude.{◌&&◌, ◌||◌, not, option_copied, IfNone, if◌then◌else◌}
+use Rattle.std.specs.Prelude.{◌&&◌, ◌||◌, not, option_copied, IfNone, IfSome, if◌then◌else◌}
 use Rattle.patch_build.specs.declared.patch.Versions.{Versions}
 use Rattle.patch_build.specs.Versions.{AreVersions}
-use Rattle.installed_versions.specs.Installed.{IsInstalled, IsSeenAs}
 use Rattle.std.proofs.lemmas.List.{append-nil, length-map}
 use Rattle.std.proofs.lemmas.Option.{none-some, same_Some}
 use Rattle.run_types.specs.declared.run.Event.TheVariants.{Decide}
@@ -27,7 +26,7 @@ use Rattle.run_machine.specs.Machines.{Shown}
 use Rattle.offer_decision.specs.declared.answer.Decision.{Decision}
 use Rattle.offer_decision.specs.declared.answer.Decision.TheVariants as decision
 use Rattle.offer_decision.specs.declared.seat.Seat.{Seat as Seen}
-use Rattle.offer_decision.specs.Decided.{ForOffer, IsDecision, verdict_on}
+use Rattle.offer_decision.specs.Decided.{IsDecision, verdict_on}
 use Rattle.con_freeness.specs.Decisions.{AreKnown}
 use Rattle.offer_decision.specs.Seats.{AreSeats as AreSeatsSeen, IsSeat as IsSeatSeen, AreInTransactions}
 use Rattle.offer_decision.proofs.ChangedNames.{changed_known, interface_known}
@@ -203,23 +202,23 @@ not_over g going right = ap (λ b. b || has_ended g) right ∙ going
 module _ (setup : Setup) (g : Guard) (k : ℕ) (s : ShownState) (at : IsStateAt setup g s) (going : has_ended g ≡ false)
     (right : g.world.misused ≡ false) (offered : is_open g k ≡ true) (some : 0 < k) where
   module _ (d : Decision) (is : IsDecided s k d) where
-    last_is : g.versions ≡ at.versions.before ++ text_of is.last ∷ []
+    last_is : g.versions ≡ at.versions.before ++ text_of is.at.last ∷ []
     last_is =
         at.versions.last_is
         ∙ ap (λ (p : Program). at.versions.before ++ text_of p ∷ [])
-        (same_Some at.versions.tree is.last (sym at.versions.numbered ∙ is.last_at))
+        (same_Some at.versions.tree is.at.last (sym at.versions.numbered ∙ is.at.last_at))
 
     pub says : (rules : Rules) → AreRows rules.row → IsDecision rules g.versions g.seats is.versions is.next is.seats d
     says rules rows =
         let names = is.versions.names.now in
-        let are = is.are g.versions at.versions.before at.versions.installed last_is in
-        let seen = subst (λ ns. AreSeen s.run.words ns s.installed.count s.seats is.seats) (sym is.same.names_are) is.seen in
+        let are = is.at.are g.versions at.versions.before at.versions.installed last_is in
+        let seen = subst (λ ns. AreSeen s.run.words ns s.installed.count s.seats is.seats) (sym is.at.same.names_are) is.seen in
         same_decision rules rows names g.versions g.seats is.versions is.next is.seats d refl are
         (is.says rules g.versions (map (seat_among names) g.seats) rows are
         (seats_for g s.run s.seats names s.installed.count is.seats at.seats at.versions.installed.count_is going (not_over g going right) seen))
 
     offer : (lines : ℕ) × (offer_at setup k ≡ Some (record { text = text_of is.next; lines = lines }))
-    offer = offer_is setup g s.run k is.next at.run some is.next_at
+    offer = offer_is setup g s.run k is.next at.run some is.at.next_at
 
   closes : (a : Answer) (book : Entries) → ((rules : Rules) → AreRows rules.row → decide rules g k (offer_at setup k) ≡ Some (answered k a g))
       → IsBook setup (answered k a g) s.installed.names book → Happened setup (Decide k) g (record s { book = book }) []
@@ -248,7 +247,7 @@ module _ (setup : Setup) (g : Guard) (k : ℕ) (s : ShownState) (at : IsStateAt 
   -- it is refused
   refused_as : (r : RefusalOfIds) (is : IsDecided s k (decision.Refused r))
       → refusal_seen is.versions.names.now r ≡ refusal_seen s.installed.names r
-  refused_as r is = ap (λ names. refusal_seen names r) is.same.names_are
+  refused_as r is = ap (λ names. refusal_seen names r) is.at.same.names_are
 
   pub refused : (r : RefusalOfIds) (book : Entries) → IsDecided s k (decision.Refused r)
       → IsBook setup (answered k (RefusedFor (refusal_seen s.installed.names r)) g) s.installed.names book
@@ -267,33 +266,7 @@ module _ (setup : Setup) (g : Guard) (k : ℕ) (s : ShownState) (at : IsStateAt 
   refusal_says r is more =
       ap RefusedFor
       (refusals_stay s.installed.names more r
-      (subst (λ names. AreKnown names r.effect) is.same.names_are (says (decision.Refused r) is any_rules any_are_rows).1.known))
-
--- what the decision of a state says
-pub decided_as : (s : ShownState) (k : ℕ) (versions : Versions) (last next : Program) (seats : List Seen) (d : Decision)
-    → slice_get s.run.trees s.last ≡ Some last → slice_get s.run.trees k ≡ Some next
-    → IsSeenAs versions s.installed.count s.installed.names s.installed.store
-    → ((texts before : List Text) → IsInstalled texts s.installed.count s.installed.names s.installed.store
-    → texts ≡ before ++ text_of last ∷ [] → AreVersions texts versions)
-    → AreSeen s.run.words versions.names.now versions.count s.seats seats
-    → ((setup : Setup) (g : Guard) → IsRunAt setup g s.run → AreWithin g.world seats)
-    → ForOffer versions seats (λ rules texts slots. IsDecision rules texts slots versions next seats d)
-    → IsDecided s k d
-decided_as s k versions last next seats d last_at next_at same are seen within says = record {
-  versions = versions;
-  last = last;
-  next = next;
-  seats = seats;
-  last_at = last_at;
-  next_at = next_at;
-  same = same;
-  are = are;
-  seen =
-      subst (λ ns. AreSeen s.run.words ns s.installed.count s.seats seats) same.names_are
-      (subst (λ n. AreSeen s.run.words versions.names.now n s.seats seats) same.count_is seen);
-  within = within;
-  says = says;
-}
+      (subst (λ names. AreKnown names r.effect) is.at.same.names_are (says (decision.Refused r) is any_rules any_are_rows).1.known))
 
 -- a text that was found
 pub found : {A : Type 0} (o : Option (Bor A)) (b : Bor A) (xs : List A) (n : ℕ) → option_copied o ≡ slice_get xs n → o ≡ Some b
@@ -305,7 +278,11 @@ pub not_found : {A : Type 0} (o : Option (Bor A)) (xs : List A) (n : ℕ) → op
     → slice_get xs n ≡ None
 not_found o xs n e is = sym e ∙ ap option_copied is
 
--- what holds where there is no decision
-pub none_there : {X : Type 0} (o : Option Decision) → o ≡ None → IfNone o X → X
+-- what holds where there is nothing
+pub none_there : {A X : Type 0} (o : Option A) → o ≡ None → IfNone o X → X
 none_there None e x = x
 none_there (Some d) e x = absurd (none-some d (sym e))
+
+-- and where there is something
+pub some_there : {A : Type 0} (F : A → Type 0) (o : Option A) (x : A) → o ≡ Some x → IfSome o F → F x
+some_there F o x e h = subst (λ p. IfSome p F) e h

@@ -40,7 +40,7 @@ use Rattle.run_machine.specs.Machines.{KeepsTexts, NeedsHold, Shown}
 use Rattle.source_runner.specs.SourceRuns.{world_after}
 use Rattle.source_runner.proofs.AfterMoves.{installed_versions, then_install}
 use Rattle.type_transformers.specs.Changes.{IsChange, changing, name_of}
-use Rattle.installed_versions.specs.Installed.{IsInstalled}
+use Rattle.installed_versions.specs.Installed.{HasItsRows, IsInstalled}
 use Rattle.installed_versions.specs.declared.installed.Installed.{Installed as Versions}
 use Rattle.offer_decision.specs.declared.answer.Decision.TheVariants as decision
 use Rattle.offer_decision.specs.Decided.{IsDecision}
@@ -204,12 +204,12 @@ module _ (setup : Setup) (g : Guard) (k : ℕ) (s : ShownState) (at : IsStateAt 
       → are_too_many (map (meant_body names) s.installed.store ++ map (meant_body names) patch.bodies.items) ≡ false
   roomy names =
       subst (λ bodies. are_too_many (map (meant_body names) bodies ++ map (meant_body names) patch.bodies.items) ≡ false)
-      is.same.bodies_are (patch_for.room names)
+      is.at.same.bodies_are (patch_for.room names)
 
   -- what the machine and the versions are given
   pub store_is : IsStoreOf patch.names (store (g.versions ++ text_of is.next ∷ [])) (s.installed.store ++ patch.bodies.items)
   store_is =
-      subst (λ bodies. IsStoreOf patch.names (store (g.versions ++ text_of is.next ∷ [])) (bodies ++ patch.bodies.items)) is.same.bodies_are
+      subst (λ bodies. IsStoreOf patch.names (store (g.versions ++ text_of is.next ∷ [])) (bodies ++ patch.bodies.items)) is.at.same.bodies_are
       patch_for.store
 
   pub names_are : IsTableOf (all_names (g.versions ++ text_of is.next ∷ [])) patch.names
@@ -224,13 +224,13 @@ module _ (setup : Setup) (g : Guard) (k : ℕ) (s : ShownState) (at : IsStateAt 
       ∙ ap last_text (sym at.run.versions)
     where
       seen : AreVersions g.versions is.versions
-      seen = is.are g.versions at.versions.before at.versions.installed
+      seen = is.at.are g.versions at.versions.before at.versions.installed
           (at.versions.last_is
           ∙ ap (λ (p : Program). at.versions.before ++ text_of p ∷ [])
-          (same_Some at.versions.tree is.last (sym at.versions.numbered ∙ is.last_at)))
+          (same_Some at.versions.tree is.at.last (sym at.versions.numbered ∙ is.at.last_at)))
 
   new_is : (text_of is.next).definitions ≡ slice_index_or (texts_of setup) k []
-  new_is = sym (get_or_from_slice_get (texts_of setup) k (text_of is.next).definitions [] (text_is setup g s.run k is.next at.run is.next_at))
+  new_is = sym (get_or_from_slice_get (texts_of setup) k (text_of is.next).definitions [] (text_is setup g s.run k is.next at.run is.at.next_at))
 
   pub changing_is : map name_of patch.transforms.items
       ≡ changing (last_text (versions_by (texts_of setup) at.run.moves)) (slice_index_or (texts_of setup) k [])
@@ -250,7 +250,7 @@ module _ (setup : Setup) (g : Guard) (k : ℕ) (s : ShownState) (at : IsStateAt 
       ≡ option_map (installed_over rules g k (text_of is.next) (changed (last_definitions g.versions) (text_of is.next).definitions))
       (install g.world (Some (text_of is.next).definitions))
   decided rules rows =
-      let o = offer_is setup g s.run k is.next at.run some is.next_at in
+      let o = offer_is setup g s.run k is.next at.run some is.at.next_at in
       ap (decide rules g k) o.1
       ∙ admission_is_decided rules g k o.0 is.versions is.next is.seats patch pins (said rules rows)
 
@@ -258,7 +258,7 @@ module _ (setup : Setup) (g : Guard) (k : ℕ) (s : ShownState) (at : IsStateAt 
       → install g.world (Some (text_of is.next).definitions) ≡ new_world
   came new_world e =
       sym (then_install (texts_of setup) setup.limits at.run.moves k g.world at.run.world
-      ∙ ap (install g.world) (text_is setup g s.run k is.next at.run is.next_at))
+      ∙ ap (install g.world) (text_is setup g s.run k is.next at.run is.at.next_at))
       ∙ e
 
   -- where the machine can't take it
@@ -332,7 +332,8 @@ module _ (setup : Setup) (g : Guard) (k : ℕ) (s : ShownState) (at : IsStateAt 
   module _ (new : Shown) (i : Versions) (keeps : KeepsTexts s.run new)
       (r : new.is_run (texts_of setup) setup.limits (at.run.moves ++ source.Install k ∷ [])) (w : World)
       (ran : world_after (texts_of setup) setup.limits (at.run.moves ++ source.Install k ∷ []) ≡ Some w)
-      (brought : IsInstalled (g.versions ++ text_of is.next ∷ []) i.count i.names i.store) (named : i.names ≡ patch.names) where
+      (brought : IsInstalled (g.versions ++ text_of is.next ∷ []) i.count i.names i.store) (named : i.names ≡ patch.names)
+      (fresh : HasItsRows i) where
     seats_are : (later : List Seat) → ArePinned pins s.seats later → AreSeats (after w ran) new later
     seats_are later pinned = record {
       many = ap length (sym (pins_set w ran any_rules any_are_rows))
@@ -373,7 +374,7 @@ module _ (setup : Setup) (g : Guard) (k : ℕ) (s : ShownState) (at : IsStateAt 
 
     book_is : IsBook setup g i.names s.book
     book_is =
-        subst (λ names. IsBook setup g names s.book) (sym (named ∙ patch_for.ids.is ∙ ap (λ ns. ns ++ patch_for.ids.more) is.same.names_are))
+        subst (λ names. IsBook setup g names s.book) (sym (named ∙ patch_for.ids.is ∙ ap (λ ns. ns ++ patch_for.ids.more) is.at.same.names_are))
         (more_names setup g s.installed.names patch_for.ids.more s.book at.book)
 
     pub followed : IsFollowed setup g k pins (record s { run = new; installed = i }) (after w ran)
@@ -386,8 +387,9 @@ module _ (setup : Setup) (g : Guard) (k : ℕ) (s : ShownState) (at : IsStateAt 
         versions = versions_so w ran;
       };
       installed = brought;
+      rows = fresh;
       tree = is.next;
-      numbered = ap (λ ts. slice_get ts k) keeps.0 ∙ is.next_at;
+      numbered = ap (λ ts. slice_get ts k) keeps.0 ∙ is.at.next_at;
       versions = refl;
       seats = seats_are;
       offered = offered;

@@ -6,9 +6,11 @@ mod Moving
 mod QuietEvents
 mod KnownMarks
 mod Deciding
+mod Preparing
 mod Withholding
 mod Installing
 mod Engines
 mod Starting
 mod Querying
 mod Threads
+mod Turning

@@ -76,6 +76,7 @@ same_state setup g s new at keeps run = record {
     tree = at.versions.tree;
     numbered = ap (λ ts. slice_get ts s.last) keeps.0 ∙ at.versions.numbered;
     last_is = at.versions.last_is;
+    rows = at.versions.rows;
   };
   book = at.book;
   reached = at.reached;
@@ -178,6 +179,7 @@ module _ (setup : Setup) (g : Guard) (s : ShownState) (at : IsStateAt setup g s)
             tree = at.versions.tree;
             numbered = ap (λ ts. slice_get ts s.last) keeps_texts.0 ∙ at.versions.numbered;
             last_is = at.versions.last_is;
+            rows = at.versions.rows;
           };
           book = same_offers setup g (moved g slot w) s.installed.names s.book refl refl refl refl at.book;
           reached = reached_so slot none_at w ran;

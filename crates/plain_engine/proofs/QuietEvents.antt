@@ -71,6 +71,7 @@ with_offers setup g s book opened greatest closed given at is reached = record {
     tree = at.versions.tree;
     numbered = at.versions.numbered;
     last_is = at.versions.last_is;
+    rows = at.versions.rows;
   };
   book = is;
   reached = reached;
@@ -282,6 +283,7 @@ module _ (setup : Setup) (g : Guard) (slot : ℕ) (s : ShownState) (at : IsState
         tree = at.versions.tree;
         numbered = at.versions.numbered;
         last_is = at.versions.last_is;
+        rows = at.versions.rows;
       };
       book = same_offers setup g (checked_in (bodies_of g) g slot) s.installed.names s.book refl refl refl refl at.book;
       reached = then_reached setup (CheckIn slot) g (checked_in (bodies_of g) g slot) at.reached (checks_in none);

@@ -15,7 +15,7 @@ use Rattle.source_programs.specs.Programs.{text_in}
 use Rattle.run_machine.specs.Machines.{Shown}
 use Rattle.resolved_tree.specs.Nodes.{word}
 use Rattle.resolved_tree.specs.declared.words.Word.{Word}
-use Rattle.installed_versions.specs.Installed.{IsInstalled}
+use Rattle.installed_versions.specs.Installed.{HasItsRows, IsInstalled}
 use Rattle.dsu_runs.specs.Books.{IsBook}
 use Rattle.dsu_runs.specs.Setups.{limits_of, offers_of, setup_of}
 use Rattle.plain_engine.specs.declared.seat.Seat.{Seat}
@@ -69,12 +69,12 @@ first_run_at text programs lines objects r equal is trees = record {
 pub first_state : (text : Program) (programs : List Program) (lines : List ℕ) (objects : ℕ) (s : ShownState)
     → IsRunAt (setup_of text programs lines objects) (first_guard (setup_of text programs lines objects)) s.run
     → AreSeats (first_guard (setup_of text programs lines objects)) s.run s.seats
-    → IsInstalled (text_of text ∷ []) s.installed.count s.installed.names s.installed.store → s.last ≡ 0
+    → IsInstalled (text_of text ∷ []) s.installed.count s.installed.names s.installed.store → HasItsRows s.installed → s.last ≡ 0
     → s.run.trees ≡ text ∷ programs
     → IsBook (setup_of text programs lines objects) (first_guard (setup_of text programs lines objects)) s.installed.names s.book
     → MeetsNeeds s.run.needs (setup_of text programs lines objects)
     → IsStateAt (setup_of text programs lines objects) (first_guard (setup_of text programs lines objects)) s
-first_state text programs lines objects s run seats installed last trees book meets = record {
+first_state text programs lines objects s run seats installed rows last trees book meets = record {
   run = run;
   seats = seats;
   versions = record {
@@ -83,6 +83,7 @@ first_state text programs lines objects s run seats installed last trees book me
     tree = text;
     numbered = ap (slice_get s.run.trees) last ∙ ap (λ ts. slice_get ts 0) trees;
     last_is = refl;
+    rows = rows;
   };
   book = book;
   reached = first_reached (setup_of text programs lines objects);

@@ -39,7 +39,7 @@ past_last (x ∷ xs) zero none = absurd (none-some x (sym none))
 past_last (x ∷ xs) (suc n) none = let rest = past_last xs n none in omega (arith, rest)
 
 -- no thread lives past the last slot
-none_past : (seats : List Seat) (n : ℕ) → length seats ≤ n → has_thread seats n ≡ false
+pub none_past : (seats : List Seat) (n : ℕ) → length seats ≤ n → has_thread seats n ≡ false
 none_past seats n past = ap (λ (s : Seat). is_there s.kept) (get_or_past seats n empty past)
 
 -- something else kept of a slot

@@ -11,9 +11,11 @@ use Rattle.source_model.specs.JournalLaws.{texts_of}
 use Rattle.version_laws.specs.Histories.{versions_by}
 use Rattle.source_runner.specs.SourceRuns.{world_after}
 use Rattle.run_machine.specs.Machines.{Shown}
-use Rattle.installed_versions.specs.Installed.{IsInstalled}
+use Rattle.installed_versions.specs.Installed.{HasItsRows, IsInstalled}
 use Rattle.installed_versions.specs.declared.installed.Installed.{Installed}
 use Rattle.dsu_runs.specs.Books.{Entries, IsBook}
+use Rattle.dsu_runs.specs.declared.engine.Turn.{Turn}
+use Rattle.dsu_runs.specs.declared.engine.Turn.TheVariants as turn
 use Rattle.dsu_runs.specs.declared.engine.Made.{Made}
 use Rattle.dsu_runs.specs.declared.engine.Made.TheVariants.{Done, CannotHappen, SinkFailed}
 use Rattle.plain_engine.specs.declared.seat.Seat.{Seat}
@@ -36,13 +38,14 @@ pub record AreSeats (g : Guard) (r : Shown) (seats : List Seat) : Type 0 where
       → slice_get g.seats n ≡ Some own
       → IsSeat r.words (bodies_of g) (length g.versions) (is_over g.world) (in_slot g.world n) kept own
 
--- the versions are those of a guard, and the last of them is the run's text with this number
+-- the versions are those of a guard, the last of them is the run's text with this number, and rows that are kept are theirs
 pub record AreInstalled (g : Guard) (r : Shown) (i : Installed) (last : ℕ) : Type 0 where
   pub installed : IsInstalled g.versions i.count i.names i.store
   pub before : List Text
   pub tree : Program
   pub numbered : slice_get r.trees last ≡ Some tree
   pub last_is : g.versions ≡ before ++ text_of tree ∷ []
+  pub rows : HasItsRows i
 
 -- what is said of a state: what is said of its machine, and what is kept beside it
 pub record ShownState : Type 1 where
@@ -85,3 +88,11 @@ Wrote output printed told now new CannotHappen = ⊥
 -- how many lines end in some bytes
 abbrev pub lines_among : List ℕ → ℕ
 lines_among bytes = count_by (λ c. c == 10) bytes
+
+-- what a turn came to in which the thread in a slot moved, to a guard, where so many bytes were printed before
+abbrev pub IsTurnAfter : ℕ → Guard → ℕ → Turn → Type 0
+IsTurnAfter slot g printed (turn.Moved t) = (t ≡ slot) × (has_ended g ≡ false) × (length g.world.output ≡ printed)
+IsTurnAfter slot g printed (turn.Changed t) = t ≡ slot
+IsTurnAfter slot g printed (turn.CheckedIn t) = ⊥
+IsTurnAfter slot g printed (turn.SinkFailed t) = ⊥
+IsTurnAfter slot g printed turn.NoneActs = ⊥

@@ -8,8 +8,7 @@ use Rattle.source_model.specs.Guards.{Guard, Rules, Setup, answered, is_open}
 use Rattle.source_model.specs.Journals as journal
 use Rattle.effects.specs.Rows.{AreRows}
 use Rattle.patch_build.specs.declared.patch.Versions.{Versions}
-use Rattle.patch_build.specs.Versions.{AreVersions}
-use Rattle.installed_versions.specs.Installed.{IsInstalled, IsSeenAs}
+use Rattle.installed_versions.specs.Installed.{HasItsRows, IsInstalled}
 use Rattle.offer_decision.specs.declared.answer.Decision.{Decision}
 use Rattle.offer_decision.specs.declared.seat.Seat.{Seat as Seen}
 use Rattle.offer_decision.specs.Decided.{ForOffer, IsDecision}
@@ -21,6 +20,7 @@ use Rattle.plain_engine.specs.declared.seat.Seat.{Seat}
 use Rattle.plain_engine.specs.Kept.{ArePinned}
 use Rattle.plain_engine.specs.Needs.{IsReached, MeetsNeeds}
 use Rattle.plain_engine.specs.Plain.{AreSeats, IsRunAt, IsStateAt, ShownState}
+use Rattle.plain_engine.specs.Prepared.{AreVersionsAt}
 use Rattle.plain_engine.specs.Seen.{AreSeen, AreWithin}
 
 -- an event was made, and it printed so many bytes
@@ -54,14 +54,9 @@ MayWithhold s k why.UndefinedName = 0 < k → (setup : Setup) (g : Guard) → Is
 -- what is decided on an offer, over the versions and the slots of a state
 pub record IsDecided (s : ShownState) (k : ℕ) (decision : Decision) : Type 0 where
   pub versions : Versions
-  pub last : Program
   pub next : Program
   pub seats : List Seen
-  pub last_at : slice_get s.run.trees s.last ≡ Some last
-  pub next_at : slice_get s.run.trees k ≡ Some next
-  pub same : IsSeenAs versions s.installed.count s.installed.names s.installed.store
-  pub are : (texts before : List Text) → IsInstalled texts s.installed.count s.installed.names s.installed.store
-      → texts ≡ before ++ text_of last ∷ [] → AreVersions texts versions
+  pub at : AreVersionsAt s k versions next
   pub seen : AreSeen s.run.words s.installed.names s.installed.count s.seats seats
   pub within : (setup : Setup) (g : Guard) → IsRunAt setup g s.run → AreWithin g.world seats
   pub says : ForOffer versions seats (λ rules texts slots. IsDecision rules texts slots versions next seats decision)
@@ -71,6 +66,7 @@ pub record IsDecided (s : ShownState) (k : ℕ) (decision : Decision) : Type 0 w
 pub record IsFollowed (setup : Setup) (g : Guard) (k : ℕ) (pins : List Bool) (s : ShownState) (after : Guard) : Type 0 where
   pub run : IsRunAt setup after s.run
   pub installed : IsInstalled after.versions s.installed.count s.installed.names s.installed.store
+  pub rows : HasItsRows s.installed
   pub tree : Program
   pub numbered : slice_get s.run.trees k ≡ Some tree
   pub versions : after.versions ≡ g.versions ++ text_of tree ∷ []

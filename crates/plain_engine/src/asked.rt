@@ -107,7 +107,7 @@ impl<M: Machine, S: Sink> PlainEngine<M, S> {
     /// The number of the point at which the innermost frame of the thread in a slot stops next, if that is what the thread
     /// does next; none where it enters a function, or traps before it stops. It is asked of a run that isn't over.
     pub fn next_point(&self, slot: u8) -> Option<u32>
-        ensures { (setup : Setup) (g : Guard) → IsAt M.shown setup g self.now.state self.now.printed self.now.written
+        ensures { M.asks self.now.state.run → (setup : Setup) (g : Guard) → IsAt M.shown setup g self.now.state self.now.printed self.now.written
             → is_over g.world ≡ false → result ≡ next_point_in (in_slot g.world slot) }
     {
         self.state.run.next_point(slot)

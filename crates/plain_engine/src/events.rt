@@ -6,7 +6,7 @@ ghost use Rattle.dsu_runs.specs.Engines.{waiting_of};
 use crate::PlainEngine;
 use crate::state::SLOTS;
 use dsu_io::Sink;
-use dsu_runs::{Engine, Made, Stands, Undecided, Waiting};
+use dsu_runs::{Engine, Made, Stands, Turn, Undecided, Waiting};
 use name_sets::Names;
 use run_machine::Machine;
 use run_types::{Ending, Event};
@@ -24,6 +24,8 @@ impl<M: Machine, S: Sink> Engine for PlainEngine<M, S> {
     ghost faults = { λ engine. S.faults engine.sink };
 
     ghost table = { λ engine. engine.state.installed.names };
+
+    ghost asks = { λ engine. M.asks engine.state.run };
 
     fn slots(&self) -> u8 {
         SLOTS
@@ -64,6 +66,11 @@ impl<M: Machine, S: Sink> Engine for PlainEngine<M, S> {
     #[inline(always)]
     fn check_in(&mut self, slot: u8) -> Made {
         self.check_in(slot)
+    }
+
+    #[inline(always)]
+    fn act_next(&mut self, last: Option<u8>) -> Result<Turn, AllocError> {
+        self.act_next(last)
     }
 
     fn offers(&self) -> u8 {

@@ -19,6 +19,7 @@ mod decision;
 mod engine;
 mod events;
 mod moves;
+mod prepared;
 mod seat;
 mod seats;
 mod seen;

@@ -1,7 +1,8 @@
 //! The state of a run beside its output.
-ghost use Rattle.std.specs.Prelude.{◌≡◌, ◌+◌, ◌≤◌, ◌<◌, ◌-◌, ℕ, List, [], ◌∷◌, ◌++◌, false, true, length, map, slice_get, Some, IfOk, IfErr, IsOk, OnErr};
+ghost use Rattle.std.specs.Prelude.{◌≡◌, ◌+◌, ◌≤◌, ◌<◌, ◌-◌, ℕ, List, [], ◌∷◌, ◌++◌, false, true, length, map, slice_get, Some, None, MatchOption, IfOk, IfErr, IsOk, OnErr};
 ghost use Rattle.std.specs.List.{range_with_len};
 ghost use Rattle.c_tree.specs.declared.def.Program.{Program};
+ghost use Rattle.run_types.specs.declared.run.Event.{Event};
 ghost use Rattle.run_types.specs.declared.run.Event.TheVariants.{Move, CheckIn, Offer, Withdraw};
 ghost use Rattle.source_model.specs.Worlds.{is_over};
 ghost use Rattle.source_model.specs.Guards.{Guard, Setup, first_guard, has_ended, lines_written, seat_of};
@@ -118,7 +119,7 @@ impl<M: Machine> State<M> {
     /// passes its check-in, or makes its move.
     #[inline(always)]
     pub(crate) fn next_act(&self, last: Option<u8>) -> Option<Event>
-        ensures { (setup : Setup) (g : Guard) → IsStateAt setup g (state_shown M.shown self.now) → has_ended g ≡ false
+        ensures { M.asks self.now.run → (setup : Setup) (g : Guard) → IsStateAt setup g (state_shown M.shown self.now) → has_ended g ≡ false
             → length g.seats ≡ length g.world.slots → result ≡ first_act g (slots_after (length g.seats) last) }
     {
         let first = first_after(last);
@@ -128,11 +129,26 @@ impl<M: Machine> State<M> {
         }
     }
 
+    /// The first slot in turn after the one that acted last in which a thread lives: if its thread can act, that is what comes
+    /// next.
+    #[inline(always)]
+    pub(crate) fn next_thread(&self, last: Option<u8>) -> Option<u8>
+        ensures { (setup : Setup) (g : Guard) → IsStateAt setup g (state_shown M.shown self.now) → has_ended g ≡ false
+            → length g.seats ≡ length g.world.slots → MatchOption result (first_act g (slots_after (length g.seats) last) ≡ None)
+            (λ slot. (act : Event) → act_of g slot ≡ Some act → first_act g (slots_after (length g.seats) last) ≡ Some act) }
+    {
+        let first = first_after(last);
+        match self.seats.first_thread(first) {
+            Some(slot) => Some(slot),
+            None => self.seats.first_thread(0),
+        }
+    }
+
     /// What the first of the slots from one up to another does whose thread can act. Slots without a thread cost nothing.
     #[inline(always)]
     fn act_within(&self, from: u8, to: u8) -> Option<Event>
         requires { to ≤ 16 }
-        ensures { (setup : Setup) (g : Guard) → IsStateAt setup g (state_shown M.shown self.now) → has_ended g ≡ false
+        ensures { M.asks self.now.run → (setup : Setup) (g : Guard) → IsStateAt setup g (state_shown M.shown self.now) → has_ended g ≡ false
             → result ≡ first_act g (range_with_len from (to - from)) }
     {
         let mut rest = from;
@@ -151,7 +167,7 @@ impl<M: Machine> State<M> {
     /// What the thread in a slot can do: it passes the check-in that it is at, or it moves.
     #[inline(always)]
     fn act_of(&self, slot: u8) -> Option<Event>
-        ensures { (setup : Setup) (g : Guard) → IsStateAt setup g (state_shown M.shown self.now) → has_ended g ≡ false
+        ensures { M.asks self.now.run → (setup : Setup) (g : Guard) → IsStateAt setup g (state_shown M.shown self.now) → has_ended g ≡ false
             → result ≡ act_of g slot }
     {
         if self.is_at_check_in(slot) {
@@ -170,6 +186,7 @@ impl<M: Machine> State<M> {
         ensures made { (setup : Setup) (g : Guard) → IsStateAt setup g (state_shown M.shown self.old)
             → IfOk result (MovesTo setup (Move slot) g (state_shown M.shown self.new)) }
         ensures kept { (M.shown self.new.run).kept ≡ (M.shown self.old.run).kept }
+        ensures asked { M.asks self.old.run → M.asks self.new.run }
         ensures never_out_of_memory { (n : ℕ) → M.lasts (1 + n) self.old.run → IsOk result }
         ensures spent { (n : ℕ) → M.lasts (1 + n) self.old.run → IfOk result (λ made. made ≡ true → M.spent n self.new.run) }
         ensures lasts { (n : ℕ) → M.lasts n self.old.run → IfOk result (λ made. made ≡ false → M.lasts n self.new.run) }
@@ -196,6 +213,7 @@ impl<M: Machine> State<M> {
         ensures made { (setup : Setup) (g : Guard) → IsStateAt setup g (state_shown M.shown self.old)
             → ComesTo setup (CheckIn slot) g (state_shown M.shown self.new) result }
         ensures kept { (M.shown self.new.run).kept ≡ (M.shown self.old.run).kept }
+        ensures asked { M.asks self.old.run → M.asks self.new.run }
         ensures lasts { (n : ℕ) → M.lasts n self.old.run → M.lasts n self.new.run }
     {
         if !self.is_at_check_in(slot) {
@@ -220,6 +238,7 @@ impl<M: Machine> State<M> {
         ensures made { (setup : Setup) (g : Guard) → IsStateAt setup g (state_shown M.shown self.old) → written ≡ lines_written g.world
             → ComesTo setup (Offer k) g (state_shown M.shown self.new) result }
         ensures kept { (M.shown self.new.run).kept ≡ (M.shown self.old.run).kept }
+        ensures asked { M.asks self.old.run → M.asks self.new.run }
         ensures lasts { (n : ℕ) → M.lasts n self.old.run → M.lasts n self.new.run }
     {
         if self.has_ended() {
@@ -233,6 +252,7 @@ impl<M: Machine> State<M> {
         ensures made { (setup : Setup) (g : Guard) → IsStateAt setup g (state_shown M.shown self.old)
             → ComesTo setup (Withdraw k) g (state_shown M.shown self.new) result }
         ensures kept { (M.shown self.new.run).kept ≡ (M.shown self.old.run).kept }
+        ensures asked { M.asks self.old.run → M.asks self.new.run }
         ensures lasts { (n : ℕ) → M.lasts n self.old.run → M.lasts n self.new.run }
     {
         if self.has_ended() {

@@ -1,4 +1,4 @@
-use dsu_runs::{Book, Engine, Made, Stands, Undecided, Waiting};
+use dsu_runs::{Book, Engine, Made, Stands, Turn, Undecided, Waiting};
 use name_sets::Names;
 use run_types::{Ending, Event};
 use source_model::OfferAnswer;
@@ -55,6 +55,8 @@ impl Engine for Scripted {
 
     ghost table = { λ engine. engine.names };
 
+    ghost asks = { λ engine. Unit {0} };
+
     fn slots(&self) -> u8 {
         1
     }
@@ -94,6 +96,15 @@ impl Engine for Scripted {
 
     fn check_in(&mut self, _slot: u8) -> Made {
         Made::CannotHappen
+    }
+
+    fn act_next(&mut self, _last: Option<u8>) -> Result<Turn, AllocError> {
+        if self.moves == 0 {
+            return Ok(Turn::NoneActs);
+        }
+        self.moves -= 1;
+        self.written = self.written.saturating_add(1);
+        Ok(Turn::Changed(0))
     }
 
     fn offers(&self) -> u8 {

@@ -1,7 +1,7 @@
 ghost use Rattle.std.specs.Prelude.{◌≡◌};
 ghost use Rattle.run_tests.specs.declared.tiny.Stage.TheVariants.{Start};
 
-use dsu_runs::{Engine, Made, Stands, Undecided, Waiting};
+use dsu_runs::{Engine, Made, Stands, Turn, Undecided, Waiting};
 use name_sets::Names;
 use run_types::{Ending, Event};
 use source_model::OfferAnswer;
@@ -48,6 +48,8 @@ impl Engine for Tiny {
     ghost faults = { λ engine. 0 };
 
     ghost table = { λ engine. engine.names };
+
+    ghost asks = { λ engine. Unit {0} };
 
     fn slots(&self) -> u8 {
         1
@@ -105,6 +107,20 @@ impl Engine for Tiny {
                 Made::Done
             }
             Stage::Passed => Made::CannotHappen,
+        }
+    }
+
+    fn act_next(&mut self, _last: Option<u8>) -> Result<Turn, AllocError> {
+        match self.stage {
+            Stage::Start => {
+                self.stage = Stage::Moved;
+                Ok(Turn::Changed(0))
+            }
+            Stage::Moved => {
+                self.stage = Stage::Passed;
+                Ok(Turn::CheckedIn(0))
+            }
+            Stage::Passed => Ok(Turn::NoneActs),
         }
     }
 

@@ -2,7 +2,7 @@ use Rattle.std.proofs.Common.{arith, length, ap, subst, sym}
 use Rattle.std.specs.Prelude.{◌-◌, ◌^◌}
 use Rattle.std.proofs.lemmas.Result.{IfErr-weaker, IfOk-weaker}
 use Rattle.dsu_runs.specs.Setups.{setup_of}
-use Rattle.compiled_run.specs.Compiled.{Lasts}
+use Rattle.compiled_run.specs.Compiled.{CanBeAsked, Lasts}
 use Rattle.compiled_engine.proofs.MetNeeds.{accepted_runs_meet_needs}
 use Rattle.compiled_engine.proofs.TextsOfPrograms.{programs_are_accepted}
 use Rattle.compiled_engine.proofs.start.compiled_engine.Goals as goal
@@ -27,6 +27,10 @@ returns-in-Ok-clause-start g c =
 pub returns-in-Ok-clause-lasts : goal.returns-in-Ok-clause-lasts
 returns-in-Ok-clause-lasts g c =
     IfOk-weaker c.over.result _ _ (λ e is. subst (Lasts (2 ^ 32 - 1)) (sym is) c.in-Ok.ensures.lasts) c.over.ensures.run
+
+pub returns-in-Ok-clause-asked : goal.returns-in-Ok-clause-asked
+returns-in-Ok-clause-asked g c =
+    IfOk-weaker c.over.result _ _ (λ e is. subst CanBeAsked (sym is) c.in-Ok.ensures.asked) c.over.ensures.run
 
 pub returns-in-Ok-clause-fault : goal.returns-in-Ok-clause-fault
 returns-in-Ok-clause-fault g c =

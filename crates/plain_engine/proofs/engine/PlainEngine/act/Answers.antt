@@ -49,3 +49,8 @@ pub returns-clause-lasts : goal.returns-clause-lasts
 returns-clause-lasts g c = λ n lasts none.
     let written : c.write.result ≡ CannotHappen = cc in
     absurd (c.write.ensures.writes written)
+
+pub returns-clause-rested : goal.returns-clause-rested
+returns-clause-rested g c = λ none.
+    let written : c.write.result ≡ CannotHappen = cc in
+    absurd (c.write.ensures.writes written)

@@ -8,7 +8,7 @@ use Rattle.plain_engine.proofs.state.State.act_within.Given as goal
 -- none of the slots before the rest acts
 abbrev pub invariant-loop-slot : goal.invariant-loop-slot
 invariant-loop-slot g l =
-    (setup : Setup) (x : Guard) → IsStateAt setup x (state_shown g.M.Machine.shown l.self) → has_ended x ≡ false
+    g.M.Machine.asks l.self.run → (setup : Setup) (x : Guard) → IsStateAt setup x (state_shown g.M.Machine.shown l.self) → has_ended x ≡ false
     → first_act x (range_with_len l.from (l.to - l.from)) ≡ first_act x (range_with_len l.rest (l.to - l.rest))
 
 abbrev pub decreases-loop-slot : goal.decreases-loop-slot

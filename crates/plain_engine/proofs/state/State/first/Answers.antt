@@ -16,7 +16,7 @@ returns-clause-start g c = λ text programs objects equal trees run meets.
     let i = c.in_ok-installed.installed in
     let first = same_Some c.first_text.result.now text (c.first_text.ensures ∙ ap (λ ts. slice_get ts 0) trees) in
     first_state text programs lines objects _ run_at (c.first_seats-seats.ensures setup refl run_at)
-    (subst (λ p. IsInstalled (text_of p ∷ []) i.count i.names i.store) first c.in_ok-installed.ensures.installed) refl trees
+    (subst (λ p. IsInstalled (text_of p ∷ []) i.count i.names i.store) first c.in_ok-installed.ensures.installed) c.in_ok-installed.ensures.rows refl trees
     (c.in_ok-book.ensures setup i.names (lines_are programs lines equal)) meets
 
 pub returns-in_err-installed-clause-fault : goal.returns-in_err-installed-clause-fault

@@ -17,6 +17,7 @@ returns-clause-followed g c = λ setup x after is.
         tree = is.tree;
         numbered = is.numbered;
         last_is = is.versions;
+        rows = is.rows;
       };
       book = is.closed c.close.new.self
           (subst (λ n. IsBook setup (answered c.args.k (Installed n) x) s.installed.names c.close.new.self) c.count.ensures

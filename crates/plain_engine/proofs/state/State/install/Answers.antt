@@ -39,15 +39,16 @@ returns-in-Ok-Done-clause-made g c = λ setup x at going right offered some is.
     let brought = c.in_ok-replaced.ensures.installed x.versions (text_of is.next) at.versions.installed
     (names_are setup x k s at going right offered some patch pins is) (store_is setup x k s at going right offered some patch pins is) in
     let named = c.in_ok-replaced.ensures.names in
+    let fresh = c.in_ok-replaced.ensures.rows in
     let came = subst (CameBy (texts_of setup) setup.limits at.run.moves (Install k) new) c.in-Ok-Done.field-0-is
     (c.in-Ok-Done.ensures.made (texts_of setup) setup.limits at.run.moves at.run.run (install_needs setup x k s at going right offered some patch pins is)
     (subst (λ cs. map name_of cs ≡ changing p q) (sym c.deref-2.ensures.value) (changing_is setup x k s at going right offered some patch pins is))
     (subst (All (IsChange p q)) (sym c.deref-2.ensures.value) (transforms_are setup x k s at going right offered some patch pins is))) in
     let there = new.reached (texts_of setup) setup.limits (at.run.moves ++ Install k ∷ []) came in
-    installs_so setup x k s at going right offered some patch pins is new i c.install-2.ensures.same came there.0 there.1 brought named
+    installs_so setup x k s at going right offered some patch pins is new i c.install-2.ensures.same came there.0 there.1 brought named fresh
     (state_shown g.M.Machine.shown c.follow.new.self)
     (c.follow.ensures.followed setup x (after setup x k s at going right offered some patch pins is there.0 there.1)
-    (followed setup x k s at going right offered some patch pins is new i c.install-2.ensures.same came there.0 there.1 brought named))
+    (followed setup x k s at going right offered some patch pins is new i c.install-2.ensures.same came there.0 there.1 brought named fresh))
 
 pub returns-in-Ok-CannotMove-clause-made : goal.returns-in-Ok-CannotMove-clause-made
 returns-in-Ok-CannotMove-clause-made g c = λ setup x at going right offered some is.
