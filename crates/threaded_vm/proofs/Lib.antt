@@ -1,0 +1,4 @@
+mod Coming
+mod Ending
+mod Keeping
+mod Logs
