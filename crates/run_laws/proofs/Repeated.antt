@@ -7,7 +7,7 @@ use Rattle.source_model.specs.JournalLaws.{texts_of}
 use Rattle.source_model.specs.Runs.{source_run}
 use Rattle.dsu_report.specs.Statuses.{status_of_ending}
 use Rattle.dsu_runs.specs.Rows.{RulesExist}
-use Rattle.dsu_commands.specs.Runs.{report_of}
+use Rattle.job_answers.specs.Runs.{report_of}
 use Rattle.run_laws.specs.ReplayLaws.{ReplaysRepeat}
 
 pub replays_repeat : RulesExist → ReplaysRepeat

@@ -4,9 +4,9 @@ use Rattle.run_types.specs.declared.run.Event.{Event}
 use Rattle.source_model.specs.Answers.{answer_seen}
 use Rattle.source_model.specs.Guards.{Setup}
 use Rattle.dsu_runs.specs.Replays.{events_of}
-use Rattle.dsu_commands.specs.Calls.{Call}
-use Rattle.dsu_commands.specs.Plans.{Plan, ByJournal}
-use Rattle.dsu_commands.specs.Runs.{Ran, report_of}
+use Rattle.job_answers.specs.Calls.{Call}
+use Rattle.job_answers.specs.Plans.{Plan, ByJournal}
+use Rattle.job_answers.specs.Runs.{Ran, report_of}
 
 -- two calls made one run: of both the events, the output, the ending, the status, the number of the version in force and the
 -- meaning of the answers are the same, and so is the report, with the journal or without it

@@ -5,9 +5,9 @@ use Rattle.dsu_cli.specs.declared.job.Detail.{Detail}
 use Rattle.dsu_cli.specs.declared.job.Detail.TheVariants.{Plain, Explained}
 use Rattle.dsu_cli.specs.declared.job.Job.{Job}
 use Rattle.dsu_report.specs.declared.fault.FaultLine.TheVariants.{Memory}
-use Rattle.dsu_commands.specs.Answers.{short}
-use Rattle.dsu_commands.specs.Calls.{Call, Stopped}
-use Rattle.dsu_commands.specs.Jobs.{Contents}
+use Rattle.job_answers.specs.Answers.{short}
+use Rattle.job_answers.specs.Calls.{Call, Stopped}
+use Rattle.job_answers.specs.Jobs.{Contents}
 use Rattle.top_call.specs.Explained.{Responds}
 use Rattle.top_call.specs.Explained.{short as unkept}
 

@@ -9,8 +9,8 @@ use Rattle.dsu_report.specs.Faults.{fault_line}
 use Rattle.dsu_report.specs.Statuses.{status_of_line}
 use Rattle.run_types.specs.declared.run.Ending.{Ending}
 use Rattle.noted_reports.specs.NotedReports.{AddsNotes}
-use Rattle.dsu_commands.specs.Answers.{IsDone, IsExcused}
-use Rattle.dsu_commands.specs.Calls.{Call, Output, Stopped, Untouched, Writes}
+use Rattle.job_answers.specs.Answers.{IsDone, IsExcused}
+use Rattle.job_answers.specs.Calls.{Call, Output, Stopped, Untouched, Writes}
 use Rattle.top_call.specs.Explained.{Noted, StoppedNoted, WroteText, written, failed, unwritten}
 
 -- ---- statuses

@@ -10,9 +10,9 @@ use Rattle.dsu_report.specs.declared.fault.FaultLine.TheVariants.{Memory}
 use Rattle.dsu_report.specs.Faults.{fault_line}
 use Rattle.dsu_report.specs.Statuses.{status_of_line}
 use Rattle.noted_reports.specs.NotedReports.{AddsNotes, WithNotes, run_mark}
-use Rattle.dsu_commands.specs.Answers.{Answers}
-use Rattle.dsu_commands.specs.Calls.{Call, NoEnd, Shows, ShowsPrefix, Stopped, Untouched, Writes}
-use Rattle.dsu_commands.specs.Jobs.{Contents}
+use Rattle.job_answers.specs.Answers.{Answers}
+use Rattle.job_answers.specs.Calls.{Call, NoEnd, Shows, ShowsPrefix, Stopped, Untouched, Writes}
+use Rattle.job_answers.specs.Jobs.{Contents}
 
 -- the text of a report with notes: in the report of a run that ended after its lines, else after all of it: after the line of
 -- a fault, or alone where a command was done whose report is empty

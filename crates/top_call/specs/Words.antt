@@ -3,7 +3,7 @@ use Rattle.std.specs.Prelude.{◌<◌, ◌≤◌, ⊤, List, length, Option, Som
 use Rattle.dsu_cli.specs.Words.{Text, job_of}
 use Rattle.dsu_cli.specs.declared.job.Job.{Job}
 use Rattle.dsu_cli.specs.declared.job.Job.TheVariants.{Run, Replay, Check, Effects, Changes, Admits, Gen}
-use Rattle.dsu_commands.specs.Jobs.{is_built}
+use Rattle.job_answers.specs.Jobs.{is_built}
 
 -- a job, where it is built
 abbrev pub if_built : Job → Option Job

@@ -2,18 +2,18 @@
 ghost use Rattle.std.specs.Prelude.{◌≡◌, ◌⊎◌, ℕ, List, [], None, Some};
 ghost use Rattle.dsu_report.specs.declared.fault.FaultLine.{FaultLine as Line};
 ghost use Rattle.dsu_report.specs.Faults.{fault_line};
-ghost use Rattle.dsu_commands.specs.Answers.{IsDone, IsExcused};
-ghost use Rattle.dsu_commands.specs.Calls.{Output, Writes, call_of, output_of};
-ghost use Rattle.dsu_commands.specs.Jobs.{IsKnownFault, IsReady};
+ghost use Rattle.job_answers.specs.Answers.{IsDone, IsExcused};
+ghost use Rattle.job_answers.specs.Calls.{Output, Writes, call_of, output_of};
+ghost use Rattle.job_answers.specs.Jobs.{IsKnownFault, IsReady};
 ghost use Rattle.top_call.specs.Explained.{Explains, StoppedNoted, WroteText, unwritten};
 ghost use Rattle.top_call.specs.Words.{IsInRange};
 
 use crate::notes::noted;
 use crate::plain::done;
 use dsu_cli::Job;
-use dsu_commands::Outcome;
 use dsu_io::{Files, Sink, put};
 use dsu_report::{FaultLine, write_fault};
+use job_answers::Outcome;
 use noted_reports::Report;
 use std::alloc::Global;
 

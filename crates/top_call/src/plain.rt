@@ -1,18 +1,18 @@
 //! A job as it is.
 ghost use Rattle.std.specs.Prelude.{◌⊎◌, ℕ, List};
 ghost use Rattle.dsu_report.specs.declared.fault.FaultLine.{FaultLine as Line};
-ghost use Rattle.dsu_commands.specs.Answers.{Answers, IsDone, IsExcused};
-ghost use Rattle.dsu_commands.specs.Calls.{Stopped, call_of, output_of};
-ghost use Rattle.dsu_commands.specs.Jobs.{IsKnownFault, IsReady};
+ghost use Rattle.job_answers.specs.Answers.{Answers, IsDone, IsExcused};
+ghost use Rattle.job_answers.specs.Calls.{Stopped, call_of, output_of};
+ghost use Rattle.job_answers.specs.Jobs.{IsKnownFault, IsReady};
 ghost use Rattle.top_call.specs.Words.{IsInRange};
 
 use dsu_cli::Job;
-use dsu_commands::{
-    Outcome, admits_files, changes_files, check_file, effects_file, replay_file, run_file,
-    run_generated,
-};
 use dsu_io::{Files, Sink};
+use gen_job::run_generated;
+use job_answers::Outcome;
+use run_jobs::{replay_file, run_file};
 use std::alloc::Global;
+use text_jobs::{admits_files, changes_files, check_file, effects_file};
 
 /// Does a job. `run FILE` runs the program of the file, `replay FILE JOURNAL` makes the events of the journal, and both print on
 /// `out` and report on `err`; `check FILE` prints on `out` how many names the text has, `effects FILE` what its threads may use,

@@ -4,9 +4,9 @@ ghost use Rattle.dsu_cli.specs.Words.{detail_of, job_of};
 ghost use Rattle.dsu_cli.specs.declared.job.Job.{Job as Asked};
 ghost use Rattle.dsu_report.specs.declared.fault.FaultLine.{FaultLine as Line};
 ghost use Rattle.dsu_report.specs.declared.fault.FaultLine.TheVariants.{Memory, Usage};
-ghost use Rattle.dsu_commands.specs.Answers.{IsDone, IsExcused};
-ghost use Rattle.dsu_commands.specs.Calls.{Stopped, call_of, output_of};
-ghost use Rattle.dsu_commands.specs.Jobs.{IsKnownFault, IsReady};
+ghost use Rattle.job_answers.specs.Answers.{IsDone, IsExcused};
+ghost use Rattle.job_answers.specs.Calls.{Stopped, call_of, output_of};
+ghost use Rattle.job_answers.specs.Jobs.{IsKnownFault, IsReady};
 ghost use Rattle.top_call.specs.Explained.{Responds, StoppedAs};
 ghost use Rattle.top_call.specs.Words.{IsInRange, asked};
 
@@ -14,13 +14,13 @@ use crate::explained::explain;
 use crate::plain::done;
 use crate::words::request_in;
 use dsu_cli::{Detail, Request};
-use dsu_commands::{Outcome, stop};
 use dsu_io::{Files, Sink, Text};
+use job_answers::{Outcome, stop};
 use std::alloc::Global;
 
 /// Does what the words of a command line ask for; they are those after the program's name.
 ///
-/// What `out` holds at the end is given back with it. `dsu_commands` has the words of the clauses, in
+/// What `out` holds at the end is given back with it. `job_answers` has the words of the clauses, in
 /// `specs/Answers.antt`, and `specs/Explained.antt` those of a job that is explained.
 pub fn dsu_main<F: Files, O: Sink, E: Sink>(
     alloc: Global,

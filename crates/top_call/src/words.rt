@@ -1,7 +1,7 @@
 //! What the words ask for.
 ghost use Rattle.std.specs.Prelude.{◌≡◌, ◌⊎◌, IfOk, IfErr, IsErrOf, None, Some};
 ghost use Rattle.dsu_cli.specs.Words.{detail_of, job_of};
-ghost use Rattle.dsu_commands.specs.Jobs.{is_built};
+ghost use Rattle.job_answers.specs.Jobs.{is_built};
 ghost use Rattle.top_call.specs.Words.{IsInRange, asked};
 
 use dsu_cli::{CliFault, Job, Request, read_words};

@@ -1,8 +1,8 @@
 //! Calls of the program over files and outputs in memory.
 
 use crate::stage::Stage;
-use dsu_commands::Outcome;
 use dsu_io::{MemorySink, Text};
+use job_answers::Outcome;
 use std::alloc::{AllocError, Global};
 use top_call::dsu_main;
 

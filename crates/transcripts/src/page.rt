@@ -1,9 +1,9 @@
 //! What a transcript shows of a call.
 
 use crate::calls::Seen;
-use dsu_commands::Outcome;
 use dsu_io::MemorySink;
 use dsu_report::trap_word;
+use job_answers::Outcome;
 use run_types::{Ending, Event};
 use std::alloc::{AllocError, Global};
 

@@ -3,10 +3,10 @@
 use crate::calls::{Seen, see};
 use crate::page::{quote, show_outcome};
 use crate::stage::Stage;
-use dsu_commands::Outcome;
 use dsu_io::{MemorySink, StdSink, Text};
 use dsu_journal::print_journal;
 use dsu_report::write_answers;
+use job_answers::Outcome;
 use run_types::Event;
 use std::alloc::{AllocError, Global};
 

@@ -1,6 +1,6 @@
 use Rattle.std.proofs.Common.{◌≡◌, ◌∙◌, Some, refl, sym, ap}
 use Rattle.noted_reports.specs.NotedReports.{Kept}
-use Rattle.dsu_commands.specs.Calls.{call_of, output_of}
+use Rattle.job_answers.specs.Calls.{call_of, output_of}
 use Rattle.top_call.specs.Explained.{noted}
 use Rattle.top_call.proofs.Explaining.{counted_none, done_noted, first_noted, noted_as}
 use Rattle.top_call.proofs.explained.explain.Goals as goal

@@ -2,7 +2,7 @@ use Rattle.std.proofs.Common.{List, ℕ, subst, sym}
 use Rattle.dsu_cli.specs.declared.job.EngineKind.TheVariants.{Compiled}
 use Rattle.dsu_cli.specs.declared.job.Job.{Job as Asked}
 use Rattle.dsu_cli.specs.declared.job.Job.TheVariants.{Changes}
-use Rattle.dsu_commands.specs.Jobs.{IsKnownFault}
+use Rattle.job_answers.specs.Jobs.{IsKnownFault}
 use Rattle.top_call.proofs.plain.done.Goals as goal
 
 pub returns-in-Replay-clause-first : goal.returns-in-Replay-clause-first

@@ -4,9 +4,9 @@ use Rattle.dsu_cli.specs.Words.{detail_of}
 use Rattle.dsu_cli.specs.declared.job.Detail.{Detail}
 use Rattle.dsu_cli.specs.declared.job.Job.{Job as Asked}
 use Rattle.dsu_report.specs.declared.fault.FaultLine.{FaultLine}
-use Rattle.dsu_commands.specs.Answers.{IsExcused}
-use Rattle.dsu_commands.specs.Calls.{Stopped, call_of, output_of}
-use Rattle.dsu_commands.specs.Jobs.{IsKnownFault, IsReady}
+use Rattle.job_answers.specs.Answers.{IsExcused}
+use Rattle.job_answers.specs.Calls.{Stopped, call_of, output_of}
+use Rattle.job_answers.specs.Jobs.{IsKnownFault, IsReady}
 use Rattle.top_call.specs.Explained.{Responds, StoppedAs}
 use Rattle.top_call.proofs.Asking.{out_of_memory}
 use Rattle.top_call.proofs.top.dsu_main.Goals as goal

@@ -1,0 +1,3 @@
+mod Generating
+mod Unmarking
+mod Summing

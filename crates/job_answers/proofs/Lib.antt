@@ -1,0 +1,3 @@
+pub mod FailedReads
+pub mod Reading
+pub mod Stopping

@@ -1,0 +1,2 @@
+mod RunAnswers
+mod Outcomes

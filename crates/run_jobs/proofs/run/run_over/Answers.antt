@@ -1,0 +1,18 @@
+use Rattle.std.proofs.Common.{[], refl, sym}
+use Rattle.job_answers.specs.Calls.{output_of}
+use Rattle.job_answers.specs.Plans.{BySchedule}
+use Rattle.run_jobs.proofs.Outcomes.{came_as, same_output}
+use Rattle.run_jobs.proofs.run.run_over.Goals as goal
+
+pub returns : goal.returns
+returns g c = λ asks setup accepted at.
+    let out = g.O.Sink in
+    let job = c.args.job.now in
+    let ran = c.run_engine-ran in
+    let done = c.outcome_of_run in
+    came_as (BySchedule job.moves) setup c.args.texts.now job.journal [] ran.result.1 ran.result.0 done.result
+    (output_of out.told out.faults c.args.engine.sink ran.result.0.engine.sink)
+    (output_of out.told out.faults c.args.engine.sink done.result.out)
+    (output_of g.E.Sink.told g.E.Sink.faults c.args.err.now ran.new.err) done.ensures.status done.ensures.ending done.ensures.history
+    (same_output out.told out.faults _ _ _ _ refl (sym done.ensures.out))
+    (ran.ensures asks setup accepted at done.result.answers.items done.result.installed (done.ensures.versions setup))

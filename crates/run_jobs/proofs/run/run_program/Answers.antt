@@ -1,0 +1,7 @@
+use Rattle.run_jobs.proofs.run.run_program.Goals as goal
+
+pub engine_for-requires : goal.engine_for-requires
+engine_for-requires g c = record { accepted = c.requires.accepted.first }
+
+pub run_compiled-requires-clause-named : goal.run_compiled-requires-clause-named
+run_compiled-requires-clause-named g c = c.in-Ok-Compiled.ensures.named c.in-Ok-Compiled.field-0-is

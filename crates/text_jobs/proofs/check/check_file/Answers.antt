@@ -1,0 +1,17 @@
+use Rattle.std.proofs.Common.{inr, refl}
+use Rattle.dsu_cli.specs.declared.job.Job.TheVariants.{Check}
+use Rattle.job_answers.proofs.Stopping.{answered, at_program, program_excused}
+use Rattle.text_jobs.proofs.check.check_file.Goals as goal
+
+pub returns-in-Err-clause-answers : goal.returns-in-Err-clause-answers
+returns-in-Err-clause-answers g c =
+    let content = g.F.Files.content c.args.files.now in
+    let file = c.args.file.now in
+    answered (Check file) content _ _ _ c.in-Err.line file c.stop.ensures
+    (at_program content c.in-Err.line file file refl _ _ c.in-Err.ensures.fault)
+
+pub returns-in-Err-clause-complete : goal.returns-in-Err-clause-complete
+returns-in-Err-clause-complete g c = λ ready.
+    let content = g.F.Files.content c.args.files.now in
+    let file = c.args.file.now in
+    inr (program_excused content c.in-Err.line file file refl _ c.stop.ensures c.in-Err.ensures.complete ready.0 ready.1)
