@@ -1,5 +1,5 @@
 -- The edges lead between nodes.
-use Rattle.std.proofs.Common.{◌≡◌, ℕ, ◌+◌, ◌<◌, ◌≤◌, Bool, true, false, ◌⊎◌, inl, inr, List, ◌++◌, Option, Some, None, length, get_or, sym, ap, ◌∙◌, subst, arith, if◌then◌else◌}
+use Rattle.std.proofs.Common.{◌≡◌, ℕ, ◌+◌, ◌<◌, ◌≤◌, Bool, true, false, ◌⊎◌, inl, inr, List, ◌++◌, Option, Some, None, length, get_or, ap, ◌∙◌, subst, arith, if◌then◌else◌}
 use Rattle.std.specs.Prelude.{IfSome, ◌==◌, replicate, slice_get}
 use Rattle.std.proofs.lemmas.List.{get_or_default, length-append, length-replicate}
 use Rattle.std.proofs.lemmas.Option.{slice_get_within, same_Some}
@@ -12,7 +12,7 @@ use Rattle.contextual_effects.specs.Edges.{in_block, edge_if, is_return}
 use Rattle.contextual_effects.specs.Steps.{Numbers}
 use Rattle.contextual_effects.proofs.EdgeLists.{edge_is, SomeIs}
 use Rattle.contextual_effects.proofs.Fitting.{called_below, known_at}
-use Rattle.checkin_rows.specs.Edges.{is_check_in, stays, landing, landing_after, of_point, edges_of}
+use Rattle.checkin_rows.specs.Edges.{is_check_in, stays, landing, landing_after, of_point, edges_of, node_count}
 use Rattle.checkin_rows.specs.Steps.{AreSeeds}
 use Rattle.checkin_rows.proofs.RowEdges.{OfPoint, OfWay, edges_are}
 use Rattle.checkin_rows.proofs.RowSystem.{goes_on_at}
@@ -47,7 +47,7 @@ after_below points i n xs many le m e =
     subst (λ m. m < n) g.is k
 
 abbrev nodes : ℕ → ℕ → ℕ
-nodes points ids = points + points + (ids + ids + ids)
+nodes points ids = node_count points ids
 
 point_fits : (points ids : ℕ) (xs : List FlowPoint) (i : ℕ) (x : FlowPoint) (e : Edge) → length xs ≡ points → i < points → HasIdsBelow ids x
     → SomeIs (of_point points ids xs i x) e → Fits (nodes points ids) e
@@ -93,7 +93,7 @@ edge_fits points ids flow e numbers (inr y) =
     (some_below (nodes points ids) (landing points y.way.to y.to) (landing_below points y.way.to (nodes points ids) y.to (omega arith) (omega arith)))
     (some_below (nodes points ids) y.way.from (omega arith))
 
-edges_fit : (points ids : ℕ) (flow : Contents) → Numbers points ids flow → Fit (nodes points ids) (edges_of points ids flow)
+pub edges_fit : (points ids : ℕ) (flow : Contents) → Numbers points ids flow → Fit (nodes points ids) (edges_of points ids flow)
 edges_fit points ids flow numbers k d l =
     edge_fits points ids flow (get_or all k d) numbers
     (edges_are points ids flow (get_or all k d) (k, l, get_or_default all k (get_or all k d) d l))
@@ -101,14 +101,9 @@ edges_fit points ids flow numbers k d l =
     all : List Edge
     all = edges_of points ids flow
 
-pub seeds_fit : (points ids : ℕ) (flow : Contents) (own seeds : List ℕ) (edges : List Edge) → Numbers points ids flow → AreSeeds points ids own seeds
-    → edges ≡ edges_of points ids flow → Fit (length seeds) edges
-seeds_fit points ids flow own seeds edges numbers k is =
-    subst (λ n. Fit n edges) (sym many) (subst (Fit (nodes points ids)) (sym is) (edges_fit points ids flow numbers))
-  where
-    many : length seeds ≡ points + points + (ids + ids + ids)
-    many =
-        let first : length k.first ≡ points = k.are_first.many in
-        ap length k.seeds_are
-        ∙ length-append (k.first ++ k.first) (replicate (ids + ids + ids) k.empty)
-        ∙ omega (arith, length-append k.first k.first, first, length-replicate (ids + ids + ids) k.empty)
+pub seeds_many : (points ids : ℕ) (own seeds : List ℕ) → AreSeeds points ids own seeds → length seeds ≡ node_count points ids
+seeds_many points ids own seeds k =
+    let first : length k.first ≡ points = k.are_first.many in
+    ap length k.seeds_are
+    ∙ length-append (k.first ++ k.first) (replicate (ids + ids + ids) k.empty)
+    ∙ omega (arith, length-append k.first k.first, first, length-replicate (ids + ids + ids) k.empty)

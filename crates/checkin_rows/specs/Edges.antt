@@ -59,3 +59,7 @@ edges_of_ways points xs ways = parts (λ i w. option_to_list (of_ends points w (
 
 abbrev pub edges_of : ℕ → ℕ → Contents → List Edge
 edges_of points ids flow = edges_of_points points ids flow.points flow.points ++ edges_of_ways points flow.points flow.ways
+
+-- how many nodes there are: points twice, and three blocks of ids
+abbrev pub node_count : ℕ → ℕ → ℕ
+node_count points ids = points + points + (ids + ids + ids)

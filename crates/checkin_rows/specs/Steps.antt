@@ -8,7 +8,8 @@ use Rattle.con_freeness.specs.declared.row.Row.{Row}
 use Rattle.checkin_rows.specs.declared.row.Mark.{Mark}
 use Rattle.checkin_rows.specs.declared.row.Mark.TheVariants.{Start, CheckIn}
 use Rattle.checkin_rows.specs.declared.entries.Entry.{Entry}
-use Rattle.checkin_rows.specs.Edges.{edges_of}
+use Rattle.set_constraints.specs.Nets as nets
+use Rattle.checkin_rows.specs.Edges.{edges_of, node_count}
 
 -- two sets have the same ids
 abbrev pub AreSame : ℕ → ℕ → Type 0
@@ -29,6 +30,11 @@ pub record AreSeeds (points ids : ℕ) (own seeds : List ℕ) : Type 0 where
   pub are_first : AreFirst points own first
   pub is_empty : IsEmptySet empty
   pub seeds_are : seeds ≡ first ++ first ++ replicate (ids + ids + ids) empty
+
+-- the nodes and edges of a flow
+pub record IsNetOf (points ids : ℕ) (flow : Contents) (net : nets.Contents) : Type 0 where
+  pub nodes : net.nodes ≡ node_count points ids
+  pub edges : net.edges ≡ edges_of points ids flow
 
 -- the sets of the system in which points have their own sets
 pub record AreSetsOf (points ids : ℕ) (flow : Contents) (own sets : List ℕ) : Type 0 where

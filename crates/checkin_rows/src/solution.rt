@@ -1,14 +1,16 @@
 //! The sets of names of the nodes.
 ghost use Rattle.std.specs.Prelude.{◌≡◌, ℕ, ◌+◌, ◌<◌, ◌≤◌, length, replicate, slice_index, IfOk};
 ghost use Rattle.contextual_effects.specs.Steps.{Numbers};
-ghost use Rattle.checkin_rows.specs.Steps.{AreSame, AreFirst, AreSeeds, AreSetsOf};
+ghost use Rattle.effect_flow.specs.Parts.{Contents};
+ghost use Rattle.checkin_rows.specs.Edges.{node_count};
+ghost use Rattle.checkin_rows.specs.Steps.{AreSame, AreFirst, AreSeeds, AreSetsOf, IsNetOf};
 
 use crate::constraints::edges;
 use crate::nodes::Nodes;
 use contextual_effects::Effects;
 use effect_flow::Flow;
 use name_sets::NameSet;
-use set_constraints::{Order, least_sets};
+use set_constraints::{Net, Order};
 use std::alloc::{AllocError, Global};
 use std::marker::Model;
 
@@ -89,19 +91,31 @@ fn seeds(alloc: Global, nodes: &Nodes, own: &[NameSet]) -> Result<Vec<NameSet>, 
     Ok(seeds)
 }
 
+/// The nodes and edges of a flow.
+fn net_of(alloc: Global, nodes: &Nodes, flow: &Flow) -> Result<Net, AllocError>
+    requires { Numbers nodes.now.points nodes.now.names flow.now }
+    ensures { IfOk result (λ net. IsNetOf nodes.now.points nodes.now.names flow.now net) }
+{
+    let count = nodes.points + nodes.points + (nodes.names + nodes.names + nodes.names);
+    let edges = edges(alloc, nodes, flow)?;
+    let net = Net::new(alloc, count, edges, Order::Falling)?;
+    Ok(net)
+}
+
 /// The sets of the nodes where points have their own sets.
 fn sets_of(
     alloc: Global,
     nodes: &Nodes,
     own: &[NameSet],
-    flow: &Flow,
+    net: &Net,
 ) -> Result<Vec<NameSet>, AllocError>
-    requires { Numbers nodes.now.points nodes.now.names flow.now }
-    ensures { IfOk result (λ sets. AreSetsOf nodes.now.points nodes.now.names flow.now own.now sets.items) }
+    requires { net.now.nodes ≡ node_count nodes.now.points nodes.now.names }
+    ensures { IfOk result (λ sets. (flow : Contents) → IsNetOf nodes.now.points nodes.now.names flow net.now
+        → AreSetsOf nodes.now.points nodes.now.names flow own.now sets.items) }
 {
-    let edges = edges(alloc, nodes, flow)?;
     let seeds = seeds(alloc, nodes, own)?;
-    least_sets(alloc, seeds, edges, Order::Falling)
+    let sets = net.least_sets(alloc, seeds)?;
+    Ok(sets)
 }
 
 /// The sets of the nodes, for each kind of effect.
@@ -116,9 +130,10 @@ pub(crate) fn solution_of(
     ensures future { IfOk result (λ s. AreSetsOf nodes.now.points nodes.now.names flow.now effects.now.future s.future) }
     ensures concrete { IfOk result (λ s. AreSetsOf nodes.now.points nodes.now.names flow.now effects.now.concrete s.concrete) }
 {
-    let prior = sets_of(alloc, nodes, effects.prior(), flow)?;
-    let future = sets_of(alloc, nodes, effects.future(), flow)?;
-    let concrete = sets_of(alloc, nodes, effects.concrete(), flow)?;
+    let net = net_of(alloc, nodes, flow)?;
+    let prior = sets_of(alloc, nodes, effects.prior(), &net)?;
+    let future = sets_of(alloc, nodes, effects.future(), &net)?;
+    let concrete = sets_of(alloc, nodes, effects.concrete(), &net)?;
     Ok(Solution {
         prior,
         future,

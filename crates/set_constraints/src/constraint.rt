@@ -1,4 +1,4 @@
-//! Edges, and the order in which nodes are looked at.
+//! Edges, and the order in which a walk begins at nodes.
 ghost use Rattle.std.specs.Prelude.{◌≡◌, ◌<◌};
 ghost use Rattle.set_constraints.specs.Places.{node_at};
 
@@ -9,8 +9,8 @@ pub struct Edge {
     pub to: usize,
 }
 
-/// The order in which nodes are looked at first. The answer doesn't depend on it, the time does: most edges should lead
-/// the same way.
+/// The order in which a walk along the edges begins at nodes that it hasn't come to. The answer doesn't depend on it; the time
+/// may, where edges make loops: most edges should lead the same way.
 #[derive(Clone, Copy)]
 pub enum Order {
     /// From the lowest number on.

@@ -8,17 +8,21 @@
 //! Read in this order:
 //! - [`constraint`]: edges, and the order in which nodes are looked at
 //! - [`links`]: the edges that leave each node, as chains
+//! - [`walk`]: the order in which nodes are looked at
 //! - [`queue`]: the nodes whose sets have yet to be passed on
 //! - [`solution`]: the least sets
+//! - [`net`]: edges that are made ready to be solved, for one family of seeds or several
 //! - [`laws`]: what shows that the definition says what is meant
 #![tactic(auto)]
 
 mod constraint;
 mod laws;
 mod links;
+mod net;
 mod queue;
 mod solution;
+mod walk;
 
 pub use constraint::{Edge, Order};
 pub use laws::sets_are_least;
-pub use solution::least_sets;
+pub use net::{Net, least_sets};

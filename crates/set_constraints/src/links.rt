@@ -38,6 +38,31 @@ impl Links {
         })
     }
 
+    /// How many nodes there are.
+    pub(crate) fn nodes(&self) -> usize
+        ensures { result ≡ length self.now.last.items }
+    {
+        self.last.len()
+    }
+
+    /// Where the chain of a node begins. A number that is no node has an empty chain.
+    pub(crate) fn beginning(&self, node: usize) -> usize {
+        match self.last.get(node) {
+            Some(place) => *place,
+            None => 0,
+        }
+    }
+
+    /// The node to which the edge at a place leads, and where its chain goes on, unless the place is an end.
+    pub(crate) fn after(&self, place: usize) -> Option<(usize, usize)> {
+        if place == 0 {
+            return None;
+        }
+        let edge = self.edges.get(place - 1)?;
+        let next = self.previous.get(place - 1)?;
+        Some((edge.to, *next))
+    }
+
     /// The place of the last edge that leaves a node.
     pub(crate) fn last_of(&self, node: usize) -> usize
         requires { node < length self.now.last.items }

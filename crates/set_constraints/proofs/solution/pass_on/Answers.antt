@@ -38,9 +38,9 @@ loop-place-preserved c =
     let from : c.loop-place.place ≡ edge + 1 = omega arith in
     let set : c.index-sets-node.result ≡ get_or old node 0 = get_or_read old node c.index-sets-node.result c.requires.node c.index-sets-node.is 0 in
     let before = subst (λ (place : ℕ). Passing edges node old waited place mid mid_waits) from c.loop-place.invariant.passing in
-    let aimed = subst (λ (n : ℕ). Adds c.index-sets-node.result n mid mid_waits new waits) c.target.ensures c.in_ok-add_to.ensures.adds in
+    let aimed = subst (λ (n : ℕ). Adds c.index-sets-node.result n mid mid_waits new waits) c.target.ensures c.add_to.ensures.adds in
     let adds = subst (λ (s : ℕ). Adds s (target edges edge) mid mid_waits new waits) set aimed in
     record {
       passing = passing_more edges node old waited edge c.previous_of-place.result mid mid_waits new waits before adds c.previous_of-place.ensures.own c.previous_of-place.ensures.skips;
-      falls = omega (arith, c.in_ok-add_to.ensures.falls, c.loop-place.invariant.falls);
+      falls = omega (arith, c.add_to.ensures.falls, c.loop-place.invariant.falls);
     }
