@@ -81,6 +81,7 @@ module _ (image : CodeImage) (r : Running) (x : StopPlace) (n count : ℕ) (rest
           wait = all;
         };
         owes = λ e. absurd (not_continues n count e);
+        leaves = λ e. absurd (not_continues n count e);
         stood = λ end e. absurd (not_stands n count end e);
         stacks = subst (λ (k : ℕ). AreNeverHigher k functions) (sym same) rests.fits.stacks;
       }

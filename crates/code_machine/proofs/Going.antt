@@ -24,8 +24,8 @@ use Rattle.code_machine.specs.declared.running.Next.TheVariants.{Continues, Ente
 use Rattle.code_machine.specs.declared.running.Running.{Running}
 use Rattle.code_machine.specs.declared.state.RunState.{RunState}
 use Rattle.code_machine.specs.Kept.{Fits, IsFrame, Stood, Wait, end_of}
-use Rattle.code_machine.specs.Seen.{words_of}
-use Rattle.code_machine.specs.Stops.{CanGoOn}
+use Rattle.code_machine.specs.Seen.{standing_with, words_of}
+use Rattle.code_machine.specs.Stops.{CanGoOn, Executed, WentOn}
 use Rattle.code_machine.specs.Versions.{IsOfVersion, IsRunOf, RunsCode, texts_by}
 use Rattle.code_machine.proofs.Lists.{all, one, read, seen}
 use Rattle.code_machine.proofs.Fitting.{are_frames, depth_is, end_is, frame_moved, head_is, innermost_is, moved, same_head, wait_still}
@@ -149,7 +149,31 @@ fits_on functions callees g old new point place height end can there frames same
       frames = are_frames functions old.frames new f can.some frames (frame_moved functions (innermost old.frames) point (innermost new).place (innermost new).height (can.frames (depth_of old.frames - 1) (omega (arith, can.some)))) can.frames;
       due = λ n count e. absurd (stands_not end n count e);
       owes = λ e. absurd (stands_and_continues end e);
+      leaves = λ e. absurd (stands_and_continues end e);
       stood = λ other e.
           subst (Stood functions new) (same_end end other e) (stood functions g old.frames new point place height end can.some there frames can.wait low went);
       stacks = subst (λ (k : ℕ). AreNeverHigher k functions) (sym same) can.stacks;
     }
+
+-- and went on as the definitions say
+went_on : (all_texts : List (List BareDef)) (versions : List ℕ) (image : CodeImage) (g : CodeFunction) (old : Running) (new : Frames) (point place height : ℕ) (end : End)
+    → RunsCode all_texts versions image old → CanGoOn image.functions.items old place height
+    → slice_get image.functions.items (innermost old.frames).unit ≡ Some g
+    → change.WentOn (words_of image) g.verified.body.code.items old.frames new point place height end
+    → WentOn (texts_by all_texts versions) image old (record old { frames = new; next = Stands end }) point place height
+went_on all_texts versions image g old new point place height end code can there w = record {
+  frame = w.frame;
+  next = w.next;
+  below = w.below;
+  before = w.before;
+  after = ap (standing_with old) w.after;
+  goes = w.goes (texts_by all_texts versions)
+      (code_is all_texts versions image old g w.frame w.below code can.some there w.before (can.frames (depth_of old.frames - 1) (omega (arith, can.some))));
+}
+
+pub went_executed : (all_texts : List (List BareDef)) (versions : List ℕ) (image : CodeImage) (old new : Running) (point place height : ℕ)
+    → RunsCode all_texts versions image old → CanGoOn image.functions.items old place height → Executed image old new point place height
+    → WentOn (texts_by all_texts versions) image old new point place height
+went_executed all_texts versions image old new point place height code can e =
+    subst (λ (r : Running). WentOn (texts_by all_texts versions) image old r point place height) (sym e.is)
+    (went_on all_texts versions image e.function old new.frames point place height e.end code can e.there e.goes)

@@ -99,12 +99,17 @@ runs_newer all image old new number q is there versions in_force version slots s
 
 -- its slots fit the code still, and its versions can be counted
 pub kept_newer : (image : CodeImage) (old new : RunState) (number : ℕ) → IsKeptRun image old → new.versions.items ≡ old.versions.items ++ number ∷ []
-    → length old.versions.items + 1 < 2 ^ 32 → new.shared.version ≡ suc old.shared.version → AreKept image new.slots.items new.threads
-    → IsKeptRun image new
-kept_newer image old new number kept versions few version slots =
+    → length old.versions.items + 1 < 2 ^ 32 → new.shared.version ≡ suc old.shared.version → new.leaves_work ≡ old.leaves_work → AreKept image new.slots.items new.threads
+    → new.slots.items ≡ old.slots.items → IsKeptRun image new
+kept_newer image old new number kept versions few version leaves slots same =
     let long : length (old.versions.items ++ number ∷ []) ≡ length old.versions.items + 1 = length-append old.versions.items (number ∷ []) in
     let longer : length new.versions.items ≡ length old.versions.items + 1 = ap length versions ∙ long in
-    record { slots = slots; versions = omega (arith, longer, few); version = omega (arith, longer, version, kept.version) }
+    record {
+      slots = slots;
+      versions = omega (arith, longer, few);
+      version = omega (arith, longer, version, kept.version);
+      leaves = λ e n r there. kept.leaves (sym leaves ∙ e) n r (sym (ap (λ (rs : List Running). slice_get rs n) same) ∙ there);
+    }
 
 -- what holds after an error
 pub on_err : {T E P : Type 0} (r : Result T E) → P → OnErr r P

@@ -1,5 +1,5 @@
 -- What a step keeps of a run: slots that fit the code, its texts and versions, and how many of its numbers are used.
-use Rattle.std.proofs.Common.{◌≡◌, ◌⊎◌, inl, inr, ℕ, suc, ◌+◌, ◌<◌, ◌≤◌, List, length, Some, sym, subst, ap, ◌∙◌, arith}
+use Rattle.std.proofs.Common.{◌≡◌, inl, inr, ℕ, suc, ◌+◌, ◌<◌, ◌≤◌, Bool, true, false, List, length, Some, sym, subst, ap, ◌∙◌, arith}
 use Rattle.std.specs.Prelude.{◌^◌, All, Vec, slice_get, slice_set}
 use Rattle.std.specs.declared.alloc.Global.{Global}
 use Rattle.std.proofs.lemmas.Bool.{cases_eq}
@@ -10,14 +10,16 @@ use Rattle.word_layouts.specs.declared.layouts.WordLayouts.{WordLayouts}
 use Rattle.word_layouts.specs.WordChanges.{StandFor}
 use Rattle.code_image.specs.declared.image.CodeImage.{CodeImage}
 use Rattle.code_image.specs.Images.{names_in}
-use Rattle.code_machine.specs.declared.running.Next.TheVariants.{Continues}
 use Rattle.code_machine.specs.declared.running.Running.{Running}
 use Rattle.code_machine.specs.declared.state.RunState.{RunState}
 use Rattle.code_machine.specs.Keeping.{Keeps, UsesNothing}
-use Rattle.code_machine.specs.Kept.{AreKept, FitsImage, IsDueAt, IsKeptRun, most_threads}
+use Rattle.code_machine.specs.Kept.{AreKept, FitsImage, IsKeptRun, IsSettledRun, most_threads}
 use Rattle.code_machine.specs.Used.{HasUsed}
 use Rattle.code_machine.specs.Versions.{IsOfVersion, IsRunOf, RunsCode, SameVersions, texts_by}
 use Rattle.code_machine.proofs.Lists.{get_set_other, get_set_same, inside, one}
+
+pub not_both : (b : Bool) → b ≡ true → b ≡ false → ⊥
+not_both b on off = cc
 
 -- what holds of all slots, after one of them changed
 pub all_set : (P : Running → Type 0) (slots : List Running) (i : ℕ) (r : Running)
@@ -46,58 +48,20 @@ kept_set image slots items threads more i r set kept fits few =
     let long : length items ≡ length slots = ap length set ∙ length-set slots i r in
     record { fit = all_after (FitsImage image) slots items i r set kept.fit fits; few = omega (arith, kept.few, long); counted = few }
 
+-- a slot changed to one that leaves no work, where none does
+pub leaves_set : (slots items : List Running) (i : ℕ) (r : Running) → items ≡ slice_set slots i r
+    → ((n : ℕ) (x : Running) → slice_get slots n ≡ Some x → x.leaves_work ≡ false) → r.leaves_work ≡ false
+    → (n : ℕ) (x : Running) → slice_get items n ≡ Some x → x.leaves_work ≡ false
+leaves_set = all_after (λ (r : Running). r.leaves_work ≡ false)
+
 -- ---- private work that is due
 
--- with the same slots it is due where it was
-pub due_so : (old new : RunState) → new.slots.items ≡ old.slots.items → (n : ℕ) → IsDueAt new n → IsDueAt old n
-due_so old new slots n d =
-    record { running = d.running; there = sym (ap (λ (rs : List Running). slice_get rs n) slots) ∙ d.there; due = d.due }
-
--- after a change of one slot
-pub due_set : (old new : RunState) (slot acting : ℕ) (after : Running) → new.slots.items ≡ slice_set old.slots.items slot after
-    → (after.next ≡ Continues → IsDueAt old slot ⊎ (slot ≡ acting)) → (n : ℕ) → IsDueAt new n → IsDueAt old n ⊎ (n ≡ acting)
-due_set old new slot acting after set due n d =
-    elim (cases_eq n slot) [
-      | inl same ↦
-          let there : slice_get (slice_set old.slots.items slot after) n ≡ Some d.running =
-          sym (ap (λ (rs : List Running). slice_get rs n) set) ∙ d.there in
-          let within : n < length (slice_set old.slots.items slot after) = inside (slice_set old.slots.items slot after) n d.running there in
-          let room : slot < length old.slots.items = omega (arith, within, same, length-set old.slots.items slot after) in
-          let here : slice_get (slice_set old.slots.items slot after) n ≡ Some after =
-          ap (slice_get (slice_set old.slots.items slot after)) same ∙ get_set_same old.slots.items slot after room in
-          let is : d.running ≡ after = one (slice_get (slice_set old.slots.items slot after) n) d.running after there here in
-          subst (λ (k : ℕ). IsDueAt old k ⊎ (k ≡ acting)) (sym same) (due (sym (ap (λ (r : Running). r.next) is) ∙ d.due))
-      | inr differs ↦
-          inl (record {
-            running = d.running;
-            there = sym (ap (λ (rs : List Running). slice_get rs n) set ∙ get_set_other old.slots.items slot n after differs) ∙ d.there;
-            due = d.due;
-          })
-    ]
-
--- after one that did its work it is due in fewer
-pub due_less : (old new : RunState) (slot : ℕ) (after : Running) → new.slots.items ≡ slice_set old.slots.items slot after
-    → (after.next ≡ Continues → ⊥) → (n : ℕ) → IsDueAt new n → IsDueAt old n × (n ≡ slot → ⊥)
-due_less old new slot after set settled n d =
-    elim (cases_eq n slot) [
-      | inl same ↦
-          let there : slice_get (slice_set old.slots.items slot after) n ≡ Some d.running =
-          sym (ap (λ (rs : List Running). slice_get rs n) set) ∙ d.there in
-          let within : n < length (slice_set old.slots.items slot after) = inside (slice_set old.slots.items slot after) n d.running there in
-          let room : slot < length old.slots.items = omega (arith, within, same, length-set old.slots.items slot after) in
-          let here : slice_get (slice_set old.slots.items slot after) n ≡ Some after =
-          ap (slice_get (slice_set old.slots.items slot after)) same ∙ get_set_same old.slots.items slot after room in
-          let is : d.running ≡ after = one (slice_get (slice_set old.slots.items slot after) n) d.running after there here in
-          absurd (settled (sym (ap (λ (r : Running). r.next) is) ∙ d.due))
-      | inr differs ↦ (
-        record {
-          running = d.running;
-          there = sym (ap (λ (rs : List Running). slice_get rs n) set ∙ get_set_other old.slots.items slot n after differs) ∙ d.there;
-          due = d.due;
-        },
-        differs,
-      )
-    ]
+-- none is where moves leave none
+pub none_due : (image : CodeImage) (run : RunState) → IsKeptRun image run → run.leaves_work ≡ false → IsSettledRun run
+none_due image run kept leaves n d =
+    let no : d.running.leaves_work ≡ false = kept.leaves leaves n d.running d.there in
+    let yes : d.running.leaves_work ≡ true = (kept.slots.fit n d.running d.there).leaves d.due in
+    absurd (not_both d.running.leaves_work yes no)
 
 -- ---- runs in the same versions
 
@@ -130,7 +94,7 @@ same_used old new slots threads created n u = record {
   depths = λ t r there. u.depths t r (ap (λ (v : Vec Running Global). slice_get v.items t) (sym slots) ∙ there);
 }
 
-module _ (image : CodeImage) (old new : RunState) (same : SameVersions old new) (version : new.shared.version ≡ old.shared.version) where
+module _ (image : CodeImage) (old new : RunState) (same : SameVersions old new) (leaves : new.leaves_work ≡ old.leaves_work) (version : new.shared.version ≡ old.shared.version) where
   abbrev Frames : RunState → Type 0
   Frames run =
       (n : ℕ) (r : Running) → slice_get run.slots.items n ≡ Some r → All (IsOfVersion image.functions.items old.versions.items) r.frames.frames.items
@@ -140,21 +104,25 @@ module _ (image : CodeImage) (old new : RunState) (same : SameVersions old new) 
       stays_run all image old new (ap (λ (vs : Vec ℕ Global). vs.items) same.versions) same.in_force
       (ap (λ (l : WordLayouts). l.versions.items) same.layouts) version frames is
 
-  pub stays_kept : AreKept image new.slots.items new.threads → IsKeptRun image old → IsKeptRun image new
-  stays_kept slots kept = record {
+  pub stays_kept : AreKept image new.slots.items new.threads
+      → (old.leaves_work ≡ false → (n : ℕ) (r : Running) → slice_get new.slots.items n ≡ Some r → r.leaves_work ≡ false)
+      → IsKeptRun image old → IsKeptRun image new
+  stays_kept slots none kept = record {
     slots = slots;
     versions = subst (λ (vs : Vec ℕ Global). length vs.items < 2 ^ 32) (sym same.versions) kept.versions;
     version = ap suc version ∙ kept.version ∙ ap (λ (vs : Vec ℕ Global). length vs.items) (sym same.versions);
+    leaves = λ e. none (sym leaves ∙ e);
   }
 
   -- no slot changed
   pub keeps_all : IsKeptRun image old → new.slots ≡ old.slots → new.threads ≡ old.threads → new.shared.objects.created ≡ old.shared.objects.created
-      → (acting : ℕ) → Keeps image acting old new
-  keeps_all kept slots threads created acting = record {
+      → Keeps image old new
+  keeps_all kept slots threads created = record {
     kept =
         stays_kept
         (subst (λ (n : ℕ). AreKept image new.slots.items n) (sym threads)
-        (subst (λ (v : Vec Running Global). AreKept image v.items old.threads) (sym slots) kept.slots)) kept;
+        (subst (λ (v : Vec Running Global). AreKept image v.items old.threads) (sym slots) kept.slots))
+        (λ e n r there. kept.leaves e n r (ap (λ (v : Vec Running Global). slice_get v.items n) (sym slots) ∙ there)) kept;
     run = λ all is.
         still_run all (λ n r there. is.frames n r (ap (λ (v : Vec Running Global). slice_get v.items n) (sym slots) ∙ there)) is;
     same = same;
@@ -165,18 +133,20 @@ module _ (image : CodeImage) (old new : RunState) (same : SameVersions old new) 
           threads = omega (arith, now.threads);
           depths = λ t r there. let deep = now.depths t r there in omega (arith, deep);
         };
-    due = λ n d. inl (due_so old new (ap (λ (v : Vec Running Global). v.items) slots) n d);
+    leaves = leaves;
   }
 
   -- the thread in a slot changed
-  pub keeps_slot : IsKeptRun image old → (acting slot : ℕ) (after : Running) → new.slots.items ≡ slice_set old.slots.items slot after
+  pub keeps_slot : IsKeptRun image old → (slot : ℕ) (after : Running) → new.slots.items ≡ slice_set old.slots.items slot after
       → FitsImage image after
       → ((all : List (List BareDef)) → IsRunOf all image old → All (IsOfVersion image.functions.items old.versions.items) after.frames.frames.items)
       → ((n : ℕ) → HasUsed n old → after.depth ≤ 1 + n) → new.threads ≤ most_threads → new.threads ≤ suc old.threads
       → ((n : ℕ) → old.shared.objects.created ≤ n → new.shared.objects.created ≤ 1 + n)
-      → (after.next ≡ Continues → IsDueAt old slot ⊎ (slot ≡ acting)) → Keeps image acting old new
-  keeps_slot kept acting slot after set fits frames depth few threads created due = record {
-    kept = stays_kept (kept_set image old.slots.items new.slots.items old.threads new.threads slot after set kept.slots fits few) kept;
+      → (old.leaves_work ≡ false → after.leaves_work ≡ false) → Keeps image old new
+  keeps_slot kept slot after set fits frames depth few threads created none = record {
+    kept =
+        stays_kept (kept_set image old.slots.items new.slots.items old.threads new.threads slot after set kept.slots fits few)
+        (λ e. leaves_set old.slots.items new.slots.items slot after set (kept.leaves e) (none e)) kept;
     run = λ all is.
         still_run all
         (all_after (λ (r : Running). All (IsOfVersion image.functions.items old.versions.items) r.frames.frames.items) old.slots.items new.slots.items slot after set
@@ -189,28 +159,29 @@ module _ (image : CodeImage) (old new : RunState) (same : SameVersions old new) 
           all_after (λ (r : Running). r.depth ≤ 1 + n) old.slots.items new.slots.items slot after set
           (λ t r there. let deep = u.depths t r there in omega (arith, deep)) (depth n u);
     };
-    due = due_set old new slot acting after set due;
+    leaves = leaves;
   }
 
 -- then the thread in a slot changed, and is in as many transactions as before
-pub keeps_also : (image : CodeImage) (acting : ℕ) (old mid new : RunState) → Keeps image acting old mid → SameVersions mid new → new.shared ≡ mid.shared
+pub keeps_also : (image : CodeImage) (old mid new : RunState) → Keeps image old mid → SameVersions mid new → new.leaves_work ≡ mid.leaves_work → new.shared ≡ mid.shared
     → new.threads ≡ mid.threads → (slot : ℕ) (before after : Running) → slice_get mid.slots.items slot ≡ Some before
     → new.slots.items ≡ slice_set mid.slots.items slot after → FitsImage image after
     → ((all : List (List BareDef)) (versions : List ℕ) → RunsCode all versions image before → RunsCode all versions image after)
-    → after.depth ≡ before.depth → slot ≡ acting → Keeps image acting old new
-keeps_also image acting old mid new keeps same shared threads slot before after there set fits runs depth acts =
+    → after.depth ≡ before.depth → after.leaves_work ≡ before.leaves_work → Keeps image old new
+keeps_also image old mid new keeps same mode shared threads slot before after there set fits runs depth leaves =
     let version : new.shared.version ≡ mid.shared.version = ap (λ (d : Data). d.version) shared in
     let created : new.shared.objects.created ≡ mid.shared.objects.created = ap (λ (d : Data). d.objects.created) shared in
     let few : new.threads ≤ most_threads = omega (arith, keeps.kept.slots.counted, threads) in
     record {
       kept =
-          stays_kept image mid new same version
-          (kept_set image mid.slots.items new.slots.items mid.threads new.threads slot after set keeps.kept.slots fits few) keeps.kept;
+          stays_kept image mid new same mode version
+          (kept_set image mid.slots.items new.slots.items mid.threads new.threads slot after set keeps.kept.slots fits few)
+          (λ e. leaves_set mid.slots.items new.slots.items slot after set (keeps.kept.leaves e) (leaves ∙ keeps.kept.leaves e slot before there)) keeps.kept;
       run = λ all is.
           let now = keeps.run all is in
           let code : RunsCode all mid.versions.items image after =
           runs all mid.versions.items (record { image_is = now.image_is; frames = now.frames slot before there }) in
-          still_run image mid new same version all
+          still_run image mid new same mode version all
           (all_after (λ (r : Running). All (IsOfVersion image.functions.items mid.versions.items) r.frames.frames.items) mid.slots.items new.slots.items slot after set
           now.frames code.frames) now;
       same = record {
@@ -226,27 +197,23 @@ keeps_also image acting old mid new keeps same shared threads slot before after 
             threads = omega (arith, now.threads, threads);
             depths = all_after (λ (r : Running). r.depth ≤ 1 + n) mid.slots.items new.slots.items slot after set now.depths (omega (arith, deep, depth));
           };
-      due = λ n d. by n (due_set mid new slot acting after set (λ e. inr acts) n d);
+      leaves = mode ∙ keeps.leaves;
     }
-  where
-    by : (n : ℕ) → IsDueAt mid n ⊎ (n ≡ acting) → IsDueAt old n ⊎ (n ≡ acting)
-    by n (inl d) = keeps.due n d
-    by n (inr e) = inr e
 
 -- ---- a stop of the thread in a slot, which changes no other thread
 
 module _ (image : CodeImage) (old new : RunState) (slot : ℕ) (before after : Running) (there : slice_get old.slots.items slot ≡ Some before)
     (set : new.slots.items ≡ slice_set old.slots.items slot after) (threads : new.threads ≡ old.threads) where
-  pub keeps_thread : IsKeptRun image old → SameVersions old new → new.shared.version ≡ old.shared.version → FitsImage image after
+  pub keeps_thread : IsKeptRun image old → SameVersions old new → new.leaves_work ≡ old.leaves_work → new.shared.version ≡ old.shared.version → FitsImage image after
       → ((all : List (List BareDef)) (versions : List ℕ) → RunsCode all versions image before → RunsCode all versions image after)
       → after.depth ≤ 1 + before.depth
-      → ((n : ℕ) → old.shared.objects.created ≤ n → new.shared.objects.created ≤ 1 + n) → (acting : ℕ)
-      → (after.next ≡ Continues → IsDueAt old slot ⊎ (slot ≡ acting)) → Keeps image acting old new
-  keeps_thread kept same version fits runs depth created acting due =
-      keeps_slot image old new same version kept acting slot after set fits
+      → ((n : ℕ) → old.shared.objects.created ≤ n → new.shared.objects.created ≤ 1 + n)
+      → after.leaves_work ≡ before.leaves_work → Keeps image old new
+  keeps_thread kept same mode version fits runs depth created leaves =
+      keeps_slot image old new same mode version kept slot after set fits
       (λ all is. (runs all old.versions.items (record { image_is = is.image_is; frames = is.frames slot before there })).frames)
       (λ n u. let deep = u.depths slot before there in omega (arith, deep, depth))
-      (omega (arith, kept.slots.counted, threads)) (omega (arith, threads)) created due
+      (omega (arith, kept.slots.counted, threads)) (omega (arith, threads)) created (λ e. leaves ∙ kept.leaves e slot before there)
 
   pub uses_nothing : new.shared.objects.created ≡ old.shared.objects.created → new.output ≡ old.output → after.depth ≡ before.depth
       → UsesNothing old new

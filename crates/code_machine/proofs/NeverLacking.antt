@@ -28,14 +28,13 @@ depth_seen image r (Enters n count) = refl
 depth_seen image r Continues = refl
 depth_seen image r (Stands end) = refl
 
-module _ (image : CodeImage) (r : Running) (x : StopPlace) (rests : RestsAt image.functions.items (length image.callees.items) r x) (act : Act) (is : x.act ≡ act) where
+module _ (image : CodeImage) (r : Running) (x : StopPlace) (rests : RestsAt image.functions.items (length image.callees.items) r x) where
   -- it prints no more than the longest print of the texts
-  pub prints_few : act_prints (table image.trees) act ≤ image.longest_print
+  pub prints_few : act_prints (table image.trees) x.act ≤ image.longest_print
   prints_few =
       let here : IsFrame image.functions.items (innermost r.frames) = frame_there image.functions.items (length image.callees.items) r x rests in
       let found : (g : CodeFunction) × (slice_get image.functions.items (innermost r.frames).unit ≡ Some g) = some image.functions.items (innermost r.frames).unit here.inside in
-      subst (λ (a : Act). act_prints (table image.trees) a ≤ image.longest_print) is
-      (image.prints (innermost r.frames).unit found.0 found.1 (innermost r.frames).place x (rests.there found.0 found.1))
+      image.prints (innermost r.frames).unit found.0 found.1 (innermost r.frames).place x (rests.there found.0 found.1)
 
   module _ (run : RunState) (slot : ℕ) (there : slice_get run.slots.items slot ≡ Some r) (enough : HasEnough image run slot) where
     not_too_deep : suc r.depth < 2 ^ 64
@@ -50,5 +49,5 @@ module _ (image : CodeImage) (r : Running) (x : StopPlace) (rests : RestsAt imag
     none_lacks Begin few lacks = omega (arith, lacks, not_too_deep)
     none_lacks a few lacks = absurd lacks
 
-    pub never_lacks : ActMayFail (table image.trees) act r.depth run.shared run.output → ⊥
-    never_lacks = none_lacks act prints_few
+    pub never_lacks : ActMayFail (table image.trees) x.act r.depth run.shared run.output → ⊥
+    never_lacks = none_lacks x.act prints_few

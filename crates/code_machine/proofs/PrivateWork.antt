@@ -1,5 +1,5 @@
 -- A frame whose private instructions are left for later, and one that executes them.
-use Rattle.std.proofs.Common.{◌≡◌, ℕ, zero, suc, ◌-◌, ◌<◌, List, ◌∷◌, length, Some, refl, sym, subst, ap, ◌∙◌, arith}
+use Rattle.std.proofs.Common.{◌≡◌, ℕ, zero, suc, ◌-◌, ◌<◌, true, Bool, List, ◌∷◌, length, Some, refl, sym, subst, ap, ◌∙◌, arith}
 use Rattle.std.specs.Prelude.{slice_get}
 use Rattle.c_tree.specs.BareExpr.{Bytes}
 use Rattle.c_tree.specs.BareDef.{BareDef}
@@ -35,7 +35,7 @@ use Rattle.code_machine.specs.declared.running.Stand.{Stand}
 use Rattle.code_machine.specs.declared.running.Stand.TheVariants.{Free, Live, Over}
 use Rattle.code_machine.specs.Kept.{Fits, HasHeightAt, IsFrame, Owes, Wait}
 use Rattle.code_machine.specs.Seen.{code_at, code_there, settled_first, settled_frame, slot_by, slot_of, standing_with, thread_by, thread_of, words_of}
-use Rattle.code_machine.specs.Stops.{CanGoOn, WentOn, resting}
+use Rattle.code_machine.specs.Stops.{CanGoOn, Executed, WentOn, resting}
 use Rattle.code_machine.specs.Versions.{RunsCode, texts_by}
 use Rattle.code_machine.proofs.Fitting.{are_frames, depth_is, frame_moved, head_is, innermost_is, moved, wait_still}
 use Rattle.code_machine.proofs.Going.{code_is}
@@ -51,9 +51,9 @@ continues_so end e = cc
 
 -- a thread whose innermost frame is to go on elsewhere is kept
 pub fits_off : (functions : List CodeFunction) (callees : ℕ) (old : Running) (new : Frames) (point place height : ℕ) → CanGoOn functions old place height
-    → new.frames.items ≡ with_innermost old.frames (moved (innermost old.frames) point place height)
+    → old.leaves_work ≡ true → new.frames.items ≡ with_innermost old.frames (moved (innermost old.frames) point place height)
     → new.highest_stack ≡ old.frames.highest_stack → IsKept new → Fits functions callees (record old { frames = new; next = Continues })
-fits_off functions callees old new point place height can frames same kept =
+fits_off functions callees old new point place height can leaves frames same kept =
     let f : Frame = moved (innermost old.frames) point place height in
     let last : ◌≡◌ {A = Frame} (innermost new) f = innermost_is functions old.frames new f can.some frames in
     let deep : depth_of new ≡ depth_of old.frames = depth_is functions old.frames new f can.some frames in
@@ -68,6 +68,7 @@ fits_off functions callees old new point place height can frames same kept =
         height = subst (λ (q : Frame). HasHeightAt functions q q.place q.height) (sym last) can.high;
         wait = subst (Wait functions new) below (wait_still functions old.frames new f can.some frames can.wait);
       };
+      leaves = λ e. leaves;
       stood = λ end e. absurd (continues_so end e);
       stacks = subst (λ (k : ℕ). AreNeverHigher k functions) (sym same) can.stacks;
     }
@@ -133,6 +134,25 @@ went_off all_texts versions image g old new point place height code can found fr
       goes = subst (λ (d : List Instruction). GoesOn texts w.frame place (stack_of old.frames height) point (settled_frame d (put_at point place (stack_of old.frames height) w.frame))) (sym own) goes;
     }
 
+-- whether a thread leaves work isn't seen
+leaving : (image : CodeImage) (r : Running) (b : Bool) (n : Next) → thread_by image (record r { leaves_work = b }) n ≡ thread_by image r n
+leaving image r b (Enters n count) = refl
+leaving image r b Continues = refl
+leaving image r b (Stands end) = refl
+
+slot_leaving : (image : CodeImage) (r : Running) (b : Bool) (s : Stand) → slot_by image (record r { leaves_work = b }) s ≡ slot_by image r s
+slot_leaving image r b Free = refl
+slot_leaving image r b Live = ap LiveSlot (leaving image r b r.next)
+slot_leaving image r b (Over word) = refl
+
+pub seen_leaving : (image : CodeImage) (r : Running) (b : Bool) → slot_of image (record r { leaves_work = b }) ≡ slot_of image r
+seen_leaving image r b = slot_leaving image r b r.stand
+
+pub fits_leaving : (functions : List CodeFunction) (callees : ℕ) (r : Running) (b : Bool) → (r.next ≡ Continues → b ≡ true) → Fits functions callees r
+    → Fits functions callees (record r { leaves_work = b })
+fits_leaving functions callees r b leaves fits =
+    record { kept = fits.kept; serial = fits.serial; frames = fits.frames; due = fits.due; owes = fits.owes; leaves = leaves; stood = fits.stood; stacks = fits.stacks }
+
 -- ---- work is done
 
 -- a thread that has private work to do can go on where it is
@@ -180,7 +200,7 @@ seen_settled image old new next g before after below due found frames thread is 
     by (Over word) = refl
 
 -- so where it executed its private instructions
-pub seen_executed : (image : CodeImage) (old : Running) (new : Frames) (g : CodeFunction) (end : End) → old.next ≡ Continues → 0 < depth_of old.frames
+seen_executed : (image : CodeImage) (old : Running) (new : Frames) (g : CodeFunction) (end : End) → old.next ≡ Continues → 0 < depth_of old.frames
     → slice_get image.functions.items (innermost old.frames).unit ≡ Some g
     → change.WentOn (words_of image) g.verified.body.code.items old.frames new (innermost old.frames).point (innermost old.frames).place (innermost old.frames).height end
     → slot_of image (record old { frames = new; next = Stands end }) ≡ slot_of image old
@@ -197,3 +217,8 @@ seen_executed image old new g end due some found w =
     let standing : w.next.standing ≡ w.frame.standing = w.standing ∙ sym (ap (λ (x : CodeFrame). x.standing) head) in
     seen_settled image old new (Stands end) g w.frame w.next w.below due found w.before (ap (standing_with old) w.after)
     (same_frame w.next (settled_frame c w.frame) w.function w.version standing state)
+
+pub seen_due : (image : CodeImage) (old new : Running) → old.next ≡ Continues → 0 < depth_of old.frames
+    → Executed image old new (innermost old.frames).point (innermost old.frames).place (innermost old.frames).height → slot_of image new ≡ slot_of image old
+seen_due image old new due some e =
+    subst (λ (r : Running). slot_of image r ≡ slot_of image old) (sym e.is) (seen_executed image old new.frames e.function e.end due some e.there e.goes)

@@ -90,10 +90,10 @@ pub depth_set : (image : CodeImage) (r : Running) (k : ℕ) → thread_of image 
 depth_set image r k = with_depth image r k r.next
 
 pub fits_deeper : (functions : List CodeFunction) (callees : ℕ) (r : Running) (k : ℕ) → Fits functions callees r → Fits functions callees (record r { depth = k })
-fits_deeper functions callees r k fits = record { kept = fits.kept; serial = fits.serial; frames = fits.frames; due = fits.due; owes = fits.owes; stood = fits.stood; stacks = fits.stacks }
+fits_deeper functions callees r k fits = record { kept = fits.kept; serial = fits.serial; frames = fits.frames; due = fits.due; owes = fits.owes; leaves = fits.leaves; stood = fits.stood; stacks = fits.stacks }
 
 pub fits_standing : (functions : List CodeFunction) (callees : ℕ) (r : Running) (stand : Stand) → Fits functions callees r → Fits functions callees (record r { stand = stand })
-fits_standing functions callees r stand fits = record { kept = fits.kept; serial = fits.serial; frames = fits.frames; due = fits.due; owes = fits.owes; stood = fits.stood; stacks = fits.stacks }
+fits_standing functions callees r stand fits = record { kept = fits.kept; serial = fits.serial; frames = fits.frames; due = fits.due; owes = fits.owes; leaves = fits.leaves; stood = fits.stood; stacks = fits.stacks }
 
 -- the world in which a thread goes on
 pub continues : (image : CodeImage) (new : Running) (slot : ℕ) (d : Data) (w : CodeWorld) (th : CodeThread) (next : CodeFrame) → new.stand ≡ LiveStand

@@ -50,6 +50,7 @@ fresh functions callees s r main count same kept none serial next inside stacks 
         wait = λ k h. absurd (omega (arith, empty));
       };
       owes = λ e. absurd (not_continues main count (sym next ∙ e));
+      leaves = λ e. absurd (not_continues main count (sym next ∙ e));
       stood = λ end e. absurd (not_stands main count end (sym next ∙ e));
       stacks = subst (λ (q : Frames). AreNeverHigher q.highest_stack functions) (sym same) stacks;
     }

@@ -224,6 +224,7 @@ module _ (image : CodeImage) (old : Running) (w : Work) (end : End) (fits : Fits
       frames = are_frames image.functions.items old.frames new last some_frame frames (frame_moved image.functions.items (innermost old.frames) (innermost old.frames).point w.place w.height (fits.frames (depth_of old.frames - 1) (omega (arith, some_frame)))) fits.frames;
       due = λ n count e. absurd (stands_not end n count e);
       owes = λ e. absurd (stands_and_continues end e);
+      leaves = λ e. absurd (stands_and_continues end e);
       stood = λ other e. subst (Stood image.functions.items new) (same_end end other e) stood_back;
       stacks = subst (λ (k : ℕ). AreNeverHigher k image.functions.items) (sym high) fits.stacks;
     }

@@ -92,7 +92,7 @@ apart : (r : Running) (left : ℕ) → r.stand ≡ LiveStand → r.stand ≡ Ove
 apart r left live over = cc
 
 pub fits_free : (image : CodeImage) (r : Running) → FitsImage image r → FitsImage image (record r { stand = FreeStand })
-fits_free image r fits = record { kept = fits.kept; serial = fits.serial; frames = fits.frames; due = fits.due; owes = fits.owes; stood = fits.stood; stacks = fits.stacks }
+fits_free image r fits = record { kept = fits.kept; serial = fits.serial; frames = fits.frames; due = fits.due; owes = fits.owes; leaves = fits.leaves; stood = fits.stood; stacks = fits.stacks }
 
 -- a slot is freed, of which the thread ended; the thread that joins it goes on
 module _ (image : CodeImage) (old : RunState) (place slot left : ℕ) (over joins : Running) (there : slice_get old.slots.items place ≡ Some over)

@@ -43,6 +43,7 @@ module _ (r : Running) (v : Vec ℕ Global) (same : v.items ≡ r.frames.words.i
     owes = λ e.
         let o : Owes functions r.frames = fits.owes e in
         record { some = o.some; height = o.height; wait = o.wait };
+    leaves = fits.leaves;
     stood = λ end e.
         let s : Stood functions r.frames end = fits.stood end e in
         record {

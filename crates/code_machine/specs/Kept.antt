@@ -1,5 +1,5 @@
 -- What is kept of threads, whatever the texts and their names are: each step finds what it needs.
-use Rattle.std.specs.Prelude.{◌≡◌, ℕ, suc, ◌-◌, ◌<◌, ◌≤◌, ◌^◌, List, ◌∷◌, length, slice_get, Option, Some, None}
+use Rattle.std.specs.Prelude.{◌≡◌, ℕ, suc, ◌-◌, ◌<◌, ◌≤◌, ◌^◌, true, false, List, ◌∷◌, length, slice_get, Option, Some, None}
 use Rattle.resolved_tree.specs.Nodes.{Table}
 use Rattle.bytecode.specs.Meaning.{Step, Goes, Traps, Rests, Lost, step}
 use Rattle.bytecode.specs.Seen.{code_of}
@@ -71,6 +71,7 @@ pub record Fits (functions : List CodeFunction) (callees : ℕ) (r : Running) : 
   pub frames : (n : ℕ) → n < depth_of r.frames → IsFrame functions (frame_at r.frames n)
   pub due : (n count : ℕ) → r.next ≡ Enters n count → Due functions callees r.frames n count
   pub owes : r.next ≡ Continues → Owes functions r.frames
+  pub leaves : r.next ≡ Continues → r.leaves_work ≡ true
   pub stood : (end : End) → r.next ≡ Stands end → Stood functions r.frames end
   pub stacks : AreNeverHigher r.frames.highest_stack functions
 
@@ -84,11 +85,12 @@ pub record AreKept (image : CodeImage) (slots : List Running) (threads : ℕ) : 
   pub few : length slots ≤ most_slots
   pub counted : threads ≤ most_threads
 
--- those of a run do, and its versions are few enough to be counted
+-- those of a run do, its versions are few enough to be counted, and where it leaves no private work for later, no thread does
 pub record IsKeptRun (image : CodeImage) (run : RunState) : Type 0 where
   pub slots : AreKept image run.slots.items run.threads
   pub versions : length run.versions.items < 2 ^ 32
   pub version : suc run.shared.version ≡ length run.versions.items
+  pub leaves : run.leaves_work ≡ false → (n : ℕ) (r : Running) → slice_get run.slots.items n ≡ Some r → r.leaves_work ≡ false
 
 -- ---- private work
 

@@ -128,4 +128,4 @@ IsSettledAt m slot = IsDueAt m.run slot → ⊥
 -- no thread has, and moves leave none
 pub record IsSettled (m : CodeMachine) : Type 0 where
   pub none : IsSettledRun m.run
-  pub leaves : m.leaves_work ≡ false
+  pub leaves : m.run.leaves_work ≡ false

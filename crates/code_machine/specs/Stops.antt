@@ -4,11 +4,13 @@ use Rattle.c_tree.specs.BareDef.{BareDef}
 use Rattle.c_semantics.specs.Stops.{Stop, End as AtEnd}
 use Rattle.source_model.specs.Waits.{Waiting}
 use Rattle.local_evaluation.specs.Pieces.{stop_of}
+use Rattle.thread_state.specs.declared.steps.End.{End}
 use Rattle.thread_state.specs.declared.steps.End.TheVariants.{Rests as RestsThere}
 use Rattle.code_runs.specs.CodeData.{Data, Names}
 use Rattle.code_runs.specs.CodeThreads.{CodeFrame, CodeSlot, CodeThread, CodeWorld, Rests}
 use Rattle.code_runs.specs.CodeMoves.{At, GoesOn, IsEntered, StopMade, with_slot}
 use Rattle.code_runs.specs.CodeWaits.{at_stop}
+use Rattle.word_frames.specs.Changes as change
 use Rattle.word_frames.specs.Seen.{IsKept, depth_of, frame_at, frames_of, innermost, stack_of}
 use Rattle.code_image.specs.declared.act.Act.{Act}
 use Rattle.code_image.specs.declared.act.Act.TheVariants.{Spawn, Join}
@@ -46,6 +48,7 @@ pub record IsFresh (r : Running) (main : ℕ) : Type 0 where
   pub depth : r.depth ≡ 0
   pub version : r.version ≡ 1
   pub none : r.frames.frames.items ≡ []
+  pub leaves : r.leaves_work ≡ false
 
 -- only what it does next and its frames changed
 pub record SameThread (old new : Running) : Type 0 where
@@ -53,6 +56,7 @@ pub record SameThread (old new : Running) : Type 0 where
   pub serial : new.serial ≡ old.serial
   pub depth : new.depth ≡ old.depth
   pub version : new.version ≡ old.version
+  pub leaves : new.leaves_work ≡ old.leaves_work
 
 -- a thread with a frame that rests, over frames that wait
 abbrev pub resting : Running → CodeFrame → List CodeFrame → CodeThread
@@ -66,6 +70,14 @@ pub record WentOn (texts : List (List BareDef)) (image : CodeImage) (old new : R
   pub before : frames_of (words_of image) old.frames ≡ frame ∷ below
   pub after : thread_of image new ≡ resting old next below
   pub goes : GoesOn texts frame place (stack_of old.frames height) point next
+
+-- its innermost frame executed its private instructions from a place on with a height, having stopped at a point
+pub record Executed (image : CodeImage) (old new : Running) (point place height : ℕ) : Type 0 where
+  pub function : CodeFunction
+  pub there : slice_get image.functions.items (innermost old.frames).unit ≡ Some function
+  pub end : End
+  pub goes : change.WentOn (words_of image) function.verified.body.code.items old.frames new.frames point place height end
+  pub is : new ≡ record old { frames = new.frames; next = Stands end }
 
 -- it entered a function
 pub record Entered (texts : List (List BareDef)) (image : CodeImage) (old new : Running) (n count : ℕ) : Type 0 where

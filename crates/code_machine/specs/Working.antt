@@ -1,5 +1,5 @@
 -- Private work that is done in a step, or at another time.
-use Rattle.std.specs.Prelude.{◌≡◌, ℕ, ◌+◌, ◌≤◌, Bool, false, List, Result, IfOk, IsOk, OnOk, length, vec_capacity}
+use Rattle.std.specs.Prelude.{◌≡◌, ℕ, ◌+◌, ◌≤◌, false, List, Result, IfOk, IsOk, OnOk, length, vec_capacity}
 use Rattle.std.specs.declared.alloc.AllocError.{AllocError}
 use Rattle.c_tree.specs.BareDef.{BareDef}
 use Rattle.code_image.specs.declared.image.CodeImage.{CodeImage}
@@ -9,20 +9,20 @@ use Rattle.code_machine.specs.declared.moves.CodeStep.{CodeStep}
 use Rattle.code_machine.specs.declared.state.RunState.{RunState}
 use Rattle.code_machine.specs.Enough.{HasEnough}
 use Rattle.code_machine.specs.Keeping.{UsesNothing}
-use Rattle.code_machine.specs.Kept.{IsKeptRun, IsSettledRun}
+use Rattle.code_machine.specs.Kept.{IsKeptRun}
 use Rattle.code_machine.specs.Leading.{Led, has_moved}
 use Rattle.code_machine.specs.Seen.{code_world, image_of, output_of, world_of}
 use Rattle.code_machine.specs.Steps.{StepsTo}
 use Rattle.code_machine.specs.Used.{HasUsed}
 use Rattle.code_machine.specs.Versions.{IsMachineOf, IsReady, IsRunOf, SameVersions, texts_of, versions_of}
 
--- a step of the thread in a slot, by what it came to. If it leaves no work, none is left that wasn't there before
-pub record IsStep (image : CodeImage) (slot : ℕ) (leaves : Bool) (old new : RunState) (result : Result CodeStep AllocError) : Type 0 where
+-- a step of the thread in a slot, by what it came to
+pub record IsStep (image : CodeImage) (slot : ℕ) (old new : RunState) (result : Result CodeStep AllocError) : Type 0 where
   pub kept : IsKeptRun image new
   pub run : (all : List (List BareDef)) → IsRunOf all image old → IsRunOf all image new
   pub same : SameVersions old new
   pub used : (n : ℕ) → HasUsed n old → HasUsed (1 + n) new
-  pub settled : leaves ≡ false → IsSettledRun old → IsSettledRun new
+  pub leaves : new.leaves_work ≡ old.leaves_work
   pub stays : IfOk result (λ step. has_moved step ≡ false → UsesNothing old new)
   pub came : (all : List (List BareDef)) → IsReady all image old slot
       → IfOk result (λ step. StepsTo all image slot old new (has_moved step))

@@ -122,7 +122,6 @@ impl CodeMachine {
         let image = share(alloc, image)?;
         Ok(CodeMachine {
             image,
-            leaves_work: false,
             run: RunState {
                 shared,
                 slots,
@@ -132,6 +131,7 @@ impl CodeMachine {
                 versions,
                 in_force: 0,
                 layouts: WordLayouts::new(alloc),
+                leaves_work: false,
             },
         })
     }
@@ -158,8 +158,7 @@ impl CodeMachine {
         ensures enough { HasNumbers (code_world self.old) slot → output_of self.old ≡ [] → IsOk result }
         ensures settled { IsSettled self.old → IsSettled self.new }
     {
-        let leaves_work = self.leaves_work;
-        work_and_step(&self.image, &mut self.run, slot, leaves_work)
+        work_and_step(&self.image, &mut self.run, slot)
     }
 
     /// Takes what was printed away. Its memory stays for what is printed next.

@@ -13,6 +13,7 @@ ghost use Rattle.code_machine.specs.Keeping.{SameRun};
 ghost use Rattle.code_machine.specs.Kept.{FitsImage, IsDueAt, IsKeptRun};
 ghost use Rattle.code_machine.specs.Queries.{IsSettled, IsSettledAt};
 ghost use Rattle.code_machine.specs.Seen.{image_of, slot_of};
+ghost use Rattle.code_machine.specs.Stops.{SameThread};
 ghost use Rattle.code_machine.specs.Versions.{RunsCode};
 ghost use Rattle.code_machine.specs.Working.{SameMachine};
 
@@ -173,9 +174,9 @@ impl Running {
         ensures fits { FitsImage image.now self.new }
         ensures runs { (all : List (List BareDef)) (versions : List ℕ) → RunsCode all versions image.now self.old
             → RunsCode all versions image.now self.new }
+        ensures same { SameThread self.old self.new }
         ensures seen { slot_of image.now self.new ≡ slot_of image.now self.old }
         ensures settled { self.new.next ≡ ContinuesNext → ⊥ }
-        ensures depth { self.new.depth ≡ self.old.depth }
     {
         match self.next {
             Next::Continues => {}
@@ -196,9 +197,9 @@ impl Running {
         ensures fits { FitsImage image.now self.new }
         ensures runs { (all : List (List BareDef)) (versions : List ℕ) → RunsCode all versions image.now self.old
             → RunsCode all versions image.now self.new }
+        ensures same { SameThread self.old self.new }
         ensures seen { slot_of image.now self.new ≡ slot_of image.now self.old }
         ensures settled { self.new.next ≡ ContinuesNext → ⊥ }
-        ensures depth { self.new.depth ≡ self.old.depth }
     {
         self.frames
             .copy_in(work.after.as_slice(), work.place, work.height);
@@ -212,6 +213,7 @@ impl RunState {
         requires kept { IsKeptRun image.now self.old }
         requires same { IsSameCode image.now (work_image work.now) }
         ensures same { SameRun image.now self.old self.new }
+        ensures leaves { self.new.leaves_work ≡ self.old.leaves_work }
         ensures settled { IsDueAt self.new slot → ⊥ }
     {
         let slot = slot as usize;

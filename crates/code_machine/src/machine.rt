@@ -13,8 +13,6 @@ pub struct CodeMachine {
     /// It doesn't change, so those who do private work elsewhere share it.
     pub(crate) image: Arc<CodeImage>,
     pub(crate) run: RunState,
-    /// Whether the private work that follows a move is left for later.
-    pub(crate) leaves_work: bool,
     ghost kept: { IsKeptRun image.value run } by { Prim.hlevel props },
     ghost room: { image.value.longest_print ≤ vec_capacity run.output },
 }

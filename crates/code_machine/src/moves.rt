@@ -1,5 +1,5 @@
 //! A move of a thread.
-ghost use Rattle.std.specs.Prelude.{◌≡◌, ◌+◌, ◌≤◌, [], ◌∷◌, IfOk, IsOk, List, MatchOption, OnOk, false, length, true, vec_capacity, ℕ};
+ghost use Rattle.std.specs.Prelude.{◌≡◌, ◌+◌, ◌≤◌, [], ◌∷◌, IfOk, IsOk, IsTrue, List, MatchOption, OnOk, false, length, true, vec_capacity, ℕ};
 ghost use Rattle.c_tree.specs.BareDef.{BareDef};
 ghost use Rattle.local_evaluation.specs.Pieces.{stop_of};
 ghost use Rattle.resolved_tree.specs.Nodes.{Table};
@@ -83,6 +83,22 @@ impl RunState {
     pub(crate) fn run_on(&mut self, image: &CodeImage, slot: u8)
         requires { IsKeptRun image.now self.old }
         ensures same { SameRun image.now self.old self.new }
+        ensures leaves { self.new.leaves_work ≡ self.old.leaves_work }
+        ensures settled { IsDueAt self.new slot → ⊥ }
+    {
+        if !self.leaves_work {
+            return;
+        }
+        self.run_on_due(image, slot);
+    }
+
+    /// The same, where moves may have left some.
+    #[cold]
+    #[inline(never)]
+    fn run_on_due(&mut self, image: &CodeImage, slot: u8)
+        requires { IsKeptRun image.now self.old }
+        ensures same { SameRun image.now self.old self.new }
+        ensures leaves { self.new.leaves_work ≡ self.old.leaves_work }
         ensures settled { IsDueAt self.new slot → ⊥ }
     {
         let slot = slot as usize;
@@ -90,19 +106,6 @@ impl RunState {
             return;
         }
         self.slots[slot].run_on(image);
-    }
-
-    /// The same, unless it is left for later.
-    #[inline(always)]
-    fn run_on_unless(&mut self, image: &CodeImage, slot: u8, leaves_work: bool)
-        requires { IsKeptRun image.now self.old }
-        ensures same { SameRun image.now self.old self.new }
-        ensures settled { leaves_work ≡ false → IsDueAt self.new slot → ⊥ }
-    {
-        if leaves_work {
-            return;
-        }
-        self.run_on(image, slot);
     }
 
     /// What the thread in a slot does next; none where none lives there, or where the run has ended.
@@ -130,23 +133,20 @@ pub(crate) fn work_and_step(
     image: &CodeImage,
     run: &mut RunState,
     slot: u8,
-    leaves_work: bool,
 ) -> Result<CodeStep, AllocError>
     requires { IsKeptRun image.now run.old }
-    ensures { IsStep image.now slot leaves_work run.old run.new result }
+    ensures { IsStep image.now slot run.old run.new result }
 {
     run.run_on(image, slot);
-    let stepped = step(image, run, slot);
-    run.run_on_unless(image, slot, leaves_work);
-    stepped
+    step(image, run, slot)
 }
 
-/// Makes the move of the thread in a slot, if it can be made. The private work that follows is due then.
+/// Makes the move of the thread in a slot, which has no private work to do, if it can be made.
 #[inline(always)]
 fn step(image: &CodeImage, run: &mut RunState, slot: u8) -> Result<CodeStep, AllocError>
     requires kept { IsKeptRun image.now run.old }
     requires settled { IsDueAt run.old slot → ⊥ }
-    ensures keeps { Keeps image.now slot run.old run.new }
+    ensures keeps { Keeps image.now run.old run.new }
     ensures stays { IfOk result (λ step. has_moved step ≡ false → UsesNothing run.old run.new) }
     ensures came { (all : List (List BareDef)) → IsReady all image.now run.old slot
         → IfOk result (λ step. StepsTo all image.now slot run.old run.new (has_moved step)) }
@@ -171,7 +171,7 @@ fn step(image: &CodeImage, run: &mut RunState, slot: u8) -> Result<CodeStep, All
 fn enter(image: &CodeImage, run: &mut RunState, slot: u8, n: u32, count: usize) -> bool
     requires kept { IsKeptRun image.now run.old }
     requires lives { Lives run.old slot (EntersNext n count) }
-    ensures keeps { Keeps image.now slot run.old run.new }
+    ensures keeps { Keeps image.now run.old run.new }
     ensures stays { result ≡ false → UsesNothing run.old run.new }
     ensures came { (all : List (List BareDef)) → IsReady all image.now run.old slot → StepsTo all image.now slot run.old run.new result }
     ensures output { run.new.output ≡ run.old.output }
@@ -193,7 +193,7 @@ fn enter(image: &CodeImage, run: &mut RunState, slot: u8, n: u32, count: usize) 
 fn trap(image: &CodeImage, run: &mut RunState, slot: u8, kind: TrapKind) -> bool
     requires kept { IsKeptRun image.now run.old }
     requires lives { Lives run.old slot (StandsNext (TrapsEnd kind)) }
-    ensures keeps { Keeps image.now slot run.old run.new }
+    ensures keeps { Keeps image.now run.old run.new }
     ensures stays { result ≡ false → UsesNothing run.old run.new }
     ensures came { (all : List (List BareDef)) → IsReady all image.now run.old slot → StepsTo all image.now slot run.old run.new result }
     ensures output { run.new.output ≡ run.old.output }
@@ -207,7 +207,7 @@ fn trap(image: &CodeImage, run: &mut RunState, slot: u8, kind: TrapKind) -> bool
 fn stop(image: &CodeImage, run: &mut RunState, slot: u8) -> Result<CodeStep, AllocError>
     requires kept { IsKeptRun image.now run.old }
     requires lives { Lives run.old slot (StandsNext RestsEnd) }
-    ensures keeps { Keeps image.now slot run.old run.new }
+    ensures keeps { Keeps image.now run.old run.new }
     ensures stays { IfOk result (λ step. has_moved step ≡ false → UsesNothing run.old run.new) }
     ensures came { (all : List (List BareDef)) → IsReady all image.now run.old slot
         → IfOk result (λ step. StepsTo all image.now slot run.old run.new (has_moved step)) }
@@ -240,18 +240,51 @@ fn make_stop(
 ) -> Result<bool, AllocError>
     requires kept { IsKeptRun image.now run.old }
     requires lives { LivesAt image.now.functions.items (length image.now.callees.items) run.old slot stop.now }
-    ensures keeps { Keeps image.now slot run.old run.new }
+    ensures keeps { Keeps image.now run.old run.new }
     ensures stays { IfOk result (λ moved. moved ≡ false → UsesNothing run.old run.new) }
     ensures came { (all : List (List BareDef)) → IsReady all image.now run.old slot → IfOk result (StepsTo all image.now slot run.old run.new) }
     ensures long { OnOk result (length run.new.output.items ≤ length run.old.output.items + image.now.longest_print) }
     ensures capacity { vec_capacity run.old.output ≤ vec_capacity run.new.output }
     ensures enough { HasEnough image.now run.old slot → IsOk result }
 {
-    let act = stop.act;
+    if is_alone(&stop.act) {
+        return alone(image, run, slot, stop);
+    }
+    with_others(image, run, slot, stop)
+}
+
+/// Whether an act changes no other thread.
+#[inline(always)]
+fn is_alone(act: &Act) -> bool
+    ensures alone { IsTrue result → IsAlone act.now }
+    ensures others { result ≡ false → IsAlone act.now → ⊥ }
+{
     match act {
+        Act::Spawn(_) | Act::Join => false,
+        _ => true,
+    }
+}
+
+/// A thread makes a stop that changes other threads: it starts one, or joins one.
+fn with_others(
+    image: &CodeImage,
+    run: &mut RunState,
+    slot: u8,
+    stop: &StopPlace,
+) -> Result<bool, AllocError>
+    requires kept { IsKeptRun image.now run.old }
+    requires lives { LivesAt image.now.functions.items (length image.now.callees.items) run.old slot stop.now }
+    requires others { IsAlone stop.now.act → ⊥ }
+    ensures keeps { Keeps image.now run.old run.new }
+    ensures stays { IfOk result (λ moved. moved ≡ false → UsesNothing run.old run.new) }
+    ensures came { (all : List (List BareDef)) → IsReady all image.now run.old slot → IfOk result (StepsTo all image.now slot run.old run.new) }
+    ensures output { run.new.output ≡ run.old.output }
+    ensures enough { HasEnough image.now run.old slot → IsOk result }
+{
+    match stop.act {
         Act::Spawn(n) => spawn(image, run, slot, stop, n),
         Act::Join => Ok(join(image, run, slot, stop)),
-        _ => alone(image, run, slot, stop, act),
+        _ => Ok(false),
     }
 }
 
@@ -262,13 +295,11 @@ fn alone(
     run: &mut RunState,
     slot: u8,
     stop: &StopPlace,
-    act: Act,
 ) -> Result<bool, AllocError>
     requires kept { IsKeptRun image.now run.old }
     requires lives { LivesAt image.now.functions.items (length image.now.callees.items) run.old slot stop.now }
-    requires act { stop.now.act ≡ act }
-    requires alone { IsAlone act }
-    ensures keeps { Keeps image.now slot run.old run.new }
+    requires alone { IsAlone stop.now.act }
+    ensures keeps { Keeps image.now run.old run.new }
     ensures stays { IfOk result (λ moved. moved ≡ false → UsesNothing run.old run.new) }
     ensures came { (all : List (List BareDef)) → IsReady all image.now run.old slot → IfOk result (StepsTo all image.now slot run.old run.new) }
     ensures long { OnOk result (length run.new.output.items ≤ length run.old.output.items + image.now.longest_print) }
@@ -280,7 +311,6 @@ fn alone(
         image,
         slot,
         stop,
-        act,
         &run.layouts,
         &mut run.shared,
         &mut run.output,

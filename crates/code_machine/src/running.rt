@@ -13,7 +13,7 @@ ghost use Rattle.code_machine.specs.Kept.{Fits, FitsImage, most_threads};
 ghost use Rattle.code_machine.specs.Seen.{slot_of};
 ghost use Rattle.code_machine.specs.ThreadStops.{first_enter};
 ghost use Rattle.code_machine.specs.Versions.{IsInForce, RunsCode, texts_by};
-ghost use Rattle.code_machine.specs.Stops.{Answered, CanGoOn, Entered, Exchanges, IsFresh, RestsAt, SameThread, WentOn};
+ghost use Rattle.code_machine.specs.Stops.{Answered, CanGoOn, Entered, Exchanges, Executed, IsFresh, RestsAt, SameThread, WentOn};
 
 use code_image::{CodeImage, StopPlace};
 use std::alloc::{AllocError, Global};
@@ -53,6 +53,8 @@ pub(crate) struct Running {
     /// The version of the frame that called or spawned, where an enter is due.
     pub version: u32,
     pub next: Next,
+    /// Whether it leaves private work that follows a stop for later.
+    pub leaves_work: bool,
     pub frames: Frames,
 }
 
@@ -78,6 +80,7 @@ impl Running {
             depth: 0,
             version: 1,
             next: Next::Enters(image.main, 0),
+            leaves_work: false,
             frames: Frames::new(alloc, image.highest_stack)?,
         })
     }
@@ -92,7 +95,7 @@ impl Running {
         ensures none { self.new.frames.frames.items ≡ [] }
         ensures started { (image : Image) → slot_of image self.new ≡ IsLive (starting serial (first_enter image version function argument)) }
         ensures depth { self.new.depth ≡ 0 }
-        ensures next { self.new.next ≡ EntersNext function 1 }
+        ensures leaves { self.new.leaves_work ≡ self.old.leaves_work }
     {
         self.frames.start(argument);
         self.stand = Stand::Live;
@@ -102,8 +105,8 @@ impl Running {
         self.next = Next::Enters(function, 1);
     }
 
-    /// The innermost frame, which stopped at a point, goes on at a place with so many words on its stack. What it executes from there is
-    /// due: [`Running::run_on`] does it.
+    /// The innermost frame, which stopped at a point, goes on at a place with so many words on its stack. It executes its private
+    /// instructions from there, or leaves them: they are due then, and [`Running::run_on`] executes them.
     #[inline(always)]
     pub(crate) fn go_on(&mut self, image: &CodeImage, point: u32, place: usize, height: usize)
         requires { CanGoOn image.now.functions.items self.old place height }
@@ -113,48 +116,63 @@ impl Running {
             → RunsCode all versions image.now self.new }
         ensures went { (all : List (List BareDef)) (versions : List ℕ) → RunsCode all versions image.now self.old → WentOn (texts_by all versions) image.now self.old self.new point place height }
     {
-        self.frames.put_off(point, place, height);
-        self.next = Next::Continues;
+        if self.leaves_work {
+            self.frames.put_off(point, place, height);
+            self.next = Next::Continues;
+            return;
+        }
+        self.execute(image, point, place, height);
     }
 
     /// Does the private work that is due, if some is.
-    #[inline(always)]
     pub(crate) fn run_on(&mut self, image: &CodeImage)
         requires { FitsImage image.now self.old }
         ensures fits { FitsImage image.now self.new }
         ensures runs { (all : List (List BareDef)) (versions : List ℕ) → RunsCode all versions image.now self.old
             → RunsCode all versions image.now self.new }
+        ensures same { SameThread self.old self.new }
         ensures seen { slot_of image.now self.new ≡ slot_of image.now self.old }
         ensures settled { self.new.next ≡ ContinuesNext → ⊥ }
-        ensures depth { self.new.depth ≡ self.old.depth }
     {
         match self.next {
-            Next::Continues => self.execute(image),
+            Next::Continues => self.execute_due(image),
             Next::Enters(_, _) | Next::Stands(_) => {}
         }
     }
 
-    /// The innermost frame executes the private instructions from its place on.
-    #[inline(always)]
-    fn execute(&mut self, image: &CodeImage)
+    /// The innermost frame executes the private instructions that are due.
+    fn execute_due(&mut self, image: &CodeImage)
         requires fits { FitsImage image.now self.old }
         requires due { self.old.next ≡ ContinuesNext }
         ensures fits { FitsImage image.now self.new }
         ensures runs { (all : List (List BareDef)) (versions : List ℕ) → RunsCode all versions image.now self.old
             → RunsCode all versions image.now self.new }
+        ensures same { SameThread self.old self.new }
         ensures seen { slot_of image.now self.new ≡ slot_of image.now self.old }
         ensures settled { self.new.next ≡ ContinuesNext → ⊥ }
-        ensures depth { self.new.depth ≡ self.old.depth }
     {
         let frame = innermost(&self.frames);
-        let function = image.function(frame.unit);
+        self.execute(image, frame.point, frame.place, frame.height);
+    }
+
+    /// The innermost frame, which stopped at a point, executes its private instructions from a place on with so many words on its stack.
+    #[inline(never)]
+    fn execute(&mut self, image: &CodeImage, point: u32, place: usize, height: usize)
+        requires { CanGoOn image.now.functions.items self.old place height }
+        ensures fits { FitsImage image.now self.new }
+        ensures runs { (all : List (List BareDef)) (versions : List ℕ) → RunsCode all versions image.now self.old
+            → RunsCode all versions image.now self.new }
+        ensures same { SameThread self.old self.new }
+        ensures executed { Executed image.now self.old self.new point place height }
+    {
+        let function = image.function(innermost(&self.frames).unit);
         let end = self.frames.go_on(
             function.verified.body.code.as_slice(),
             function.verified.heights.as_slice(),
             function.ops.as_slice(),
-            frame.point,
-            frame.place,
-            frame.height,
+            point,
+            place,
+            height,
         );
         self.next = Next::Stands(end);
     }

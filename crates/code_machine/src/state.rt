@@ -29,4 +29,6 @@ pub(crate) struct RunState {
     pub in_force: u32,
     /// What brings objects to the layouts of newer versions.
     pub layouts: WordLayouts,
+    /// Whether the private work that follows a move is left for later.
+    pub leaves_work: bool,
 }

@@ -93,15 +93,13 @@ impl Running {
         image: &CodeImage,
         slot: u8,
         stop: &StopPlace,
-        act: Act,
         layouts: &WordLayouts,
         shared: &mut WordData,
         output: &mut Vec<u8>,
     ) -> Result<Outcome, AllocError>
         requires slot { slot < most_slots }
         requires rests { RestsAt image.now.functions.items (length image.now.callees.items) self.old stop.now }
-        requires act { stop.now.act ≡ act }
-        requires alone { IsAlone act }
+        requires alone { IsAlone stop.now.act }
         ensures fits { FitsImage image.now self.new }
         ensures runs { (all : List (List BareDef)) (versions : List ℕ) → RunsCode all versions image.now self.old
             → RunsCode all versions image.now self.new }
@@ -111,19 +109,18 @@ impl Running {
         ensures version { shared.new.version ≡ shared.old.version }
         ensures created { (n : ℕ) → shared.old.objects.created ≤ n → shared.new.objects.created ≤ 1 + n }
         ensures depth { self.new.depth ≤ 1 + self.old.depth }
+        ensures leaves { self.new.leaves_work ≡ self.old.leaves_work }
         ensures stays { IfOk result (λ outcome. outcome ≡ StaysOutcome
             → (shared.new.objects.created ≡ shared.old.objects.created) × (output.new ≡ output.old) × (self.new.depth ≡ self.old.depth)) }
-        ensures long { OnOk result (length output.new.items ≤ length output.old.items + act_prints (table image.now.trees) act) }
+        ensures long { OnOk result (length output.new.items ≤ length output.old.items + act_prints (table image.now.trees) stop.now.act) }
         ensures capacity { vec_capacity output.old ≤ vec_capacity output.new }
-        ensures cause { OnErr result (ActMayFail (table image.now.trees) act self.old.depth shared.old output.old) }
+        ensures cause { OnErr result (ActMayFail (table image.now.trees) stop.now.act self.old.depth shared.old output.old) }
     {
-        match act {
-            Act::Shared(what) => Ok(self.perform(
-                image, slot, stop, what, layouts, shared, output,
-            )?),
+        match stop.act {
+            Act::Shared(what) => self.perform(image, slot, stop, what, layouts, shared, output),
             Act::Call(n, count) => Ok(self.call(image, stop, n, count)),
             Act::Return => Ok(self.give_back(image, slot, stop)),
-            Act::Begin => Ok(self.begin(image, stop)?),
+            Act::Begin => self.begin(image, stop),
             Act::End => Ok(self.end(image, stop)),
             Act::Pass => Ok(self.pass(image, stop)),
             Act::Spawn(_) | Act::Join => Ok(Outcome::Stays),
@@ -153,6 +150,7 @@ impl Running {
         ensures version { shared.new.version ≡ shared.old.version }
         ensures created { (n : ℕ) → shared.old.objects.created ≤ n → shared.new.objects.created ≤ 1 + n }
         ensures depth { self.new.depth ≡ self.old.depth }
+        ensures leaves { self.new.leaves_work ≡ self.old.leaves_work }
         ensures stays { IfOk result (λ outcome. outcome ≡ StaysOutcome
             → (shared.new.objects.created ≡ shared.old.objects.created) × (output.new ≡ output.old)) }
         ensures long { OnOk result (length output.new.items ≤ length output.old.items + longest_of (table image.now.trees) what) }
@@ -195,6 +193,7 @@ impl Running {
             → RunsCode all versions image.now self.new }
         ensures made { (all : List (List BareDef)) (versions : List ℕ) → RunsCode all versions image.now self.old → StoppedAlone (texts_by all versions) (names_in all) image.now stop.now self.old self.new result }
         ensures depth { self.new.depth ≡ self.old.depth }
+        ensures leaves { self.new.leaves_work ≡ self.old.leaves_work }
     {
         self.version = innermost(&self.frames).version;
         self.frames.wait(count, stop.point, stop.after);
@@ -213,6 +212,7 @@ impl Running {
         ensures made { (all : List (List BareDef)) (versions : List ℕ) → RunsCode all versions image.now self.old → (d : Data) (output : List ℕ)
             → Stopped (texts_by all versions) (names_in all) image.now slot stop.now self.old self.new d d output output result }
         ensures depth { self.new.depth ≡ self.old.depth }
+        ensures leaves { self.new.leaves_work ≡ self.old.leaves_work }
     {
         if self.frames.depth() > 1 {
             self.hand_down(image, stop)
@@ -232,6 +232,7 @@ impl Running {
             → RunsCode all versions image.now self.new }
         ensures made { (all : List (List BareDef)) (versions : List ℕ) → RunsCode all versions image.now self.old → StoppedAlone (texts_by all versions) (names_in all) image.now stop.now self.old self.new result }
         ensures depth { self.new.depth ≡ self.old.depth }
+        ensures leaves { self.new.leaves_work ≡ self.old.leaves_work }
     {
         self.frames.leave();
         let caller = innermost(&self.frames);
@@ -250,6 +251,7 @@ impl Running {
         ensures made { (all : List (List BareDef)) (versions : List ℕ) → RunsCode all versions image.now self.old → (d : Data) (output : List ℕ)
             → Stopped (texts_by all versions) (names_in all) image.now slot stop.now self.old self.new d d output output result }
         ensures depth { self.new.depth ≡ self.old.depth }
+        ensures leaves { self.new.leaves_work ≡ self.old.leaves_work }
     {
         let word = self.frames.newest();
         if slot == 0 {
@@ -269,6 +271,7 @@ impl Running {
         ensures made { (all : List (List BareDef)) (versions : List ℕ) → RunsCode all versions image.now self.old → IfOk result (StoppedAlone (texts_by all versions) (names_in all) image.now stop.now self.old self.new) }
         ensures cause { OnErr result (2 ^ 64 ≤ suc self.old.depth) }
         ensures depth { self.new.depth ≤ 1 + self.old.depth }
+        ensures leaves { self.new.leaves_work ≡ self.old.leaves_work }
         ensures stays { IfOk result (λ outcome. outcome ≡ StaysOutcome → self.new.depth ≡ self.old.depth) }
     {
         let Some(depth) = self.depth.checked_add(1) else {
@@ -288,6 +291,7 @@ impl Running {
             → RunsCode all versions image.now self.new }
         ensures made { (all : List (List BareDef)) (versions : List ℕ) → RunsCode all versions image.now self.old → StoppedAlone (texts_by all versions) (names_in all) image.now stop.now self.old self.new result }
         ensures depth { self.new.depth ≤ 1 + self.old.depth }
+        ensures leaves { self.new.leaves_work ≡ self.old.leaves_work }
         ensures stays { result ≡ StaysOutcome → self.new.depth ≡ self.old.depth }
     {
         if self.depth == 0 {
@@ -309,6 +313,7 @@ impl Running {
             → RunsCode all versions image.now self.new }
         ensures made { (all : List (List BareDef)) (versions : List ℕ) → RunsCode all versions image.now self.old → StoppedAlone (texts_by all versions) (names_in all) image.now stop.now self.old self.new result }
         ensures depth { self.new.depth ≡ self.old.depth }
+        ensures leaves { self.new.leaves_work ≡ self.old.leaves_work }
     {
         self.resume(image, stop);
         Outcome::Goes

@@ -138,7 +138,7 @@ fn put(
     requires inside { function < length image.now.callees.items }
     requires there { place < length run.old.slots.items }
     requires free { (r : Slot) → slice_get run.old.slots.items place ≡ Some r → r.stand ≡ FreeStand }
-    ensures keeps { (slot : ℕ) → Keeps image.now slot run.old run.new }
+    ensures keeps { Keeps image.now run.old run.new }
     ensures started { IfOk result (StartedIn image.now run.old run.new version function argument place) }
     ensures output { run.new.output ≡ run.old.output }
     ensures enough { run.old.threads < most_threads → IsOk result }
@@ -162,7 +162,7 @@ fn start(
 ) -> Result<u64, AllocError>
     requires kept { IsKeptRun image.now run.old }
     requires inside { function < length image.now.callees.items }
-    ensures keeps { (slot : ℕ) → Keeps image.now slot run.old run.new }
+    ensures keeps { Keeps image.now run.old run.new }
     ensures started { IfOk result (Started image.now run.old run.new version function argument (position is_free (world_of image.now run.old).slots)) }
     ensures output { run.new.output ≡ run.old.output }
     ensures enough { run.old.threads < most_threads → IsOk result }
@@ -185,7 +185,7 @@ pub(crate) fn spawn(
     requires kept { IsKeptRun image.now run.old }
     requires lives { LivesAt image.now.functions.items (length image.now.callees.items) run.old slot stop.now }
     requires act { stop.now.act ≡ SpawnAct function }
-    ensures keeps { Keeps image.now slot run.old run.new }
+    ensures keeps { Keeps image.now run.old run.new }
     ensures stays { IfOk result (λ moved. moved ≡ false → UsesNothing run.old run.new) }
     ensures came { (all : List (List BareDef)) → IsReady all image.now run.old slot → IfOk result (StepsTo all image.now slot run.old run.new) }
     ensures output { run.new.output ≡ run.old.output }
@@ -205,7 +205,7 @@ pub(crate) fn join(image: &CodeImage, run: &mut RunState, slot: u8, stop: &StopP
     requires kept { IsKeptRun image.now run.old }
     requires lives { LivesAt image.now.functions.items (length image.now.callees.items) run.old slot stop.now }
     requires act { stop.now.act ≡ JoinAct }
-    ensures keeps { Keeps image.now slot run.old run.new }
+    ensures keeps { Keeps image.now run.old run.new }
     ensures stays { result ≡ false → UsesNothing run.old run.new }
     ensures came { (all : List (List BareDef)) → IsReady all image.now run.old slot → StepsTo all image.now slot run.old run.new result }
     ensures output { run.new.output ≡ run.old.output }
@@ -228,7 +228,7 @@ fn take(image: &CodeImage, run: &mut RunState, slot: u8, stop: &StopPlace, place
     requires act { stop.now.act ≡ JoinAct }
     requires there { place < length run.old.slots.items }
     requires over { (r : Slot) → slice_get run.old.slots.items place ≡ Some r → r.stand ≡ OverStand left }
-    ensures keeps { Keeps image.now slot run.old run.new }
+    ensures keeps { Keeps image.now run.old run.new }
     ensures taken { (all : List (List BareDef)) (r : Slot) → IsRunOf all image.now run.old → slice_get run.old.slots.items slot ≡ Some r
         → Took (texts_of all run.old) image.now r run.old run.new slot stop.now place left }
     ensures output { run.new.output ≡ run.old.output }

@@ -6,7 +6,7 @@ use Rattle.code_machine.proofs.calls.main_slot.Goals as goal
 pub returns-clause-fresh : goal.returns-clause-fresh
 returns-clause-fresh c =
     let f = c.in_ok-running.ensures.fresh in
-    record { next = f.next; serial = f.serial; depth = f.depth; version = f.version; none = f.none }
+    record { next = f.next; serial = f.serial; depth = f.depth; version = f.version; none = f.none; leaves = f.leaves }
 
 pub returns-clause-seen : goal.returns-clause-seen
 returns-clause-seen c =

@@ -1,4 +1,4 @@
-use Rattle.std.proofs.Common.{◌≡◌, inr, length, Some, refl, sym, subst, arith}
+use Rattle.std.proofs.Common.{◌≡◌, length, Some, refl, sym, subst, arith}
 use Rattle.std.specs.Prelude.{slice_get}
 use Rattle.std.specs.Vec.{with_item}
 use Rattle.resolved_tree.specs.Trees.{table}
@@ -25,8 +25,8 @@ returns-in_err-make-clause-keeps c =
     let before = c.index_mut-running.result.now in
     let there : slice_get old.slots.items slot ≡ Some before =
     there_read old.slots.items (length old.slots.items) slot before refl (inside old.slots.items slot l.running l.there) c.index_mut-running.ensures.value in
-    keeps_thread c.args.image.now old _ slot before c.make.new.self there refl refl c.requires.kept (record { versions = refl; in_force = refl; layouts = refl })
-    c.make.ensures.version c.make.ensures.fits c.make.ensures.runs c.make.ensures.depth c.make.ensures.created slot (λ e. inr refl)
+    keeps_thread c.args.image.now old _ slot before c.make.new.self there refl refl c.requires.kept (record { versions = refl; in_force = refl; layouts = refl }) refl
+    c.make.ensures.version c.make.ensures.fits c.make.ensures.runs c.make.ensures.depth c.make.ensures.created c.make.ensures.leaves
 
 pub returns-in-Goes-clause-keeps : goal.returns-in-Goes-clause-keeps
 returns-in-Goes-clause-keeps c =
@@ -36,8 +36,8 @@ returns-in-Goes-clause-keeps c =
     let before = c.index_mut-running.result.now in
     let there : slice_get old.slots.items slot ≡ Some before =
     there_read old.slots.items (length old.slots.items) slot before refl (inside old.slots.items slot l.running l.there) c.index_mut-running.ensures.value in
-    keeps_thread c.args.image.now old _ slot before c.make.new.self there refl refl c.requires.kept (record { versions = refl; in_force = refl; layouts = refl })
-    c.make.ensures.version c.make.ensures.fits c.make.ensures.runs c.make.ensures.depth c.make.ensures.created slot (λ e. inr refl)
+    keeps_thread c.args.image.now old _ slot before c.make.new.self there refl refl c.requires.kept (record { versions = refl; in_force = refl; layouts = refl }) refl
+    c.make.ensures.version c.make.ensures.fits c.make.ensures.runs c.make.ensures.depth c.make.ensures.created c.make.ensures.leaves
 
 pub returns-in-Stays-clause-keeps : goal.returns-in-Stays-clause-keeps
 returns-in-Stays-clause-keeps c =
@@ -47,8 +47,8 @@ returns-in-Stays-clause-keeps c =
     let before = c.index_mut-running.result.now in
     let there : slice_get old.slots.items slot ≡ Some before =
     there_read old.slots.items (length old.slots.items) slot before refl (inside old.slots.items slot l.running l.there) c.index_mut-running.ensures.value in
-    keeps_thread c.args.image.now old _ slot before c.make.new.self there refl refl c.requires.kept (record { versions = refl; in_force = refl; layouts = refl })
-    c.make.ensures.version c.make.ensures.fits c.make.ensures.runs c.make.ensures.depth c.make.ensures.created slot (λ e. inr refl)
+    keeps_thread c.args.image.now old _ slot before c.make.new.self there refl refl c.requires.kept (record { versions = refl; in_force = refl; layouts = refl }) refl
+    c.make.ensures.version c.make.ensures.fits c.make.ensures.runs c.make.ensures.depth c.make.ensures.created c.make.ensures.leaves
 
 pub returns-in-Ends-clause-keeps : goal.returns-in-Ends-clause-keeps
 returns-in-Ends-clause-keeps c =
@@ -58,8 +58,8 @@ returns-in-Ends-clause-keeps c =
     let before = c.index_mut-running.result.now in
     let there : slice_get old.slots.items slot ≡ Some before =
     there_read old.slots.items (length old.slots.items) slot before refl (inside old.slots.items slot l.running l.there) c.index_mut-running.ensures.value in
-    keeps_thread c.args.image.now old _ slot before c.make.new.self there refl refl c.requires.kept (record { versions = refl; in_force = refl; layouts = refl })
-    c.make.ensures.version c.make.ensures.fits c.make.ensures.runs c.make.ensures.depth c.make.ensures.created slot (λ e. inr refl)
+    keeps_thread c.args.image.now old _ slot before c.make.new.self there refl refl c.requires.kept (record { versions = refl; in_force = refl; layouts = refl }) refl
+    c.make.ensures.version c.make.ensures.fits c.make.ensures.runs c.make.ensures.depth c.make.ensures.created c.make.ensures.leaves
 
 pub returns-in-Stays-clause-stays : goal.returns-in-Stays-clause-stays
 returns-in-Stays-clause-stays c = λ e.
@@ -137,20 +137,20 @@ returns-in_err-make-clause-enough c = λ enough.
     let slot = c.args.slot in
     let same : c.index_mut-running.result.now ≡ l.running =
     sym (same_read old.slots.items slot l.running c.index_mut-running.result.now l.there (inside old.slots.items slot l.running l.there) c.index_mut-running.ensures.value) in
-    absurd (never_lacks image l.running c.args.stop.now l.rests c.args.act c.requires.act old slot l.there enough
-    (subst (λ (r : Running). ActMayFail (table image.trees) c.args.act r.depth old.shared old.output) same c.in_err-make.ensures.cause))
+    absurd (never_lacks image l.running c.args.stop.now l.rests old slot l.there enough
+    (subst (λ (r : Running). ActMayFail (table image.trees) c.args.stop.now.act r.depth old.shared old.output) same c.in_err-make.ensures.cause))
 
 pub returns-in-Goes-clause-long : goal.returns-in-Goes-clause-long
 returns-in-Goes-clause-long c =
-    let few = prints_few c.args.image.now c.requires.lives.running c.args.stop.now c.requires.lives.rests c.args.act c.requires.act in
+    let few = prints_few c.args.image.now c.requires.lives.running c.args.stop.now c.requires.lives.rests in
     omega (arith, few, c.in_ok-make.ensures.long)
 
 pub returns-in-Stays-clause-long : goal.returns-in-Stays-clause-long
 returns-in-Stays-clause-long c =
-    let few = prints_few c.args.image.now c.requires.lives.running c.args.stop.now c.requires.lives.rests c.args.act c.requires.act in
+    let few = prints_few c.args.image.now c.requires.lives.running c.args.stop.now c.requires.lives.rests in
     omega (arith, few, c.in_ok-make.ensures.long)
 
 pub returns-in-Ends-clause-long : goal.returns-in-Ends-clause-long
 returns-in-Ends-clause-long c =
-    let few = prints_few c.args.image.now c.requires.lives.running c.args.stop.now c.requires.lives.rests c.args.act c.requires.act in
+    let few = prints_few c.args.image.now c.requires.lives.running c.args.stop.now c.requires.lives.rests in
     omega (arith, few, c.in_ok-make.ensures.long)

@@ -19,7 +19,7 @@ use Rattle.code_machine.proofs.moves.enter.Goals as goal
 
 pub returns-then-is_full-clause-keeps : goal.returns-then-is_full-clause-keeps
 returns-then-is_full-clause-keeps c =
-    keeps_all c.args.image.now c.args.run.now _ (record { versions = refl; in_force = refl; layouts = refl }) refl c.requires.kept refl refl refl c.args.slot
+    keeps_all c.args.image.now c.args.run.now _ (record { versions = refl; in_force = refl; layouts = refl }) refl refl c.requires.kept refl refl refl
 
 pub returns-then-is_full-clause-came : goal.returns-then-is_full-clause-came
 returns-then-is_full-clause-came c = λ all ready.
@@ -33,7 +33,7 @@ returns-then-is_full-clause-came c = λ all ready.
 
 pub returns-in_default-clause-keeps : goal.returns-in_default-clause-keeps
 returns-in_default-clause-keeps c =
-    keeps_all c.args.image.now c.args.run.now _ (record { versions = refl; in_force = refl; layouts = refl }) refl c.requires.kept refl refl refl c.args.slot
+    keeps_all c.args.image.now c.args.run.now _ (record { versions = refl; in_force = refl; layouts = refl }) refl refl c.requires.kept refl refl refl
 
 pub returns-in_default-clause-stays : goal.returns-in_default-clause-stays
 returns-in_default-clause-stays c = λ e. record { output = refl; used = λ n u. u }
@@ -87,14 +87,15 @@ returns-clause-keeps c =
     let kept = c.requires.kept in
     let same : l.running ≡ c.index_mut.result.now = same_read old.slots.items c.args.slot l.running c.index_mut.result.now l.there (inside old.slots.items c.args.slot l.running l.there) c.index_mut.ensures.value in
     let depth : c.enter.new.self.depth ≡ l.running.depth = c.enter.ensures.same.depth ∙ ap (λ (r : Running). r.depth) (sym same) in
-    keeps_slot image old _ (record { versions = refl; in_force = refl; layouts = refl }) refl kept c.args.slot c.args.slot c.enter.new.self refl c.enter.ensures.fits
+    keeps_slot image old _ (record { versions = refl; in_force = refl; layouts = refl }) refl refl kept c.args.slot c.enter.new.self refl c.enter.ensures.fits
     (λ all is.
     (c.enter.ensures.runs all old.versions.items
     (subst (RunsCode all old.versions.items image) same (runs_there all image old c.args.slot l.running is l.there))
     (omega (arith, c.len-version.ensures, kept.versions))
     (in_force all image old is c.args.n c.in-Some.function (sym c.body.ensures.body ∙ c.in-Some.is))).frames)
     (λ n u. let deep = u.depths c.args.slot l.running l.there in omega (arith, deep, depth))
-    kept.slots.counted (omega arith) (λ n created. omega (arith, created)) (λ e. inr refl)
+    kept.slots.counted (omega arith) (λ n created. omega (arith, created))
+    (λ e. c.enter.ensures.same.leaves ∙ ap (λ (r : Running). r.leaves_work) (sym same) ∙ kept.leaves e c.args.slot l.running l.there)
 
 pub returns-clause-came : goal.returns-clause-came
 returns-clause-came c = λ all ready.

@@ -11,7 +11,7 @@ use Rattle.code_machine.proofs.moves.step.Goals as goal
 
 pub returns-in-None-clause-keeps : goal.returns-in-None-clause-keeps
 returns-in-None-clause-keeps c =
-    keeps_all c.args.image.now c.args.run.now _ (record { versions = refl; in_force = refl; layouts = refl }) refl c.requires.kept refl refl refl c.args.slot
+    keeps_all c.args.image.now c.args.run.now _ (record { versions = refl; in_force = refl; layouts = refl }) refl refl c.requires.kept refl refl refl
 
 pub returns-in-None-clause-stays : goal.returns-in-None-clause-stays
 returns-in-None-clause-stays c = λ e. record { output = refl; used = λ n u. u }
@@ -57,7 +57,7 @@ returns-in-Some-Stands-Traps-clause-led c = λ all is.
 
 pub returns-in-Some-Continues-clause-keeps : goal.returns-in-Some-Continues-clause-keeps
 returns-in-Some-Continues-clause-keeps c =
-    keeps_all c.args.image.now c.args.run.now _ (record { versions = refl; in_force = refl; layouts = refl }) refl c.requires.kept refl refl refl c.args.slot
+    keeps_all c.args.image.now c.args.run.now _ (record { versions = refl; in_force = refl; layouts = refl }) refl refl c.requires.kept refl refl refl
 
 pub returns-in-Some-Continues-clause-stays : goal.returns-in-Some-Continues-clause-stays
 returns-in-Some-Continues-clause-stays c = λ e. record { output = refl; used = λ n u. u }

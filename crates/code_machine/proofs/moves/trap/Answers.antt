@@ -6,7 +6,7 @@ use Rattle.code_machine.proofs.moves.trap.Goals as goal
 
 pub returns-clause-keeps : goal.returns-clause-keeps
 returns-clause-keeps c =
-    keeps_all c.args.image.now c.args.run.now _ (record { versions = refl; in_force = refl; layouts = refl }) refl c.requires.kept refl refl refl c.args.slot
+    keeps_all c.args.image.now c.args.run.now _ (record { versions = refl; in_force = refl; layouts = refl }) refl refl c.requires.kept refl refl refl
 
 pub returns-clause-came : goal.returns-clause-came
 returns-clause-came c = λ all ready.

@@ -76,8 +76,8 @@ returns-clause-keeps c =
     (position is_free (world_of image old).slots) c.in_ok-word.ensures.started in
     let here : slice_get mid.slots.items slot ≡ Some c.index_mut.result.now =
     subst (λ (r : Running). slice_get mid.slots.items slot ≡ Some r) (there_as mid.slots.items slot lives.running c.index_mut.result.now still c.index_mut.ensures.value) still in
-    keeps_also image slot old mid _ (c.in_ok-word.ensures.keeps slot) (record { versions = refl; in_force = refl; layouts = refl }) refl refl slot c.index_mut.result.now
-    c.answer.new.self here refl c.answer.ensures.fits c.answer.ensures.runs c.answer.ensures.same.depth refl
+    keeps_also image old mid _ c.in_ok-word.ensures.keeps (record { versions = refl; in_force = refl; layouts = refl }) refl refl refl slot c.index_mut.result.now
+    c.answer.new.self here refl c.answer.ensures.fits c.answer.ensures.runs c.answer.ensures.same.depth c.answer.ensures.same.leaves
 
 pub returns-clause-came : goal.returns-clause-came
 returns-clause-came c = λ all ready.
@@ -103,6 +103,3 @@ returns-clause-came c = λ all ready.
     (subst (λ (y : Running). RunsCode all old.versions.items image y → Answered (texts_of all old) image y after x c.in_ok-word.word) (sym same)
     (c.answer.ensures.answered all old.versions.items) runs)
     (subst (λ (y : Running). HasNewest y c.newest-argument.result) (sym first) c.newest-argument.ensures)
-
-pub returns-in_err-word-clause-keeps : goal.returns-in_err-word-clause-keeps
-returns-in_err-word-clause-keeps c = c.in_err-word.ensures.keeps c.args.slot

@@ -1,4 +1,4 @@
-use Rattle.std.proofs.Common.{◌≡◌, inl, length, Some, refl, sym, subst, arith}
+use Rattle.std.proofs.Common.{◌≡◌, length, Some, refl, sym, subst, arith}
 use Rattle.std.specs.Prelude.{slice_get}
 use Rattle.std.specs.Vec.{with_item}
 use Rattle.code_machine.specs.declared.running.Running.{Running}
@@ -44,13 +44,12 @@ returns-clause-keeps c =
     let joined : slice_get rs slot ≡ Some joins =
     subst (λ (r : Running). slice_get rs slot ≡ Some r) (there_as rs slot lives.running joins still c.index_mut-2.ensures.value) still in
     let mid : RunState = record old { slots = with_item old.slots place (record over { stand = FreeStand }) } in
-    keeps_also image slot old mid _
-    (keeps_thread image old mid place over (record over { stand = FreeStand }) there refl refl kept (record { versions = refl; in_force = refl; layouts = refl }) refl
+    keeps_also image old mid _
+    (keeps_thread image old mid place over (record over { stand = FreeStand }) there refl refl kept (record { versions = refl; in_force = refl; layouts = refl }) refl refl
     (fits_free image over (kept.slots.fit place over there)) (λ all versions runs. record { image_is = runs.image_is; frames = runs.frames })
-    (omega arith) (λ n created. omega (arith, created)) slot
-    (λ e. inl (record { running = over; there = there; due = e })))
-    (record { versions = refl; in_force = refl; layouts = refl }) refl refl slot joins c.answer.new.self joined refl c.answer.ensures.fits
-    c.answer.ensures.runs c.answer.ensures.same.depth refl
+    (omega arith) (λ n created. omega (arith, created)) refl)
+    (record { versions = refl; in_force = refl; layouts = refl }) refl refl refl slot joins c.answer.new.self joined refl c.answer.ensures.fits
+    c.answer.ensures.runs c.answer.ensures.same.depth c.answer.ensures.same.leaves
 
 pub returns-clause-taken : goal.returns-clause-taken
 returns-clause-taken c = λ all r is here.

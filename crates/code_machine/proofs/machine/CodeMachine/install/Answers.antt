@@ -21,7 +21,7 @@ invariant_of-self-2-clause-kept c =
     let old = c.args.self.now.run in
     kept_newer c.args.self.now.image.value old _ c.args.text c.args.self.now.kept c.in_ok-add_version.ensures.versions
     (omega (arith, c.if-len-ge-MOST_VERSIONS.false, c.len.ensures))
-    (version_next c.args.rows.items c.args.gone.now old.shared c.install.new.shared c.install.ensures.exact) c.args.self.now.kept.slots
+    (version_next c.args.rows.items c.args.gone.now old.shared c.install.new.shared c.install.ensures.exact) refl c.args.self.now.kept.slots refl
 
 pub returns-clause-run : goal.returns-clause-run
 returns-clause-run c = λ texts q is there few changes.

@@ -7,15 +7,16 @@ use Rattle.code_machine.specs.Keeping.{UsesNothing}
 use Rattle.code_machine.specs.Kept.{IsKeptRun}
 use Rattle.code_machine.specs.Leading.{has_moved}
 use Rattle.code_machine.specs.Working.{IsStep}
+use Rattle.code_machine.proofs.Working.{none_still}
 use Rattle.code_machine.proofs.machine.CodeMachine.step.Goals as goal
 
 pub work_and_step-requires : goal.work_and_step-requires
 work_and_step-requires c =
     subst (λ (i : CodeImage). IsKeptRun i c.args.self.now.run) (sym c.deref.ensures) c.args.self.now.kept
 
-is_step : (c : goal.After-self-1) → IsStep c.args.self.now.image.value c.args.slot c.args.self.now.leaves_work c.args.self.now.run c.work_and_step.new.run c.work_and_step.result
+is_step : (c : goal.After-self-1) → IsStep c.args.self.now.image.value c.args.slot c.args.self.now.run c.work_and_step.new.run c.work_and_step.result
 is_step c =
-    subst (λ (i : CodeImage). IsStep i c.args.slot c.args.self.now.leaves_work c.args.self.now.run c.work_and_step.new.run c.work_and_step.result) c.deref.ensures c.work_and_step.ensures
+    subst (λ (i : CodeImage). IsStep i c.args.slot c.args.self.now.run c.work_and_step.new.run c.work_and_step.result) c.deref.ensures c.work_and_step.ensures
 
 pub returns-clause-came : goal.returns-clause-came
 returns-clause-came c = (is_step c).came
@@ -48,7 +49,4 @@ returns-clause-enough c = λ numbers empty.
     (is_step c).enough (record { numbers = numbers; room = omega (arith, none, m.room) })
 
 pub returns-clause-settled : goal.returns-clause-settled
-returns-clause-settled c = λ settled. record {
-  none = (is_step c).settled settled.leaves settled.none;
-  leaves = settled.leaves;
-}
+returns-clause-settled c = none_still c.args.self.now _ (is_step c).leaves

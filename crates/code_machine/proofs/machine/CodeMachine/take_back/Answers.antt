@@ -1,7 +1,5 @@
+use Rattle.code_machine.proofs.Working.{none_still}
 use Rattle.code_machine.proofs.machine.CodeMachine.take_back.Goals as goal
 
 pub returns-clause-settled : goal.returns-clause-settled
-returns-clause-settled c = λ s. record {
-  none = λ n d. s.none n (c.take_back.ensures.same.due n d);
-  leaves = s.leaves;
-}
+returns-clause-settled c = none_still c.args.self.now _ c.take_back.ensures.leaves

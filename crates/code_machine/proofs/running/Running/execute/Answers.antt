@@ -1,4 +1,4 @@
-use Rattle.std.proofs.Common.{◌≡◌, ℕ, List, length, Option, Some, subst, sym}
+use Rattle.std.proofs.Common.{◌≡◌, ℕ, List, length, Option, Some, refl, subst, sym}
 use Rattle.std.specs.Prelude.{slice_get}
 use Rattle.bytecode.specs.declared.instr.Instr.{Instr}
 use Rattle.bytecode.specs.Seen.{code_of}
@@ -10,9 +10,7 @@ use Rattle.word_frames.specs.Seen.{innermost}
 use Rattle.word_frames.specs.Changes as change
 use Rattle.code_image.specs.StopHeights.{IsNeverHigher}
 use Rattle.code_machine.specs.Seen.{words_of}
-use Rattle.code_machine.specs.Stops.{CanGoOn}
 use Rattle.code_machine.proofs.Going.{fits_on, runs_moved}
-use Rattle.code_machine.proofs.PrivateWork.{can_execute, seen_executed}
 use Rattle.code_machine.proofs.running.Running.execute.Goals as goal
 
 pub go_on-end-requires-clause-sound : goal.go_on-end-requires-clause-sound
@@ -36,52 +34,37 @@ go_on-end-requires-clause-low c =
     let functions = c.args.image.now.functions.items in
     let old = c.args.self.now in
     let found : slice_get functions (innermost old.frames).unit ≡ Some g =
-    subst (λ (f : Frame). slice_get functions f.unit ≡ Some g) c.innermost-frame.ensures c.function-function.ensures in
-    subst (IsNeverHigher old.frames.highest_stack) (sym c.as_slice-2.ensures.value) (c.requires.fits.stacks (innermost old.frames).unit g found)
-
-pub go_on-end-requires-clause-height : goal.go_on-end-requires-clause-height
-go_on-end-requires-clause-height c =
-    let g = c.function-function.result.now in
-    let functions = c.args.image.now.functions.items in
-    let old = c.args.self.now in
-    let found : slice_get functions (innermost old.frames).unit ≡ Some g =
-    subst (λ (f : Frame). slice_get functions f.unit ≡ Some g) c.innermost-frame.ensures c.function-function.ensures in
-    subst (λ (hs : List (Option ℕ)). HasHeight hs c.innermost-frame.result.place c.innermost-frame.result.height) (sym c.as_slice-2.ensures.value)
-    (subst (λ (f : Frame). HasHeight g.verified.heights.items f.place f.height) (sym c.innermost-frame.ensures) ((c.requires.fits.owes c.requires.due).height g found))
+    subst (λ (f : Frame). slice_get functions f.unit ≡ Some g) c.innermost.ensures c.function-function.ensures in
+    subst (IsNeverHigher old.frames.highest_stack) (sym c.as_slice-2.ensures.value) (c.requires.stacks (innermost old.frames).unit g found)
 
 pub returns-clause-fits : goal.returns-clause-fits
 returns-clause-fits c =
     let g = c.function-function.result.now in
     let functions = c.args.image.now.functions.items in
-    let callees = length c.args.image.now.callees.items in
     let old = c.args.self.now in
     let new = c.go_on-end.new.self in
-    let at = c.innermost-frame.result in
     let found : slice_get functions (innermost old.frames).unit ≡ Some g =
-    subst (λ (f : Frame). slice_get functions f.unit ≡ Some g) c.innermost-frame.ensures c.function-function.ensures in
+    subst (λ (f : Frame). slice_get functions f.unit ≡ Some g) c.innermost.ensures c.function-function.ensures in
     let low : HasHeight g.verified.heights.items (innermost new).place (innermost new).height =
     subst (λ (hs : List (Option ℕ)). HasHeight hs (innermost new).place (innermost new).height) c.as_slice-2.ensures.value c.go_on-end.ensures.height in
-    fits_on functions callees g old new at.point at.place at.height c.go_on-end.result
-    (subst (λ (f : Frame). CanGoOn functions old f.place f.height) (sym c.innermost-frame.ensures) (can_execute functions callees old c.requires.fits c.requires.due))
-    found c.go_on-end.ensures.frames c.go_on-end.ensures.high c.go_on-end.ensures.kept low
-    (λ t. subst (λ (is : List Instr). change.WentOn t is old.frames new at.point at.place at.height c.go_on-end.result) c.as_slice.ensures.value (c.go_on-end.ensures.goes t))
+    fits_on functions (length c.args.image.now.callees.items) g old new c.args.point c.args.place c.args.height c.go_on-end.result c.requires found c.go_on-end.ensures.frames c.go_on-end.ensures.high c.go_on-end.ensures.kept low
+    (λ t. subst (λ (is : List Instr). change.WentOn t is old.frames new c.args.point c.args.place c.args.height c.go_on-end.result) c.as_slice.ensures.value (c.go_on-end.ensures.goes t))
 
-pub returns-clause-seen : goal.returns-clause-seen
-returns-clause-seen c =
+pub returns-clause-executed : goal.returns-clause-executed
+returns-clause-executed c =
     let g = c.function-function.result.now in
-    let image = c.args.image.now in
+    let functions = c.args.image.now.functions.items in
     let old = c.args.self.now in
     let new = c.go_on-end.new.self in
-    let end = c.go_on-end.result in
-    let found : slice_get image.functions.items (innermost old.frames).unit ≡ Some g =
-    subst (λ (f : Frame). slice_get image.functions.items f.unit ≡ Some g) c.innermost-frame.ensures c.function-function.ensures in
-    seen_executed image old new g end c.requires.due (c.requires.fits.owes c.requires.due).some found
-    (subst (λ (f : Frame). change.WentOn (words_of image) g.verified.body.code.items old.frames new f.point f.place f.height end) c.innermost-frame.ensures
-    (subst (λ (is : List Instr). change.WentOn (words_of image) is old.frames new c.innermost-frame.result.point c.innermost-frame.result.place c.innermost-frame.result.height end) c.as_slice.ensures.value
-    (c.go_on-end.ensures.goes (words_of image))))
+    record {
+      function = g;
+      there = subst (λ (f : Frame). slice_get functions f.unit ≡ Some g) c.innermost.ensures c.function-function.ensures;
+      end = c.go_on-end.result;
+      goes = subst (λ (is : List Instr). change.WentOn (words_of c.args.image.now) is old.frames new c.args.point c.args.place c.args.height c.go_on-end.result) c.as_slice.ensures.value (c.go_on-end.ensures.goes (words_of c.args.image.now));
+      is = refl;
+    }
 
 pub returns-clause-runs : goal.returns-clause-runs
 returns-clause-runs c = λ all versions code.
     let new = c.go_on-end.new.self in
-    runs_moved all versions c.args.image.now c.args.self.now _ c.innermost-frame.result.point (innermost new).place (innermost new).height
-    (c.requires.fits.owes c.requires.due).some c.go_on-end.ensures.frames code
+    runs_moved all versions c.args.image.now c.args.self.now _ c.args.point (innermost new).place (innermost new).height c.requires.some c.go_on-end.ensures.frames code

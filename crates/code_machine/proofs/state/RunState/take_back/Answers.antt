@@ -1,4 +1,4 @@
-use Rattle.std.proofs.Common.{◌≡◌, ◌<◌, length, Some, refl, arith}
+use Rattle.std.proofs.Common.{◌≡◌, ◌<◌, ◌∙◌, length, Some, refl, arith}
 use Rattle.std.specs.Prelude.{slice_get}
 use Rattle.std.specs.Vec.{with_item}
 use Rattle.code_machine.proofs.Lists.{inside}
@@ -28,13 +28,9 @@ returns-clause-same c =
     let within : c.args.slot < length old.slots.items = omega (arith, c.if-slot-len.false, c.len.ensures, old.slots.ok.0) in
     let there : slice_get old.slots.items c.args.slot ≡ Some before = there_read old.slots.items (length old.slots.items) c.args.slot before refl within c.index_mut.ensures.value in
     slot_worked c.args.image.now old (with_item old.slots c.args.slot c.take_back.new.self) c.args.slot before c.take_back.new.self there refl c.requires.kept
-    c.take_back.ensures.fits c.take_back.ensures.seen c.take_back.ensures.runs c.take_back.ensures.settled c.take_back.ensures.depth
+    c.take_back.ensures.fits c.take_back.ensures.seen c.take_back.ensures.runs c.take_back.ensures.same.depth
+    (λ e. c.take_back.ensures.same.leaves ∙ c.requires.kept.leaves e c.args.slot before there)
 
 pub returns-clause-settled : goal.returns-clause-settled
 returns-clause-settled c =
-    let old = c.args.self.now in
-    let before = c.index_mut.result.now in
-    let within : c.args.slot < length old.slots.items = omega (arith, c.if-slot-len.false, c.len.ensures, old.slots.ok.0) in
-    let there : slice_get old.slots.items c.args.slot ≡ Some before = there_read old.slots.items (length old.slots.items) c.args.slot before refl within c.index_mut.ensures.value in
-    slot_settled c.args.image.now old (with_item old.slots c.args.slot c.take_back.new.self) c.args.slot before c.take_back.new.self there refl c.requires.kept
-    c.take_back.ensures.fits c.take_back.ensures.seen c.take_back.ensures.runs c.take_back.ensures.settled c.take_back.ensures.depth
+    slot_settled c.args.self.now _ c.args.slot c.take_back.new.self refl c.take_back.ensures.settled
