@@ -12,3 +12,4 @@ pub mod NextStops
 pub mod Asking
 pub mod Lasting
 pub mod MovesMade
+pub mod RunsCross

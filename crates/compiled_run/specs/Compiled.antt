@@ -1,5 +1,6 @@
 -- What is said of a run of some texts by their code.
 use Rattle.std.specs.Prelude.{◌≡◌, ℕ, ◌+◌, ◌*◌, ◌≤◌, Bool, false, List, [], length, Some}
+use Rattle.std.specs.Arc.{arc_value}
 use Rattle.std.proofs.Common.{ap, sym, ◌∙◌}
 use Rattle.std.proofs.lemmas.Option.{same_Some}
 use Rattle.c_tree.specs.BareDef.{BareDef}
@@ -37,7 +38,7 @@ abbrev pub compiled_shown : CompiledRun → Shown
 compiled_shown r = record {
   is_run = λ texts limits moves. IsCompiledRun texts limits moves r;
   needs = NeedsOf;
-  trees = r.texts.items;
+  trees = (arc_value r.texts).items;
   words = words_of (image_of r.machine);
   kept = r.kept;
   reached = λ texts limits moves is. (is.world, is.ran);

@@ -1,5 +1,6 @@
 //! A run of some texts by their code.
 ghost use Rattle.std.specs.Prelude.{◌≡◌, ◌+◌, ◌<◌, ◌≤◌, ◌^◌, [], ◌∷◌, ◌++◌, IfErr, IfOk, IsOk, List, Ok, length, map, ℕ};
+ghost use Rattle.std.specs.Arc.{arc_value};
 ghost use Rattle.c_tree.specs.BareDef.{BareDef};
 ghost use Rattle.source_model.specs.Runs.{SourceMove as Made, Move as MoveOf};
 ghost use Rattle.source_model.specs.Worlds.{Limits};
@@ -20,13 +21,15 @@ use image_load::{LoadFault, TextData, load};
 use progress_laws::threads_of_runs_go_on;
 use run_machine::{MoveMade, Moved};
 use std::alloc::{AllocError, Global};
+use std::sync::Arc;
 
 /// A run of some texts by their code: of the first, and of those that are installed while it goes on. Its clauses say that it is the
 /// source machine's run over the moves that were made; once a step ran out of memory nothing is said of it any more.
 #[derive(Drop)]
 pub struct CompiledRun {
     pub(crate) machine: CodeMachine,
-    pub(crate) texts: Vec<Typed>,
+    /// They don't change, so those who prepare offers elsewhere share them.
+    pub(crate) texts: Arc<Vec<Typed>, Global>,
     /// What installs need of each text.
     pub(crate) tables: Vec<TextData>,
     /// How many bytes of what was printed have no text any more.
@@ -65,7 +68,7 @@ impl CompiledRun {
         let machine = CodeMachine::new(alloc, loaded.image, loaded.cells, objects, slots)?;
         Ok(CompiledRun {
             machine,
-            texts,
+            texts: share(alloc, texts)?,
             tables: loaded.texts,
             kept: 0,
             failed: false,
@@ -108,5 +111,15 @@ impl CompiledRun {
             Some(_) => Ok(Moved::Done(MoveMade { leads, starts })),
             None => Err(AllocError),
         }
+    }
+}
+
+/// Texts that may be shared.
+fn share(alloc: Global, texts: Vec<Typed>) -> Result<Arc<Vec<Typed>, Global>, AllocError>
+    ensures { IfOk result (λ shared. arc_value shared ≡ texts) }
+{
+    match Arc::new(alloc, texts) {
+        Ok(shared) => Ok(shared),
+        Err(_) => Err(AllocError),
     }
 }

@@ -3,7 +3,7 @@ use crate::pair::{SLOTS, are_alike, compiled_of, move_alike, plain_of};
 use crate::runs::next;
 use crate::texts::{TEXTS, THREADS};
 use compiled_run::CompiledRun;
-use run_machine::Machine;
+use run_machine::{LeavesWork, Machine};
 use source_runner::SourceRun;
 use std::alloc::{AllocError, Global};
 use std::test::Fail;
@@ -27,7 +27,7 @@ fn go_alike(
         }
         if turn % 3 == 2 {
             compiled.settle();
-            if !compiled.is_settled() || !are_alike(plain, compiled) {
+            if !compiled.try_settle() || !are_alike(plain, compiled) {
                 return Ok(false);
             }
         }
@@ -67,7 +67,7 @@ fn crosses_threads<T: Send + Sync>(_value: &T) {}
 #[test]
 fn works_cross_threads(rt: HostRuntime) -> Result<(), Fail> {
     let compiled = compiled_of(rt.alloc(), &["int main(void) { return 0; }"])?;
-    let work = compiled.work()?;
+    let work = compiled.work(rt.alloc())?;
     crosses_threads(&work);
     Ok(())
 }

@@ -5,8 +5,8 @@ mod Ends
 pub mod Happening
 mod Offering
 mod Replaying
-mod Room
-mod Seats
+pub mod Room
+pub mod Seats
 pub mod Slots
 mod Soloing
 pub mod Standing

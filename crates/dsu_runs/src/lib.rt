@@ -7,9 +7,10 @@
 //! engine keeps its offers in a [`Book`]: which one is open or due, and what was answered.
 //!
 //! Read in this order: `engine` (the trait), `book` (the offers of a run), `live` (a run on its way), `ran` (what a schedule hands back), `running` (an
-//! engine with the events made so far), `ending` (how a run ends as it is), `solo_run`, `replay_run`, `laws`.
+//! engine with the events made so far), `ahead` (an engine whose private work can be done elsewhere), `ending` (how a run ends as it is), `solo_run`, `replay_run`, `laws`.
 #![tactic(auto)]
 
+mod ahead;
 mod book;
 mod ending;
 mod engine;
@@ -20,6 +21,7 @@ mod replay_run;
 mod running;
 mod solo_run;
 
+pub use ahead::Ahead;
 pub use book::Book;
 pub use engine::{Engine, Made, Stands, Turn, Undecided, Waiting};
 pub use laws::rules_exist;

@@ -1,2 +1,3 @@
 mod Stepping
 mod Printed
+pub mod SourcesCross

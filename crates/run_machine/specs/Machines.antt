@@ -65,3 +65,10 @@ NeedsNoMore old new =
 -- nothing changed of the texts and of the words, and nothing more is needed
 abbrev pub KeepsTexts : Shown → Shown → Type 0
 KeepsTexts old new = (new.trees ≡ old.trees) × (new.words ≡ old.words) × NeedsNoMore old new
+
+-- a machine is each run that it was, and nothing that is said of it changed
+pub record IsSameRun (old new : Shown) : Type 0 where
+  pub run : (texts : List (List BareDef)) (limits : Limits) (moves : List SourceMove) → old.is_run texts limits moves
+      → new.is_run texts limits moves
+  pub texts : KeepsTexts old new
+  pub kept : new.kept ≡ old.kept

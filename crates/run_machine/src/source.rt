@@ -1,10 +1,11 @@
 //! The source machine as a machine.
-use crate::{Machine, MoveMade, Moved};
+use crate::{LeavesWork, Machine, MoveMade, Moved};
 use c_types::Typed;
 use resolved_tree::Word;
 use run_types::Ending;
 use source_runner::{FrameAt, SourceMove, SourceRun, SourceWait, Stepped};
-use std::alloc::AllocError;
+use std::alloc::{AllocError, Global};
+use std::sync::Arc;
 use type_transformers::Change;
 
 impl Machine for SourceRun {
@@ -95,5 +96,37 @@ impl Machine for SourceRun {
 
     fn entering(&self, slot: u8) -> Option<Word> {
         self.entering(slot)
+    }
+}
+
+/// The private work of the source machine's threads: none is ever due.
+#[derive(Drop)]
+pub struct NoWork;
+
+impl LeavesWork for SourceRun {
+    type Work = NoWork;
+
+    ghost works_for = { λ _ _. Unit {0} };
+
+    fn leave_work(&mut self) {}
+
+    fn try_settle(&mut self) -> bool {
+        true
+    }
+
+    fn settle(&mut self) {}
+
+    fn work(&self, _alloc: Global) -> Result<NoWork, AllocError> {
+        Ok(NoWork)
+    }
+
+    fn hand_out(&self, _slot: u8, _work: &mut NoWork) {}
+
+    fn advance(_work: &mut NoWork) {}
+
+    fn take_back(&mut self, _slot: u8, _work: &NoWork) {}
+
+    fn texts(&self) -> Option<Arc<Vec<Typed>, Global>> {
+        None
     }
 }

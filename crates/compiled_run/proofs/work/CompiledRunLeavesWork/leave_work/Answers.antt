@@ -1,0 +1,11 @@
+use Rattle.compiled_run.proofs.SameRuns.{same_run, still_lasts, still_spent}
+use Rattle.compiled_run.proofs.work.CompiledRunLeavesWork.leave_work.Goals as goal
+
+pub returns-clause-same : goal.returns-clause-same
+returns-clause-same c = same_run c.args.self.now c.leave_work.new.self c.leave_work.ensures.same
+
+pub returns-clause-lasts : goal.returns-clause-lasts
+returns-clause-lasts c = still_lasts c.args.self.now c.leave_work.new.self c.leave_work.ensures.same
+
+pub returns-clause-spent : goal.returns-clause-spent
+returns-clause-spent c = still_spent c.args.self.now c.leave_work.new.self c.leave_work.ensures.same
