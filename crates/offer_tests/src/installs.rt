@@ -20,7 +20,7 @@ fn are(versions: Versions<'_>, count: u32, names: usize, rows: &[Row]) -> bool {
 }
 
 /// Installs a text after the last one.
-fn install(
+pub(crate) fn install(
     alloc: Global,
     installed: &mut Installed,
     last: &Typed,

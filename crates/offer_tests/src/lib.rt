@@ -5,10 +5,13 @@
 //! - `causes` and `versions`: `patch_build`
 //! - `installs`: `installed_versions`
 //! - `decisions`: `offer_decision`
+//! - `copies`: `version_copies` and `offer_preparations`
 #![tactic(auto)]
 
 #[cfg(test)]
 mod causes;
+#[cfg(test)]
+mod copies;
 #[cfg(test)]
 mod decisions;
 #[cfg(test)]

@@ -1,14 +1,20 @@
 -- The events of the engine: those of its state, with what the sink has.
 use Rattle.std.proofs.Common.{◌≡◌, ℕ, ◌≤◌, Bool, true, false, List, [], ◌++◌, length, Option, Some, refl, sym, ◌∙◌, ap, subst, arith, length-append}
-use Rattle.std.specs.Prelude.{◌≢◌, Ok, Result as Outcome, if◌then◌else◌}
+use Rattle.std.specs.Prelude.{◌≢◌, IfOk, Ok, Err, Result as Outcome, if◌then◌else◌}
 use Rattle.std.proofs.lemmas.List.{append-nil}
 use Rattle.run_types.specs.declared.run.Event.{Event}
+use Rattle.c_tree.specs.BareDef.{BareDef}
+use Rattle.source_model.specs.Worlds.{Limits}
+use Rattle.source_model.specs.Runs.{SourceMove}
 use Rattle.source_model.specs.Guards.{Guard, Setup, lines_written}
 use Rattle.dsu_runs.specs.Engines.{Makes, MakesAt, Refuses}
 use Rattle.dsu_runs.specs.declared.engine.Made.{Made}
 use Rattle.dsu_runs.specs.declared.engine.Made.TheVariants.{Done, CannotHappen, SinkFailed}
+use Rattle.source_model.specs.JournalLaws.{texts_of}
+use Rattle.run_machine.specs.Machines.{IsSameRun, Shown}
 use Rattle.plain_engine.specs.Plain.{IsEngineAt, IsStateAt, ShownState, Wrote, lines_among}
 use Rattle.plain_engine.specs.Steps.{ComesTo, Happened, Stayed}
+use Rattle.plain_engine.proofs.Moving.{unmoved}
 use Rattle.plain_engine.proofs.Printing.{grew_all, grew_partly, some_printed}
 
 -- an event that can't happen
@@ -86,3 +92,21 @@ is_written false answer is failed = let e = sym is ∙ failed in cc
 pub is_written_ok : {E : Type 0} (done : Bool) (answer : Made) (r : Outcome Made E) → answer ≡ (if done then Done else CannotHappen)
     → r ≡ Ok answer → r ≢ Ok SinkFailed
 is_written_ok done answer r is was failed = let e : answer ≡ SinkFailed = cc in is_written done answer is e
+
+-- a machine that is the same runs
+pub same_engine : (setup : Setup) (g : Guard) (s : ShownState) (printed written : ℕ) (run : Shown) → IsSameRun s.run run
+    → IsEngineAt setup g s printed written → IsEngineAt setup g (record s { run = run }) printed written
+same_engine setup g s printed written run same at = record {
+  state = unmoved setup g s at.state run same.texts (same.run (texts_of setup) setup.limits at.state.run.moves at.state.run.run);
+  kept = subst (λ n. n ≤ printed) (sym same.kept) at.kept;
+  printed = at.printed;
+  written = at.written;
+}
+
+-- room for the work of a machine is room for that of an engine over it
+pub works_of : {W E : Type 0} (s : ShownState) (printed written : ℕ) (works : List (List BareDef) → W → Type 0) (r : Outcome W E)
+    → IfOk r (λ w. (texts : List (List BareDef)) (limits : Limits) (moves : List SourceMove) → s.run.is_run texts limits moves
+    → works texts w)
+    → IfOk r (λ w. (setup : Setup) (g : Guard) → IsEngineAt setup g s printed written → works (texts_of setup) w)
+works_of s printed written works (Ok w) is = λ setup g at. is (texts_of setup) setup.limits at.state.run.moves at.state.run.run
+works_of s printed written works (Err e) is = tt

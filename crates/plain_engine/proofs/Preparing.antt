@@ -1,5 +1,5 @@
 -- What preparing an offer needs, and what was prepared for it.
-use Rattle.std.proofs.Common.{◌≡◌, ℕ, ◌≤◌, List, [], ◌∷◌, ◌++◌, Some, slice_get, refl, sym, ◌∙◌, ap, subst, arith}
+use Rattle.std.proofs.Common.{◌≡◌, ℕ, ◌≤◌, List, [], ◌∷◌, ◌++◌, Some, map, slice_get, refl, sym, ◌∙◌, ap, subst, arith}
 use Rattle.std.specs.Prelude.{option_copied}
 use Rattle.std.specs.Arc.{arc_value}
 use Rattle.std.specs.declared.alloc.Global.{Global}
@@ -9,13 +9,16 @@ use Rattle.std.proofs.lemmas.Option.{same_Some}
 use Rattle.c_tree.specs.BareExpr.{Bytes}
 use Rattle.c_tree.specs.declared.def.Program.{Program}
 use Rattle.c_semantics.specs.SourceTexts.{Text, text_of}
+use Rattle.c_semantics.specs.Store.{store}
 use Rattle.code_store.specs.declared.body.StoredBody.{StoredBody}
+use Rattle.code_store.specs.Stored.{IsStoreOf}
 use Rattle.checkin_rows.specs.Rows.{Contents}
 use Rattle.rows_in_force.specs.StoreRows.{AreRowsOver}
-use Rattle.source_model.specs.Guards.{Guard, Setup}
+use Rattle.source_model.specs.Guards.{Guard, Offer, Setup}
+use Rattle.source_model.specs.Patches.{all_names}
 use Rattle.patch_build.specs.declared.patch.Patch.{Patch}
 use Rattle.patch_build.specs.declared.patch.Versions.{Versions}
-use Rattle.patch_build.specs.Versions.{AreVersions}
+use Rattle.patch_build.specs.Versions.{AreVersions, IsTableOf}
 use Rattle.installed_versions.specs.Installed.{HasItsRows as KeepsItsRows, IsInstalled, IsSeenAs}
 use Rattle.installed_versions.specs.declared.installed.Installed.{Installed}
 use Rattle.dsu_runs.specs.Books.{IsBook}
@@ -24,7 +27,9 @@ use Rattle.offer_decision.specs.declared.prepared.Offered.{Offered}
 use Rattle.offer_decision.specs.declared.prepared.Prepared.{Prepared}
 use Rattle.offer_decision.specs.Prepared.{HasItsRows, IsFound, IsPrepared}
 use Rattle.plain_engine.specs.Plain.{IsStateAt, ShownState}
-use Rattle.plain_engine.specs.Prepared.{AreVersionsAt, CanBePrepared, IsPreparedAt, IsPreparedFor}
+use Rattle.offer_preparations.specs.declared.preparation.Preparation.{Preparation}
+use Rattle.offer_preparations.specs.Preparations.{IsPreparation, IsPreparedOn, trees_of}
+use Rattle.plain_engine.specs.Prepared.{AreVersionsAt, CanBePrepared, IsPreparationIn, IsPreparedAt, IsPreparedFor}
 
 -- the versions of a state are those of a guard
 pub are_versions : (setup : Setup) (g : Guard) (s : ShownState) (k : ℕ) (v : Versions) (next : Program) → IsStateAt setup g s
@@ -102,3 +107,55 @@ prepared_rows setup g s k p patch rows at is e =
     let says = is.is.found g.versions (are_versions setup g s k is.versions is.next at is.at) in
     let so = subst (IsFound g.versions is.versions is.next) e says in
     subst (λ bodies. AreRowsOver bodies (arc_value rows)) is.at.same.bodies_are so.2
+
+-- ---- what was prepared elsewhere
+
+trees_back : (ps : List Program) → map (λ (t : Text). t.tree) (map text_of ps) ≡ ps
+trees_back [] = refl
+trees_back (p ∷ ps) = ap (λ qs. p ∷ qs) (trees_back ps)
+
+-- texts fix their trees
+same_trees : (ps qs : List Program) → map text_of ps ≡ map text_of qs → ps ≡ qs
+same_trees ps qs e = sym (trees_back ps) ∙ ap (map (λ (t : Text). t.tree)) e ∙ trees_back qs
+
+seen_versions : (v : Versions) (i : Installed) (texts before : List Text) → IsSeenAs v i.count i.names i.store
+    → IsInstalled texts i.count i.names i.store → texts ≡ before ++ text_of v.last.now ∷ [] → AreVersions texts v
+seen_versions v i texts before seen are last = record {
+  before = before;
+  last_is = last;
+  count_is = are.count_is ∙ sym seen.count_is;
+  names_are = subst (IsTableOf (all_names texts)) (sym seen.names_are) are.names_are;
+  store_is = subst (λ (names : List Bytes). IsStoreOf names (store texts) v.store.now) (sym seen.names_are)
+      (subst (λ (bodies : List StoredBody). IsStoreOf i.names (store texts) bodies) (sym seen.bodies_are) are.store_is);
+}
+
+pub prepared_elsewhere : (setup : Setup) (g : Guard) (s : ShownState) (trees : List Program) (k : ℕ) (p : Prepared) → IsStateAt setup g s
+    → map text_of trees ≡ setup.first ∷ map (λ (o : Offer). o.text) setup.offers
+    → IsPreparedOn trees k s.last s.installed p → IsPreparedAt s k p
+prepared_elsewhere setup g s trees k p at texts on =
+    let same : trees ≡ s.run.trees = same_trees trees s.run.trees (texts ∙ sym at.run.trees) in
+    record {
+      versions = on.versions;
+      next = on.next;
+      at = record {
+        last = on.versions.last.now;
+        last_at = subst (λ (ts : List Program). slice_get ts s.last ≡ Some on.versions.last.now) same on.last_at;
+        next_at = subst (λ (ts : List Program). slice_get ts k ≡ Some on.next) same on.next_at;
+        same = on.seen;
+        are = λ texts before are last. seen_versions on.versions s.installed texts before on.seen are last;
+      };
+      is = on.is;
+    }
+
+-- a preparation of an offer of a state shares the texts of the setup
+pub preparation_in : (setup : Setup) (g : Guard) (s : ShownState) (p : Preparation) → IsStateAt setup g s
+    → (KeepsItsRows s.installed → IsPreparation p) → trees_of p ≡ s.run.trees → IsPreparationIn setup p
+preparation_in setup g s p at is trees = record {
+  is = is at.versions.rows;
+  texts = ap (map text_of) trees ∙ at.run.trees;
+}
+
+-- and once it has done its work
+pub preparation_done : (setup : Setup) (old new : Preparation) → trees_of new ≡ trees_of old → (IsPreparation old → IsPreparation new)
+    → IsPreparationIn setup old → IsPreparationIn setup new
+preparation_done setup old new trees is of = record { is = is of.is; texts = ap (map text_of) trees ∙ of.texts }

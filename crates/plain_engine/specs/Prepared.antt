@@ -1,13 +1,16 @@
 -- What an offer needs to be prepared, and what was prepared for it, by the versions of a state.
-use Rattle.std.specs.Prelude.{◌≡◌, ℕ, ◌≤◌, List, ◌++◌, ◌∷◌, [], Some, slice_get}
+use Rattle.std.specs.Prelude.{◌≡◌, ℕ, ◌≤◌, List, ◌++◌, ◌∷◌, [], Some, map, slice_get}
 use Rattle.c_tree.specs.declared.def.Program.{Program}
 use Rattle.c_semantics.specs.SourceTexts.{Text, text_of}
+use Rattle.source_model.specs.Guards.{Setup}
 use Rattle.patch_build.specs.declared.patch.Versions.{Versions}
 use Rattle.patch_build.specs.Versions.{AreVersions}
 use Rattle.installed_versions.specs.Installed.{IsInstalled, IsSeenAs}
 use Rattle.offer_decision.specs.declared.prepared.Offered.{Offered}
 use Rattle.offer_decision.specs.declared.prepared.Prepared.{Prepared}
 use Rattle.offer_decision.specs.Prepared.{HasItsRows, IsPrepared}
+use Rattle.offer_preparations.specs.declared.preparation.Preparation.{Preparation}
+use Rattle.offer_preparations.specs.Preparations.{IsPreparation, trees_of}
 use Rattle.plain_engine.specs.Plain.{ShownState}
 
 -- versions are those of a state, and a text is that of an offer
@@ -36,3 +39,8 @@ pub record CanBePrepared (s : ShownState) (k : ℕ) (offered : Offered) : Type 0
   pub rows : HasItsRows offered
   pub at : AreVersionsAt s k offered.versions offered.text.now
   pub fits : (prepared : Prepared) → IsPrepared offered.versions offered.text.now prepared → IsPreparedFor s k prepared
+
+-- a preparation is one of an offer in a run of a setup: it shares the texts of the setup
+pub record IsPreparationIn (setup : Setup) (p : Preparation) : Type 0 where
+  pub is : IsPreparation p
+  pub texts : map text_of (trees_of p) ≡ setup.first ∷ map (λ o. o.text) setup.offers

@@ -8,7 +8,7 @@ ghost use Rattle.source_model.specs.Guards.{Guard, Setup, has_ended, is_open, of
 ghost use Rattle.offer_decision.specs.declared.answer.Decision.TheVariants.{Admitted};
 ghost use Rattle.plain_engine.specs.Plain.{IsStateAt, state_shown};
 ghost use Rattle.dsu_runs.specs.UndefinedNames.{UsesUndefined};
-ghost use Rattle.plain_engine.specs.Prepared.{CanBePrepared, IsPreparedAt, IsPreparedFor};
+ghost use Rattle.plain_engine.specs.Prepared.{CanBePrepared, IsPreparationIn, IsPreparedAt, IsPreparedFor};
 ghost use Rattle.plain_engine.specs.Steps.{ComesTo, IsDecided, IsFollowed, MayWithhold, Stayed};
 
 use crate::seen::{seats_seen, with_pins};
@@ -16,6 +16,7 @@ use crate::state::State;
 use code_store::StoredBody;
 use dsu_runs::Undecided;
 use offer_decision::{Decision, Found, Offered, Prepared, decide_prepared, prepare};
+use offer_preparations::Preparation;
 use patch_build::{MOST_VERSIONS, Patch};
 use run_machine::Machine;
 use source_model::OfferAnswer;
@@ -67,6 +68,27 @@ impl<M: Machine> State<M> {
         match self.may_decide(k) {
             Ok(true) => self.decide_if_present(k, prepared),
             Ok(false) => Ok(Some(false)),
+            Err(why) => Err(why),
+        }
+    }
+
+    /// Decides an offer with a preparation of it, if it is open and the run goes on. Where the preparation doesn't fit the versions
+    /// that there are, the offer is prepared here. Where it isn't decided nothing changed but that rows may be kept.
+    pub(crate) fn decide_with(&mut self, k: u8, preparation: Preparation) -> Result<bool, Undecided>
+        ensures made { (setup : Setup) (g : Guard) → IsPreparationIn setup preparation
+            → IsStateAt setup g (state_shown M.shown self.old)
+            → IfOk result (ComesTo setup (Decide k) g (state_shown M.shown self.new)) }
+        ensures stays { OnErr result ((setup : Setup) (g : Guard) → IsPreparationIn setup preparation
+            → IsStateAt setup g (state_shown M.shown self.old) → IsStateAt setup g (state_shown M.shown self.new)) }
+        ensures kept { (M.shown self.new.run).kept ≡ (M.shown self.old.run).kept }
+        ensures misused { result ≡ Err Undecided.Misused → (setup : Setup) (g : Guard)
+            → IsStateAt setup g (state_shown M.shown self.old) → g.world.misused ≡ true }
+        ensures undefined { result ≡ Err Undecided.UndefinedName → (setup : Setup) (g : Guard)
+            → IsStateAt setup g (state_shown M.shown self.old) → UsesUndefined setup k }
+    {
+        match self.may_decide(k) {
+            Ok(true) => self.decide_open_with(k, preparation),
+            Ok(false) => Ok(false),
             Err(why) => Err(why),
         }
     }
@@ -140,6 +162,24 @@ impl<M: Machine> State<M> {
         match prepared {
             None => Ok(false),
             Some(prepared) => self.decide_on(k, prepared),
+        }
+    }
+
+    /// Decides the open offer with a preparation of it, in a run in which threads still move.
+    fn decide_open_with(&mut self, k: u8, preparation: Preparation) -> Result<bool, Undecided>
+        requires { 0 < k }
+        ensures made { (setup : Setup) (g : Guard) → IsPreparationIn setup preparation
+            → IsStateAt setup g (state_shown M.shown self.old) → has_ended g ≡ false
+            → g.world.misused ≡ false → is_open g k ≡ true → 0 < k
+            → IfOk result (ComesTo setup (Decide k) g (state_shown M.shown self.new)) }
+        ensures stays { OnErr result ((setup : Setup) (g : Guard) → IsPreparationIn setup preparation
+            → IsStateAt setup g (state_shown M.shown self.old) → IsStateAt setup g (state_shown M.shown self.new)) }
+        ensures kept { (M.shown self.new.run).kept ≡ (M.shown self.old.run).kept }
+        ensures why { IfErr result (MayWithhold (state_shown M.shown self.old) k) }
+    {
+        match preparation.fitting(k, self.last, &self.installed) {
+            Some(prepared) => self.decide_on(k, prepared),
+            None => self.decide_open(k),
         }
     }
 

@@ -10,9 +10,10 @@
 //! Read in this order: `seat` (what is kept of a slot), `seats` (the slots, and those in which a thread lives), `moves` (the
 //! slots after a move), `seen` (the slots as a decision sees them), `state` (the state beside the output, its moves and check-ins), `decision` (the
 //! decision on an offer), `engine` (the type, with its start over a machine), `start` (that over the source machine), `calls`
-//! (what changes it), `events` (the trait), `asked` (what is asked of an engine beside them: texts, frames and rows).
+//! (what changes it), `events` (the trait), `ahead` (private work that is done elsewhere), `asked` (what is asked of an engine beside them: texts, frames and rows).
 #![tactic(auto)]
 
+mod ahead;
 mod asked;
 mod calls;
 mod decision;
