@@ -1,6 +1,6 @@
 -- What each step of a turn keeps.
 use Rattle.std.proofs.Common.{◌≡◌, ℕ, zero, suc, ◌+◌, ◌≤◌, ◌<◌, true, List, [], ◌∷◌, ◌++◌, length, Option, None, All, sym, ◌∙◌, ap, subst, arith, length-append}
-use Rattle.std.proofs.lemmas.List.{append_assoc}
+use Rattle.std.proofs.lemmas.List.{append_assoc, length-map}
 use Rattle.std.proofs.lemmas.List.Elements.{All-append}
 use Rattle.std.proofs.lemmas.List.Sums.{sum_by-append}
 use Rattle.std.specs.Prelude.{◌-◌, cond}
@@ -18,6 +18,7 @@ use Rattle.threaded_vm.specs.Opened.{Comes, GoesOn, Opened}
 use Rattle.threaded_vm.specs.Locked.{EndsHere, InCourse, IsMadeBy, Kept, Locked, NamesItsPass, Stands, event, events}
 use Rattle.threaded_vm.specs.Turns.{Finds, Surely}
 use Rattle.threaded_vm.proofs.Coming.{comes_more, comes_once}
+use Rattle.threaded_vm.proofs.Rooms.{Happens, played_since, room_for_one}
 use Rattle.threaded_vm.proofs.Ending.{ended_there}
 use Rattle.dsu_runs.proofs.Happening.{any_are_rows, any_rules}
 use Rattle.source_model.specs.JournalLaws.{SeatsAlwaysFit}
@@ -44,6 +45,12 @@ left_same n = omega arith
 
 pub left_less : (n : ℕ) → 0 < n → (n - 1) + 1 ≡ n
 left_less n some = omega (arith, some)
+
+pub no_move : (n : ℕ) → 0 ≤ n
+no_move n = omega arith
+
+pub one_move : (n : ℕ) → 0 < n → 1 ≤ n
+one_move n some = omega (arith, some)
 
 rose_more : {a b c : ℕ} → a ≤ b → Rose b c → Rose a c
 rose_more {a} {b} {c} h r = omega (arith, h, r)
@@ -109,10 +116,24 @@ module _ {E : Type 0} (is_at : Setup → Guard → E → Type 0) (told : E → O
   pub fits : (law : SeatsAlwaysFit) (setup : Setup) (history : List Event) (g : Guard) → Comes setup history g → length g.seats ≡ length g.world.slots
   fits law setup history g comes = (law any_rules setup history g (comes.legal any_rules any_are_rows)).count
 
+  -- there is room for one event more
+  pub has_room : (s : Locked E) (e : Event) → Invariant s → s.course ≡ Going → move_count (e ∷ []) ≤ s.left
+      → ((setup : Setup) (first g : Guard) → o.at setup first → is_at setup g s.engine → Happens setup e g) → length s.noted < o.room
+  has_room s e kept going some happens =
+      let setup = kept.run.0 in
+      let first = kept.run.1 in
+      let now = stands s kept going setup first kept.run.2 in
+      let h = happens setup first now.after kept.run.2 now.goes.there in
+      let begun = kept.begun setup first kept.run.2 in
+      let count = length-map s.noted event in
+      let few =
+      room_for_one setup (events s.noted) e first now.after o.left o.room
+      (played_since setup o.history (events s.noted) first now.after begun.comes now.goes.comes) h (let m = kept.moves in omega (arith, m, some)) begun.room in
+      omega (arith, count, few)
+
   module _ (s t : Locked E) (pass : ℕ) (e : Event) (kept : Invariant s) (going : s.course ≡ Going)
       (noted : t.noted ≡ s.noted ++ record { pass = pass; event = e } ∷ []) (by : IsMadeBy pass e)
-      (counted : t.left + move_count (e ∷ []) ≡ s.left) (roomy : length s.noted < s.room) (same : t.room ≡ s.room)
-      (more : faults s.engine ≤ faults t.engine) where
+      (counted : t.left + move_count (e ∷ []) ≡ s.left) (more : faults s.engine ≤ faults t.engine) where
     named : All NamesItsPass t.noted
     named =
         subst (All NamesItsPass) (sym noted)
@@ -127,8 +148,11 @@ module _ {E : Type 0} (is_at : Setup → Guard → E → Type 0) (told : E → O
         let parts = ap (λ l. move_count (events l)) noted ∙ ap move_count (events_more s.noted pass e) ∙ moves_of (events s.noted) (e ∷ []) in
         omega (arith, parts, kept.moves, counted)
 
-    few : (length t.noted ≤ t.room) × (t.room ≡ o.room)
-    few = let n = ap length noted ∙ length-append s.noted (record { pass = pass; event = e } ∷ []) in (omega (arith, n, roomy, same), same ∙ kept.few.1)
+    few : ((setup : Setup) (first g : Guard) → o.at setup first → is_at setup g s.engine → Happens setup e g) → length t.noted ≤ o.room
+    few happens =
+        let n = ap length noted ∙ length-append s.noted (record { pass = pass; event = e } ∷ []) in
+        let room = has_room s e kept going (omega (arith, counted)) happens in
+        omega (arith, n, room)
 
     later : o.faults ≤ faults t.engine
     later = let before = kept.later in omega (arith, before, more)
@@ -149,7 +173,7 @@ module _ {E : Type 0} (is_at : Setup → Guard → E → Type 0) (told : E → O
 
     -- an event was made
     pub kept_more : t.course ≡ Going
-        → ((setup : Setup) (g : Guard) → is_at setup g s.engine
+        → ((setup : Setup) (first g : Guard) → o.at setup first → is_at setup g s.engine
         → Makes (λ x. is_at setup x t.engine) setup e g (told s.engine) (told t.engine))
         → (makes_move e ≡ true → Surely o (events s.noted) (λ setup g. due setup g ≡ None))
         → Invariant t
@@ -159,13 +183,14 @@ module _ {E : Type 0} (is_at : Setup → Guard → E → Type 0) (told : E → O
           subst
           (InCourse is_at told faults setup first (o.history ++ events t.noted) o.faults o.told (move_count o.history + o.left) t.engine)
           (sym goes)
-          (grown setup first now.after (made setup now.after now.goes.there) now.goes now.grew
+          (grown setup first now.after (made setup first now.after at now.goes.there) now.goes now.grew
           (λ moves. prompt moves setup first now.after at now.goes.comes));
       run = kept.run;
+      begun = kept.begun;
       named = named;
       moves = moves;
       later = later;
-      few = few;
+      few = few (λ setup first g at there. let m = made setup first g at there in record { after = m.after; made = m.happens });
     }
 
     -- a move was made, and not all that it printed could be written
@@ -198,17 +223,17 @@ module _ {E : Type 0} (is_at : Setup → Guard → E → Type 0) (told : E → O
             };
           });
       run = kept.run;
+      begun = kept.begun;
       named = named;
       moves = moves;
       later = later;
-      few = few;
+      few = few (λ setup first g at there. let m = made setup g there in record { after = m.after; made = m.happens });
     }
 
   module _ (s t : Locked E) (kept : Invariant s) (going : s.course ≡ Going)
-      (noted : t.noted ≡ s.noted) (left : t.left ≡ s.left) (room : t.room ≡ s.room)
-      (silent : told t.engine ≡ told s.engine) (more : faults s.engine ≤ faults t.engine) where
-    same_few : (length t.noted ≤ t.room) × (t.room ≡ o.room)
-    same_few = (let n = ap length noted in let f = kept.few.0 in omega (arith, n, f, room), room ∙ kept.few.1)
+      (noted : t.noted ≡ s.noted) (left : t.left ≡ s.left) (silent : told t.engine ≡ told s.engine) (more : faults s.engine ≤ faults t.engine) where
+    same_few : length t.noted ≤ o.room
+    same_few = let n = ap length noted in let f = kept.few in omega (arith, n, f)
 
     same_moves : move_count (events t.noted) + t.left ≡ o.left
     same_moves = let n = ap (λ l. move_count (events l)) noted in omega (arith, n, left, kept.moves)
@@ -235,6 +260,7 @@ module _ {E : Type 0} (is_at : Setup → Guard → E → Type 0) (told : E → O
             grew = λ base is. silent ∙ now.grew base is;
           });
       run = kept.run;
+      begun = kept.begun;
       named = subst (All NamesItsPass) (sym noted) kept.named;
       moves = same_moves;
       later = same_later;
@@ -255,6 +281,7 @@ module _ {E : Type 0} (is_at : Setup → Guard → E → Type 0) (told : E → O
             grew = λ base is. silent ∙ now.grew base is;
           });
       run = kept.run;
+      begun = kept.begun;
       named = subst (All NamesItsPass) (sym noted) kept.named;
       moves = same_moves;
       later = same_later;

@@ -1,4 +1,6 @@
 mod Coming
+mod Crews
 mod Ending
 mod Keeping
 mod Logs
+mod Rooms

@@ -1,3 +1,5 @@
 pub mod Opened
 pub mod Locked
 pub mod Turns
+pub mod Crews
+pub mod Workers

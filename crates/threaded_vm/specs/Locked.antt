@@ -19,16 +19,14 @@ use Rattle.threaded_vm.specs.declared.notes.Note.TheVariants as note
 use Rattle.threaded_vm.specs.declared.notes.Noted.{Noted}
 use Rattle.threaded_vm.specs.declared.notes.Course.{Course}
 use Rattle.threaded_vm.specs.declared.notes.Course.TheVariants.{Going, Failing, Over}
-use Rattle.threaded_vm.specs.Opened.{Comes, GoesOn, IsARun, Opened}
+use Rattle.threaded_vm.specs.Opened.{Comes, GoesOn, HasRoom, IsARun, Opened}
 
--- the value: the engine, the events since the workers began, how many moves are left, whether the run is over, and for how many
--- events there is room
+-- the value: the engine, the events since the workers began, how many moves are left, and whether the run is over
 pub record Locked (E : Type 0) : Type 0 where
   pub engine : E
   pub noted : List Noted
   pub left : ℕ
   pub course : Course
-  pub room : ℕ
 
 abbrev pub event : Noted → Event
 event n = n.event
@@ -138,11 +136,12 @@ module _ {E : Type 0} (is_at : Setup → Guard → E → Type 0) (told : E → O
   -- what the value's type keeps
   pub record Kept (s : Locked E) : Type 0 where
     pub run : IsARun o
+    pub begun : (setup : Setup) (first : Guard) → o.at setup first → HasRoom o setup first
     pub course : IsInCourse s s.course
     pub named : All NamesItsPass s.noted
     pub moves : move_count (events s.noted) + s.left ≡ o.left
     pub later : o.faults ≤ faults s.engine
-    pub few : (length s.noted ≤ s.room) × (s.room ≡ o.room)
+    pub few : length s.noted ≤ o.room
 
 -- the run is over
 abbrev pub IsOverBy : {E : Type 0} → Locked E → Type 0

@@ -1,5 +1,5 @@
 -- What workers begin with, and where a run stands that goes on.
-use Rattle.std.specs.Prelude.{◌≡◌, ℕ, IsTrue, List, Option, Some}
+use Rattle.std.specs.Prelude.{◌≡◌, ℕ, ◌+◌, ◌*◌, ◌≤◌, IsTrue, List, length, Option, Some}
 use Rattle.run_types.specs.declared.run.Event.{Event}
 use Rattle.source_model.specs.Guards.{Guard, Rules, Setup}
 use Rattle.source_model.specs.Journals.{guard_after}
@@ -29,3 +29,9 @@ pub record Comes (setup : Setup) (history : List Event) (g : Guard) : Type 0 whe
 pub record GoesOn {E : Type 0} (is_at : Setup → Guard → E → Type 0) (setup : Setup) (g : Guard) (history : List Event) (engine : E) : Type 0 where
   pub comes : Comes setup history g
   pub there : is_at setup g engine
+
+-- the events before came to a guard, and there is room for all further ones: a check-in comes after a move that led to it, but for
+-- those at which the threads were, and an offer is opened and closed once; one may be open
+pub record HasRoom (o : Opened) (setup : Setup) (first : Guard) : Type 0 where
+  pub comes : Comes setup o.history first
+  pub room : 2 * o.left + length first.seats + 2 * length setup.offers + 1 ≤ o.room

@@ -1,7 +1,8 @@
 ghost use Rattle.std.specs.Prelude.{IfOk};
 ghost use Rattle.source_model.specs.Guards.{Guard, Setup};
 
-use crate::{Ahead, Opening};
+use crate::Opening;
+use dsu_runs::Ahead;
 use std::alloc::{AllocError, Global};
 use std::marker::{Model, PhantomData};
 

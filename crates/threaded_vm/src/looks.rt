@@ -2,7 +2,8 @@ ghost use Rattle.std.specs.Prelude.{◌≡◌, List, ◌++◌};
 ghost use Rattle.pass_lock.specs.Passes.{IsFreePassOf};
 ghost use Rattle.threaded_vm.specs.Turns.{Answered, Says};
 
-use crate::{Ahead, Load, Look, Note, Opening, Shared};
+use crate::{Load, Look, Note, Opening, Shared};
+use dsu_runs::Ahead;
 use pass_lock::{Pass, PassLock};
 use std::sync::Wait;
 

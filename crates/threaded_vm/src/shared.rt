@@ -7,15 +7,16 @@ ghost use Rattle.pass_lock.specs.Histories.{Adds};
 ghost use Rattle.run_types.specs.declared.run.Event.TheVariants.{Decide};
 ghost use Rattle.dsu_runs.specs.Engines.{Makes, standing_of};
 ghost use Rattle.dsu_runs.specs.declared.engine.Stands.TheVariants.{AtCheckIn};
-ghost use Rattle.threaded_vm.specs.Opened.{GoesOn, IsARun};
+ghost use Rattle.threaded_vm.specs.Opened.{GoesOn, HasRoom, IsARun};
 ghost use Rattle.threaded_vm.specs.Locked.{EndsBy, IsInCourse, IsOverBy, events, log_of};
 ghost use Rattle.threaded_vm.specs.Turns.{Answered, Enters, IsOver, Says, SaysOf, Surely};
 
-use crate::{Ahead, Course, Load, Look, Note, Noted, Opening};
-use dsu_runs::{Live, Made, Ran, Stands, StopCause};
+use crate::{Course, Load, Look, Note, Noted, Opening, Preparing};
+use dsu_runs::{Ahead, Live, Made, Ran, Stands, StopCause};
 use pass_lock::Told;
 use run_types::{Ending, Event};
 use source_model::seats_fit_their_slots;
+use std::alloc::Global;
 use std::marker::{Model, PhantomData};
 
 /// The value under the lock: the engine, the events since the workers began, and whether the run is over.
@@ -26,8 +27,6 @@ pub struct Shared<E: Ahead, O: Opening> {
     /// How many moves may still be made.
     left: u32,
     course: Course,
-    /// For how many events there is room.
-    room: usize,
     of: PhantomData<O>,
 }
 
@@ -38,9 +37,9 @@ impl<E: Ahead, O: Opening> Model for Shared<E, O> {
 
     ghost Value = { Locked E };
 
-    ghost view = { λ s. record { engine = s.engine; noted = s.noted.items; left = s.left; course = s.course; room = s.room } };
+    ghost view = { λ s. record { engine = s.engine; noted = s.noted.items; left = s.left; course = s.course } };
 
-    ghost invariant = { λ s. Kept E.is_at E.told E.faults O.opened (record { engine = s.engine; noted = s.noted.items; left = s.left; course = s.course; room = s.room }) × (s.room ≤ vec_capacity s.noted) };
+    ghost invariant = { λ s. Kept E.is_at E.told E.faults O.opened (record { engine = s.engine; noted = s.noted.items; left = s.left; course = s.course }) × (O.opened.room ≤ vec_capacity s.noted) };
 }
 
 impl<E: Ahead, O: Opening> Told for Shared<E, O> {
@@ -56,22 +55,22 @@ impl<E: Ahead, O: Opening> Told for Shared<E, O> {
 
 impl<E: Ahead, O: Opening> Shared<E, O> {
     /// The value before any event of the workers.
-    pub(crate) fn new(engine: E, noted: Vec<Noted>, left: u32, room: usize) -> Shared<E, O>
+    pub(crate) fn new(engine: E, noted: Vec<Noted>, left: u32) -> Shared<E, O>
         requires none { noted.items ≡ [] }
-        requires room { (room ≡ O.opened.room) × (room ≤ vec_capacity noted) }
+        requires room { O.opened.room ≤ vec_capacity noted }
+        requires enough { (setup : Setup) (first : Guard) → O.opened.at setup first → HasRoom O.opened setup first }
         requires left { left ≡ O.opened.left }
         requires run { IsARun O.opened }
         requires begun { (setup : Setup) (g : Guard) → O.opened.at setup g → GoesOn E.is_at setup g O.opened.history engine }
         requires told { E.told engine ≡ O.opened.told }
         requires faults { E.faults engine ≡ O.opened.faults }
-        ensures { result ≡ record { engine = engine; noted = []; left = left; course = Course.Going; room = room } }
+        ensures { result ≡ record { engine = engine; noted = []; left = left; course = Course.Going } }
     {
         Shared {
             engine,
             noted,
             left,
             course: Course::Going,
-            room,
             of: PhantomData,
         }
     }
@@ -173,10 +172,6 @@ impl<E: Ahead, O: Opening> Shared<E, O> {
         ensures own { Enters slot result (log_of self.old) (log_of self.new) }
         ensures says { SaysOf O.opened slot (events self.new.noted) (IsOver (log_of self.new)) result }
     {
-        if self.noted.len() == self.room {
-            self.course = Course::Over(slot, StopCause::Memory);
-            return Look::Ended;
-        }
         match self.engine.check_in(slot) {
             Made::Done => {
                 keep(&mut self.noted, slot, Event::CheckIn(slot));
@@ -195,12 +190,9 @@ impl<E: Ahead, O: Opening> Shared<E, O> {
         ensures says { SaysOf O.opened slot (events self.new.noted) (IsOver (log_of self.new)) result }
         ensures waits { result ≡ Look.Waits → (self.new.course ≡ Course.Going) × (self.new.noted ≡ self.old.noted) }
     {
-        if self.noted.len() == self.room {
-            self.course = Course::Over(slot, StopCause::Memory);
-            return Look::Ended;
-        }
         self.engine.take_back(slot, load.work());
-        match self.engine.act_ahead(slot) {
+        self.engine.leave_work();
+        match self.engine.act(slot) {
             Ok(Made::Done) => {
                 keep(&mut self.noted, slot, Event::Move(slot));
                 self.left -= 1;
@@ -233,7 +225,7 @@ impl<E: Ahead, O: Opening> Shared<E, O> {
         ensures says { SaysOf O.opened slot (events self.new.noted) (IsOver (log_of self.new)) result }
     {
         seats_fit_their_slots();
-        if is_stuck(&self.engine) {
+        if is_stuck(&mut self.engine) {
             self.end(slot, StopCause::Ended(Ending::Deadlock));
             return Look::Ended;
         }
@@ -241,7 +233,11 @@ impl<E: Ahead, O: Opening> Shared<E, O> {
     }
 
     /// Opens the offer that is due, if one still is, with what prepares its decision.
-    pub(crate) fn open_due(&mut self, pass: u8) -> Option<(u8, Option<E::Preparation>)>
+    pub(crate) fn open_due(
+        &mut self,
+        alloc: Global,
+        pass: u8,
+    ) -> Option<(u8, Option<Preparing<E, O>>)>
         ensures { (added : List Note) × Adds pass (log_of self.old) added (log_of self.new) }
     {
         if !self.goes_on() {
@@ -249,20 +245,24 @@ impl<E: Ahead, O: Opening> Shared<E, O> {
         }
         let k = self.engine.due()?;
         if self.open(pass, k) {
-            return Some((k, self.engine.preparation(k)));
+            return Some((k, self.preparing(alloc, k)));
         }
         None
+    }
+
+    // What prepares the decision on the open offer, if it can be prepared elsewhere.
+    fn preparing(&self, alloc: Global, k: u8) -> Option<Preparing<E, O>>
+        requires going { self.now.course ≡ Course.Going }
+    {
+        Some(Preparing::new(self.engine.preparation(alloc, k)?))
     }
 
     // Opens an offer, if it can be opened.
     fn open(&mut self, pass: u8, k: u8) -> bool
         requires going { self.old.course ≡ Course.Going }
-        ensures { (added : List Note) × Adds pass (log_of self.old) added (log_of self.new) }
+        ensures own { (added : List Note) × Adds pass (log_of self.old) added (log_of self.new) }
+        ensures going { result ≡ true → self.new.course ≡ Course.Going }
     {
-        if self.noted.len() == self.room {
-            self.course = Course::Over(pass, StopCause::Memory);
-            return false;
-        }
         match self.engine.offer(k) {
             Made::Done => {
                 keep(&mut self.noted, pass, Event::Offer(k));
@@ -273,13 +273,13 @@ impl<E: Ahead, O: Opening> Shared<E, O> {
     }
 
     /// Decides the open offer. Where the decision can't be made, or isn't, it withdraws the offer.
-    pub(crate) fn close(&mut self, pass: u8, k: u8, preparation: Option<E::Preparation>)
+    pub(crate) fn close(&mut self, pass: u8, k: u8, preparing: Option<Preparing<E, O>>)
         ensures { (added : List Note) × Adds pass (log_of self.old) added (log_of self.new) }
     {
         if !self.goes_on() {
             return;
         }
-        if !self.decide(pass, k, preparation) {
+        if !self.decide(pass, k, preparing) {
             self.withdraw(pass, k);
         }
     }
@@ -300,16 +300,12 @@ impl<E: Ahead, O: Opening> Shared<E, O> {
     }
 
     // Decides the open offer, if it can be decided.
-    fn decide(&mut self, pass: u8, k: u8, preparation: Option<E::Preparation>) -> bool
+    fn decide(&mut self, pass: u8, k: u8, preparing: Option<Preparing<E, O>>) -> bool
         requires going { self.old.course ≡ Course.Going }
         ensures done { result ≡ true → (added : List Note) × Adds pass (log_of self.old) added (log_of self.new) }
         ensures not { result ≡ false → (self.new.noted ≡ self.old.noted) × (self.new.course ≡ Course.Going) }
     {
-        if self.noted.len() == self.room {
-            self.course = Course::Over(pass, StopCause::Memory);
-            return true;
-        }
-        if decided(&mut self.engine, k, preparation) {
+        if decided(&mut self.engine, k, preparing) {
             keep(&mut self.noted, pass, Event::Decide(k));
             return true;
         }
@@ -321,10 +317,6 @@ impl<E: Ahead, O: Opening> Shared<E, O> {
         requires going { self.old.course ≡ Course.Going }
         ensures { (added : List Note) × Adds pass (log_of self.old) added (log_of self.new) }
     {
-        if self.noted.len() == self.room {
-            self.course = Course::Over(pass, StopCause::Memory);
-            return;
-        }
         match self.engine.withdraw(k) {
             Made::Done => keep(&mut self.noted, pass, Event::Withdraw(k)),
             Made::CannotHappen | Made::SinkFailed => {}
@@ -389,29 +381,32 @@ impl<E: Ahead, O: Opening> Shared<E, O> {
 }
 
 // Whether it is known that no thread can act, and that no offer is open.
-fn is_stuck<E: Ahead>(engine: &E) -> bool
-    ensures { result ≡ true → (setup : Setup) (g : Guard) → E.is_at setup g engine.now → has_ended g ≡ false
+fn is_stuck<E: Ahead>(engine: &mut E) -> bool
+    ensures stuck { result ≡ true → (setup : Setup) (g : Guard) → E.is_at setup g engine.new → has_ended g ≡ false
         → length g.seats ≡ length g.world.slots → (stuck_at g ≡ true) × (g.open_offer ≡ None) }
+    ensures stays { (setup : Setup) (g : Guard) → E.is_at setup g engine.old → E.is_at setup g engine.new }
+    ensures silent { E.told engine.new ≡ E.told engine.old }
+    ensures later { E.faults engine.new ≡ E.faults engine.old }
 {
-    if engine.open().is_some() {
-        return false;
-    }
-    if engine.is_settled() {
+    if engine.try_settle() {
+        if engine.open().is_some() {
+            return false;
+        }
         return engine.next_act(None).is_none();
     }
     false
 }
 
 // Has an engine decide its open offer. False: it isn't decided, and the engine stands for the same.
-fn decided<E: Ahead>(engine: &mut E, k: u8, preparation: Option<E::Preparation>) -> bool
-    ensures made { result ≡ true → (setup : Setup) (g : Guard) → E.is_at setup g engine.old
+fn decided<E: Ahead, O: Opening>(engine: &mut E, k: u8, preparing: Option<Preparing<E, O>>) -> bool
+    ensures made { result ≡ true → (setup : Setup) (first g : Guard) → O.opened.at setup first → E.is_at setup g engine.old
         → Makes (λ x. E.is_at setup x engine.new) setup (Decide k) g (E.told engine.old) (E.told engine.new) }
-    ensures stays { result ≡ false → (setup : Setup) (g : Guard) → E.is_at setup g engine.old
+    ensures stays { result ≡ false → (setup : Setup) (first g : Guard) → O.opened.at setup first → E.is_at setup g engine.old
         → E.is_at setup g engine.new × (E.told engine.new ≡ E.told engine.old) }
     ensures later { E.faults engine.old ≤ E.faults engine.new }
 {
-    let made = match preparation {
-        Some(preparation) => engine.decide_prepared(k, preparation),
+    let made = match preparing {
+        Some(preparing) => engine.decide_prepared(k, preparing.into_preparation()),
         None => engine.decide(k),
     };
     match made {

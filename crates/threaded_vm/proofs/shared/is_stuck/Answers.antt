@@ -15,9 +15,9 @@ none_is : (o : Option ℕ) → is_some o ≡ false → o ≡ None
 none_is None is = refl
 none_is (Some k) is = absurd (true≢false is)
 
-pub returns-then-is_settled : goal.returns-then-is_settled
-returns-then-is_settled g c = λ yes setup x at going fits.
-    let asks = c.is_settled.ensures c.if-is_settled.true in
+pub returns-then-try_settle-clause-stuck : goal.returns-then-try_settle-clause-stuck
+returns-then-try_settle-clause-stuck g c = λ yes setup x at going fits.
+    let asks = c.try_settle.ensures.asks c.if-try_settle.true in
     let stuck =
     twice c.is_none.result
     ∙ ap not (sym c.is_none.ensures)

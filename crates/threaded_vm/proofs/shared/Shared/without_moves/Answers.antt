@@ -22,7 +22,7 @@ pub end-requires-after_bounds : goal.end-requires-after_bounds
 end-requires-after_bounds g c κs within =
     let e = g.E.Engine in
     let o = g.O.Opening.opened in
-    let s : Locked g.row.E.Denot = record { engine = c.self.inside.engine; noted = c.self.inside.noted.items; left = c.self.inside.left; course = c.self.inside.course; room = c.self.inside.room } in
+    let s : Locked g.row.E.Denot = record { engine = c.self.inside.engine; noted = c.self.inside.noted.items; left = c.self.inside.left; course = c.self.inside.course } in
     let going = ap (λ x. x.course) c.self.view_is ∙ c.requires.going in
     ends_here e.is_at e.told e.faults o s c.settle.new.self Cut c.self.invariant.0 going c.settle.ensures.stays c.settle.ensures.silent
     (λ setup first x at comes there.
@@ -38,18 +38,18 @@ end-requires-after_bounds g c κs within =
 pub returns-then-is_some-clause-own : goal.returns-then-is_some-clause-own
 returns-then-is_some-clause-own g c =
     let v = c.args.self.now in
-    ends_turn v (record { engine = c.settle.new.self; noted = c.self.inside.noted.items; left = c.self.inside.left; course = c.self.inside.course; room = c.self.inside.room }) c.end.new.self c.args.slot (Ended Cut)
+    ends_turn v (record { engine = c.settle.new.self; noted = c.self.inside.noted.items; left = c.self.inside.left; course = c.self.inside.course }) c.end.new.self c.args.slot (Ended Cut)
     (is_on v.course c.requires.going) (ap (λ x. x.noted) c.self.view_is) c.end.ensures
 
 pub returns-then-is_some-clause-says : goal.returns-then-is_some-clause-says
 returns-then-is_some-clause-says g c =
-    over_after (record { engine = c.settle.new.self; noted = c.self.inside.noted.items; left = c.self.inside.left; course = c.self.inside.course; room = c.self.inside.room }) c.end.new.self c.args.slot (Ended Cut) c.end.ensures
+    over_after (record { engine = c.settle.new.self; noted = c.self.inside.noted.items; left = c.self.inside.left; course = c.self.inside.course }) c.end.new.self c.args.slot (Ended Cut) c.end.ensures
 
 pub end-requires-2-after_bounds : goal.end-requires-2-after_bounds
 end-requires-2-after_bounds g c κs within =
     let e = g.E.Engine in
     let o = g.O.Opening.opened in
-    let s : Locked g.row.E.Denot = record { engine = c.self.inside.engine; noted = c.self.inside.noted.items; left = c.self.inside.left; course = c.self.inside.course; room = c.self.inside.room } in
+    let s : Locked g.row.E.Denot = record { engine = c.self.inside.engine; noted = c.self.inside.noted.items; left = c.self.inside.left; course = c.self.inside.course } in
     let going = ap (λ x. x.course) c.self.view_is ∙ c.requires.going in
     ends_here e.is_at e.told e.faults o s c.settle.new.self Deadlock c.self.invariant.0 going c.settle.ensures.stays c.settle.ensures.silent
     (λ setup first x at comes there.
@@ -66,9 +66,9 @@ end-requires-2-after_bounds g c κs within =
 pub returns-clause-own : goal.returns-clause-own
 returns-clause-own g c =
     let v = c.args.self.now in
-    ends_turn v (record { engine = c.settle.new.self; noted = c.self.inside.noted.items; left = c.self.inside.left; course = c.self.inside.course; room = c.self.inside.room }) c.end-2.new.self c.args.slot (Ended Deadlock)
+    ends_turn v (record { engine = c.settle.new.self; noted = c.self.inside.noted.items; left = c.self.inside.left; course = c.self.inside.course }) c.end-2.new.self c.args.slot (Ended Deadlock)
     (is_on v.course c.requires.going) (ap (λ x. x.noted) c.self.view_is) c.end-2.ensures
 
 pub returns-clause-says : goal.returns-clause-says
 returns-clause-says g c =
-    over_after (record { engine = c.settle.new.self; noted = c.self.inside.noted.items; left = c.self.inside.left; course = c.self.inside.course; room = c.self.inside.room }) c.end-2.new.self c.args.slot (Ended Deadlock) c.end-2.ensures
+    over_after (record { engine = c.settle.new.self; noted = c.self.inside.noted.items; left = c.self.inside.left; course = c.self.inside.course }) c.end-2.new.self c.args.slot (Ended Deadlock) c.end-2.ensures
