@@ -174,7 +174,8 @@ impl RecordedRun {
 
     /// What was printed, how the run stands, what its threads wait for.
     pub fn run(&self) -> &SourceRun
-        ensures { (texts : List (List BareDef)) (limits : Limits) (moves : List Made) → IsRecorded texts limits moves self.now
+        ensures same { result.now ≡ self.now.run }
+        ensures ran { (texts : List (List BareDef)) (limits : Limits) (moves : List Made) → IsRecorded texts limits moves self.now
             → IsRun texts limits moves result.now }
     {
         &self.run

@@ -1,0 +1,4 @@
+mod FirstDifferences
+mod AnsweredOnce
+mod Patches
+mod Follow
