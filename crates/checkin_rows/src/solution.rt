@@ -85,7 +85,8 @@ fn seeds(alloc: Global, nodes: &Nodes, own: &[NameSet]) -> Result<Vec<NameSet>, 
 {
     let first = first_sets(alloc, own, nodes.points)?;
     let functions = vec![in alloc; NameSet::empty(); nodes.names + nodes.names + nodes.names]?;
-    let mut seeds = Vec::from_slice(alloc, &first)?;
+    let mut seeds = Vec::with_capacity(alloc, first.len() + first.len() + functions.len())?;
+    seeds.extend_from_slice(&first)?;
     seeds.extend_from_slice(&first)?;
     seeds.extend_from_slice(&functions)?;
     Ok(seeds)

@@ -1,4 +1,3 @@
-mod DigestLemmas
 mod EachRow
 mod EachSlot
 mod Examples

@@ -1,5 +1,4 @@
 pub mod Decisions
-pub mod Digests
 pub mod Laws
 pub mod Obstacles
 pub mod Rows

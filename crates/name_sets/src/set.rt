@@ -5,6 +5,7 @@ ghost use Rattle.name_sets.specs.IdSet.{Holds, HasIds, IsCommon};
 ghost use Rattle.name_sets.specs.Least.{TellsLeast};
 
 use crate::{NameId, Names, least, words};
+use std::hash::{Hash, Hasher};
 use std::marker::Model;
 
 /// A set of ids, as a row of 2,048 bits. Contracts see it by its members, as `Holds set id`, and sets
@@ -121,4 +122,19 @@ impl Eq for NameSet {
     ghost use Rattle.std.proofs.lemmas.Cmp.{nat_eq_equiv};
 
     ghost laws = { nat_eq_equiv };
+}
+
+impl Hash for NameSet {
+    ghost use Rattle.std.proofs.Common.{rules};
+    ghost use Rattle.std.specs.Cmp.Rules.{hashing};
+    ghost use Rattle.std.specs.Hash as fed;
+    ghost use Rattle.name_sets.specs.Row.{words_of};
+
+    ghost hash_input = { λ set. fed.slice fed.u64 (words_of 32 set) };
+
+    ghost respects_eq = { Prim.search (hashing, rules) };
+
+    fn hash<H: Hasher>(&self, state: &mut H) {
+        self.words.hash(state);
+    }
 }

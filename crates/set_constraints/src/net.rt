@@ -37,7 +37,7 @@ impl Model for Net {
 }
 
 impl Net {
-    /// A net of so many nodes. It takes 33 bytes a node and 8 an edge beside `edges`, and 25 a node more while it is made.
+    /// A net of so many nodes. It takes 16 bytes a node and 8 an edge beside `edges`, and 26 a node more while it is made.
     pub fn new(
         alloc: Global,
         nodes: usize,
