@@ -42,6 +42,9 @@ fresh_ready table count xs is = (
   ap length is ∙ fresh_count table 0 count,
 )
 
+pub none_free : (table : TableId) (xs : List (Known Note)) → xs ≡ [] → AreFree table xs
+none_free table xs none = subst (AreFree table) (sym none) (λ k d below. absurd (omega (arith, below)))
+
 -- a worker has one seat more, and one pass is left less
 module _ {W : Type 0} (seats : W → List (Known Note)) (capacity : W → ℕ) (table : TableId) where
   abbrev pub Seated : ℕ → W → Type 0

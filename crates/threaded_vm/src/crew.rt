@@ -5,7 +5,7 @@ ghost use Rattle.threaded_vm.specs.Crews.{AreFree, AreFresh};
 ghost use Rattle.threaded_vm.specs.Locked.{IsOverBy};
 
 use crate::seat::{Round, Seat};
-use crate::{Gate, Load, Opening, Shared};
+use crate::{Gate, Held, Load, Opening, Shared};
 use dsu_runs::Ahead;
 use pass_lock::{Pass, PassLock, Turn};
 use std::alloc::Global;
@@ -19,7 +19,7 @@ const PATIENCE: u32 = 1000;
 /// What the workers of a run share.
 #[derive(Drop)]
 pub(crate) struct Crew<E: Ahead + Drop, O: Opening> {
-    pub lock: PassLock<Shared<E, O>>,
+    pub lock: PassLock<Held<E, O>>,
     pub alloc: Global,
     /// How many workers there are.
     count: u64,
@@ -32,7 +32,7 @@ pub(crate) struct Crew<E: Ahead + Drop, O: Opening> {
 }
 
 impl<E: Ahead + Drop, O: Opening> Crew<E, O> {
-    pub fn new(lock: PassLock<Shared<E, O>>, alloc: Global, count: u64) -> Crew<E, O>
+    pub fn new(lock: PassLock<Held<E, O>>, alloc: Global, count: u64) -> Crew<E, O>
         ensures { result.lock ≡ lock }
     {
         Crew {
@@ -73,7 +73,7 @@ impl<E: Ahead + Drop, O: Opening> Crew<E, O> {
     /// Gives the workers their seats, with passes that have taken no turn: slot t is one of worker t modulo their number.
     pub fn seat_all(
         &self,
-        mut passes: Vec<Pass<Shared<E, O>>>,
+        mut passes: Vec<Pass<Held<E, O>>>,
         mut loads: Vec<Load<E, O>>,
         workers: &mut Vec<Vec<Seat<E, O>>>,
     )
@@ -147,16 +147,16 @@ fn look_at_all<E: Ahead + Drop, O: Opening, R: Wait, G: Gate>(
 pub(crate) fn take_if_over<E: Ahead + Drop, O: Opening, R: Wait>(
     rt: &R,
     crew: &Crew<E, O>,
-    pass: &mut Pass<Shared<E, O>>,
+    pass: &mut Pass<Held<E, O>>,
 ) -> Option<Shared<E, O>>
     requires { IsFreeAt crew.now.lock.table pass.old }
     ensures over { IfSome result IsOverBy }
     ensures pass { result ≡ None → IsFreeAt crew.now.lock.table pass.new }
 {
     let turn = crew.lock.take(rt, pass);
-    if turn.value.is_over() {
+    if turn.value.shared.is_over() {
         let Turn { value } = turn;
-        return Some(value);
+        return Some(Box::into_inner(value.shared));
     }
     crew.lock.give(pass, turn);
     None

@@ -8,12 +8,13 @@
 //! among workers, each in a thread of its own, and hands the run back once it has ended.
 //!
 //! Read in this order: `notes` (what the value under the lock notes, and what a turn answers), `opening` (what the workers begin
-//! with), `load` (the private work on a copy), `preparing` (the preparation of an offer), `shared` (the value under the lock),
+//! with), `load` (the private work on a copy), `preparing` (the preparation of an offer), `shared` (the value under the lock), `held` (what the lock holds),
 //! `looks` (a turn of a slot), `seat` (a slot in the hands of a worker), `crew` (what the workers share, and the work of one),
 //! `workers` (a run by workers).
 #![tactic(auto)]
 
 mod crew;
+mod held;
 mod load;
 mod looks;
 mod notes;
@@ -23,6 +24,7 @@ mod seat;
 mod shared;
 mod workers;
 
+pub use held::Held;
 pub use load::Load;
 pub use looks::{Gate, Open, Place, look};
 pub use notes::{Course, Look, Note, Noted};

@@ -2,7 +2,7 @@ ghost use Rattle.std.specs.Prelude.{◌≡◌, List, ◌++◌};
 ghost use Rattle.pass_lock.specs.Passes.{IsFreePassOf};
 ghost use Rattle.threaded_vm.specs.Turns.{Answered, Says};
 
-use crate::{Load, Look, Note, Opening, Shared};
+use crate::{Held, Load, Look, Note, Opening};
 use dsu_runs::Ahead;
 use pass_lock::{Pass, PassLock};
 use std::sync::Wait;
@@ -36,9 +36,9 @@ impl Gate for Open {
 /// makes its move, if it can, and the private work that follows is copied. The pass's own entries grow by what the answer says.
 pub fn look<E: Ahead, O: Opening, R: Wait, G: Gate>(
     rt: &R,
-    lock: &PassLock<Shared<E, O>>,
+    lock: &PassLock<Held<E, O>>,
     slot: u8,
-    pass: &mut Pass<Shared<E, O>>,
+    pass: &mut Pass<Held<E, O>>,
     load: &mut Load<E, O>,
     gate: &G,
 ) -> Look
@@ -52,7 +52,7 @@ pub fn look<E: Ahead, O: Opening, R: Wait, G: Gate>(
     load.advance();
     gate.pass(Place::Turn(slot));
     let mut turn = lock.take(rt, pass);
-    let look = turn.value.turn(slot, load);
+    let look = turn.value.shared.turn(slot, load);
     lock.give(pass, turn);
     look
 }

@@ -2,7 +2,7 @@ ghost use Rattle.std.specs.Prelude.{◌≡◌};
 ghost use Rattle.pass_lock.specs.Passes.{IsFreeAt};
 
 use crate::crew::Crew;
-use crate::{Gate, Load, Look, Opening, Place, Preparing, Shared, look};
+use crate::{Gate, Held, Load, Look, Opening, Place, Preparing, look};
 use dsu_runs::Ahead;
 use pass_lock::Pass;
 use std::marker::Model;
@@ -12,7 +12,7 @@ use std::sync::Wait;
 #[derive(Drop)]
 pub(crate) struct Seat<E: Ahead + Drop, O: Opening> {
     slot: u8,
-    pass: Pass<Shared<E, O>>,
+    pass: Pass<Held<E, O>>,
     load: Load<E, O>,
 }
 
@@ -37,7 +37,7 @@ pub(crate) enum Round {
 }
 
 impl<E: Ahead + Drop, O: Opening> Seat<E, O> {
-    pub fn new(slot: u8, pass: Pass<Shared<E, O>>, load: Load<E, O>) -> Seat<E, O>
+    pub fn new(slot: u8, pass: Pass<Held<E, O>>, load: Load<E, O>) -> Seat<E, O>
         requires { pass.number ≡ slot }
         ensures { result ≡ pass }
     {
@@ -108,7 +108,7 @@ impl<E: Ahead + Drop, O: Opening> Seat<E, O> {
         ensures { IsFreeAt crew.now.lock.table self.new }
     {
         let mut turn = crew.lock.take(rt, &mut self.pass);
-        let opened = turn.value.open_due(crew.alloc, self.slot);
+        let opened = turn.value.shared.open_due(crew.alloc, self.slot);
         crew.lock.give(&mut self.pass, turn);
         opened
     }
@@ -125,7 +125,7 @@ impl<E: Ahead + Drop, O: Opening> Seat<E, O> {
         ensures { IsFreeAt crew.now.lock.table self.new }
     {
         let mut turn = crew.lock.take(rt, &mut self.pass);
-        turn.value.close(self.slot, k, preparing);
+        turn.value.shared.close(self.slot, k, preparing);
         crew.lock.give(&mut self.pass, turn);
     }
 }

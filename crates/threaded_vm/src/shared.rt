@@ -7,13 +7,13 @@ ghost use Rattle.pass_lock.specs.Histories.{Adds};
 ghost use Rattle.run_types.specs.declared.run.Event.TheVariants.{Decide};
 ghost use Rattle.dsu_runs.specs.Engines.{Makes, standing_of};
 ghost use Rattle.dsu_runs.specs.declared.engine.Stands.TheVariants.{AtCheckIn};
+ghost use Rattle.threaded_vm.specs.declared.notes.Note.{Note};
 ghost use Rattle.threaded_vm.specs.Opened.{GoesOn, HasRoom, IsARun};
 ghost use Rattle.threaded_vm.specs.Locked.{EndsBy, IsInCourse, IsOverBy, events, log_of};
 ghost use Rattle.threaded_vm.specs.Turns.{Answered, Enters, IsOver, Says, SaysOf, Surely};
 
-use crate::{Course, Load, Look, Note, Noted, Opening, Preparing};
+use crate::{Course, Load, Look, Noted, Opening, Preparing};
 use dsu_runs::{Ahead, Live, Made, Ran, Stands, StopCause};
-use pass_lock::Told;
 use run_types::{Ending, Event};
 use source_model::seats_fit_their_slots;
 use std::alloc::Global;
@@ -40,17 +40,6 @@ impl<E: Ahead, O: Opening> Model for Shared<E, O> {
     ghost view = { λ s. record { engine = s.engine; noted = s.noted.items; left = s.left; course = s.course } };
 
     ghost invariant = { λ s. Kept E.is_at E.told E.faults O.opened (record { engine = s.engine; noted = s.noted.items; left = s.left; course = s.course }) × (O.opened.room ≤ vec_capacity s.noted) };
-}
-
-impl<E: Ahead, O: Opening> Told for Shared<E, O> {
-    type What = Note;
-
-    ghost use Rattle.std.specs.Prelude.{[]};
-    ghost use Rattle.threaded_vm.specs.Locked.{log_of};
-
-    ghost history = { λ s. log_of s };
-
-    ghost notices = { λ _. [] };
 }
 
 impl<E: Ahead, O: Opening> Shared<E, O> {

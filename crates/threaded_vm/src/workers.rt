@@ -9,22 +9,30 @@ ghost use Rattle.threaded_vm.specs.Workers.{RanByWorkers};
 
 use crate::crew::{Crew, take_if_over, work};
 use crate::seat::Seat;
-use crate::{Gate, Load, Noted, Opening, Shared};
+use crate::{Gate, Held, Load, Noted, Opening, Shared};
+use core::thread::Stack;
 use dsu_runs::{Ahead, Live, Ran};
-use pass_lock::{Pass, PassLock};
+use pass_lock::Pass;
 use run_types::Event;
 use std::alloc::{AllocError, Global};
 use std::marker::Brand;
+use std::mem;
 use std::sync::Wait;
-use std::thread::{Threads, for_each_mut};
+use std::thread::{Promise, Scope, Threads, scope, scope_env};
 
 // How many passes a lock may have. Each slot has one, and there is one more.
 const MOST_PASSES: u8 = 64;
+
+// The stack of a worker's thread. A preparation recurses as deep as a text's expressions are. It is address space until it is used.
+const STACK_BYTES: usize = 1 << 30;
 
 /// Lets workers make the events of a run that goes on, until it has ended: slot t belongs to worker t modulo their number, of
 /// which there are at least one and at most as many as slots. An offer that is due is opened, prepared and closed by the worker
 /// that finds it due. Out of memory before the workers start, or with no slot, or with more slots than a lock has passes for, the
 /// run is as it was.
+///
+/// A worker recurses as deep as the expressions of the texts are. Each thread that starts here has a stack of 1 GiB of address
+/// space. The last worker works in the calling thread, as do those for which no thread can be made, so the caller gives it as much.
 pub fn run_workers<E: Ahead + Drop + Send, R: Threads + Wait + Sync, G: Gate + Sync>(
     rt: &R,
     alloc: Global,
@@ -94,13 +102,13 @@ fn run_opened<
         workers,
     } = stock;
     let shared: Shared<E, O> = Shared::new(engine, noted, left);
-    match PassLock::make(alloc, shared, u32::from(slots) + 1) {
+    match Held::lock(alloc, shared, u32::from(slots) + 1) {
         Ok((lock, passes)) => {
             let crew = Crew::new(lock, alloc, u64::from(count));
             let value = run_crew(rt, crew, passes, loads, workers, gate);
             Ok(value.into_ran(whole))
         }
-        Err(fault) => Err(fault.value.into_live(history, last)),
+        Err(same) => Err(same.into_live(history, last)),
     }
 }
 
@@ -192,7 +200,7 @@ fn run_crew<
 >(
     rt: &R,
     crew: Crew<E, O>,
-    mut passes: Vec<Pass<Shared<E, O>>>,
+    mut passes: Vec<Pass<Held<E, O>>>,
     loads: Vec<Load<E, O>>,
     mut workers: Vec<Vec<Seat<E, O>>>,
     gate: &G,
@@ -214,7 +222,8 @@ fn run_crew<
     unreachable!()
 }
 
-// Each worker in a thread of its own, or one after another where no thread can be made.
+// Each worker in a thread of its own, the last one in this thread. Where no thread can be made, a worker works in this thread after
+// those that follow it.
 fn make_rounds<
     E: Ahead + Drop + Send,
     O: Opening + Send + Sync,
@@ -226,14 +235,73 @@ fn make_rounds<
     ensures some { 0 < length workers.new.items }
     ensures free { All (λ w. AreFree crew.now.lock.table w.items) workers.new.items }
 {
-    let threads = workers.len();
-    for_each_mut(
+    let mut all = mem::replace(workers, Vec::new(crew.alloc));
+    *workers = scope(
+        scope_env(),
         rt,
-        workers.as_mut_slice(),
-        threads,
-        &|_worker: usize, seats: &mut Vec<Seat<E, O>>|
-            requires { AreFree crew.now.lock.table seats.old.items }
-            ensures { AreFree crew.entry.now.lock.table seats.new.items }
-        { work(rt, crew, seats, gate) },
+        move |scope| -> Vec<Vec<Seat<E, O>>>
+            requires { (0 < length all.items) × All (λ w. AreFree crew.now.lock.table w.items) all.items }
+            ensures { (0 < length result.items) × All (λ w. AreFree crew.entry.now.lock.table w.items) result.items }
+        {
+            make_rounds_from(rt, scope, crew, &mut all, 0, gate);
+            all
+        },
     );
+}
+
+// The same, of the workers from this one on.
+fn make_rounds_from<
+    's,
+    'e: 's,
+    E: Ahead + Drop + Send,
+    O: Opening + Send + Sync,
+    R: Threads + Wait + Sync,
+    G: Gate + Sync,
+>(
+    rt: &'e R,
+    scope: &Scope<'s, &'e ()>,
+    crew: &'e Crew<E, O>,
+    workers: &mut Vec<Vec<Seat<E, O>>>,
+    at: usize,
+    gate: &'e G,
+)
+    requires at { at < length workers.old.items }
+    requires free { All (λ w. AreFree crew.now.lock.table w.items) workers.old.items }
+    ensures count { length workers.new.items ≡ length workers.old.items }
+    ensures free { All (λ w. AreFree crew.now.lock.table w.items) workers.new.items }
+{
+    if at + 1 == workers.len() {
+        work(rt, crew, &mut workers[at], gate);
+        return;
+    }
+    let given = mem::replace(&mut workers[at], Vec::new(crew.alloc));
+    let run = move || -> Vec<Seat<E, O>>
+        requires { AreFree crew.now.lock.table given.items }
+        ensures { AreFree crew.entry.now.lock.table result.items }
+    {
+        let mut seats = given;
+        work(rt, crew, &mut seats, gate);
+        seats
+    };
+    let stack = Stack::new().stack_size(STACK_BYTES);
+    match stack.spawn_scoped_with(scope, FreeSeats { crew }, run) {
+        Ok(thread) => {
+            make_rounds_from(rt, scope, crew, workers, at + 1, gate);
+            workers[at] = thread.join(rt);
+        }
+        Err(refused) => {
+            make_rounds_from(rt, scope, crew, workers, at + 1, gate);
+            workers[at] = (refused.value)();
+        }
+    }
+}
+
+// A worker's thread hands back seats whose passes have no turn.
+#[derive(Drop)]
+struct FreeSeats<'a, E: Ahead + Drop, O: Opening> {
+    crew: &'a Crew<E, O>,
+}
+
+impl<'a, E: Ahead + Drop, O: Opening> Promise<Vec<Seat<E, O>>> for FreeSeats<'a, E, O> {
+    ghost kept_by = { λ p seats. AreFree p.crew.now.lock.table seats.items };
 }

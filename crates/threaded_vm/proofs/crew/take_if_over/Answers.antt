@@ -6,5 +6,5 @@ use Rattle.threaded_vm.proofs.crew.take_if_over.Goals as goal
 
 pub give-requires-clause-turn : goal.give-requires-clause-turn
 give-requires-clause-turn g c =
-    let log = log_of c.take-turn.result.value in
+    let log = log_of c.take-turn.result.value.shared.value in
     (opened log, [], ap (λ k. k.turn) c.take-turn.ensures.pass, none_added c.take-turn.new.pass.number log)

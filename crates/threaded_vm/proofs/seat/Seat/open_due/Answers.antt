@@ -6,11 +6,12 @@ use Rattle.threaded_vm.proofs.seat.Seat.open_due.Goals as goal
 
 pub give-requires-clause-turn : goal.give-requires-clause-turn
 give-requires-clause-turn g c =
-    let log = log_of c.take-turn.result.value in
+    let log = log_of c.take-turn.result.value.shared.value in
     let own = c.open_due-opened.ensures in
     let number = sym (ap (λ k. k.number) c.take-turn.ensures.pass ∙ c.self.invariant) in (
       opened log,
       own.0,
       ap (λ k. k.turn) c.take-turn.ensures.pass,
-      subst (λ n. Adds n log own.0 (log_of c.open_due-opened.new.self)) number own.1,
+      subst (λ n. Adds n log own.0 (log_of c.open_due-opened.new.self)) number
+          (subst (λ l. Adds c.self.inside.slot l own.0 (log_of c.open_due-opened.new.self)) (ap log_of c.deref_mut.ensures.value) own.1),
     )
